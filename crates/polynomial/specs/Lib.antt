@@ -1,0 +1,8 @@
+-- Polynomials over GF(2) as numbers: bit k of a number is the coefficient of x^k.
+pub mod Lists
+pub mod Bits
+pub mod Xor
+pub mod Clmul
+pub mod Division
+pub mod Multiple
+pub mod Digits
