@@ -1,0 +1,25 @@
+-- What the tables share.
+--   Row            what a definition gives, and what it should give
+--   sheet ..       parameters from their seven numbers
+--   page p k b     what write leaves at L = 8 in a zeroed page of k bytes
+use mathlib.Core.List.{List}
+use Prim.Native.Nat.{ℕ}
+use lib.ListN.{replicate}
+use Rattle.code.specs.declared.Parameters.{Parameters}
+use Rattle.code.specs.Calls.{writeLeaves}
+
+abbrev pub Row : Type 0
+Row = List ℕ × List ℕ
+
+abbrev pub sheet : ℕ → ℕ → ℕ → ℕ → ℕ → ℕ → ℕ → Parameters
+sheet q m v t0 t1 t2 t3 = record { q = q; m = m; v = v; t0 = t0; t1 = t1; t2 = t2; t3 = t3 }
+
+-- document 01's sheets A and B
+abbrev pub A : Parameters
+A = sheet 4 2 1 1 2 0 0
+
+abbrev pub B : Parameters
+B = sheet 4 3 2 1 2 3 0
+
+abbrev pub page : Parameters → ℕ → List ℕ → List ℕ
+page p k blocks = writeLeaves p 8 blocks (replicate k 0)

@@ -1,0 +1,219 @@
+-- What each call answers, and what each lent buffer holds afterwards: the old bytes after a refusal.
+--   outcomeNumber, verdictNumber, nestingNumber    document 01's number of an answer, which C calls return; verdictValues and nestingValues its values
+--   outcome r, unlessRefused r v, leaves r x old   the answer and the buffer by the refusal r, 0 for none
+--   Made, Judged, ReadOut, ..                      what a call promises, of its answer and of the buffer after it; the ..C ones are the C calls'
+use mathlib.Core.Path.{_≡_}
+use mathlib.Core.Bool.{cond}
+use mathlib.Core.List.{List, [], _∷_, _++_, map}
+use Prim.Native.Nat.{ℕ, zero, suc, _+_, _-_, _*_, _^_, _≤_}
+use lib.Dec.{leb}
+use lib.ListN.{length, getD, replicate}
+use Rattle.polynomial.specs.Digits.{value, digits}
+use Rattle.polynomial.specs.Division.{rem}
+use Rattle.polynomial.specs.Xor.{xor}
+use Rattle.code.specs.declared.Parameters.{Parameters}
+use Rattle.code.specs.declared.Outcome.{Outcome}
+use Rattle.code.specs.declared.Verdict.{Verdict}
+use Rattle.code.specs.declared.Nesting.{Nesting}
+use Rattle.code.specs.declared.Register.{Register}
+use Rattle.code.specs.declared.Fed.{Fed}
+use Rattle.code.specs.Lists.{range}
+use Rattle.code.specs.Parameters.{nestedBytes, strength, sheetRefusal}
+use Rattle.code.specs.Code.{gen, degree, remainder, nested, N, shortRemainder, syndromes, verdict}
+use Rattle.code.specs.Layout.{wordsOf, pageOf, dataOf}
+use Rattle.code.specs.Refusals.{writeRefusal, readRefusal, judgeRefusal, wordRefusal, remainderRefusal, shortRefusal, nestedRefusal, syndromesRefusal, nestedSyndromesRefusal, openRefusal, feedRefusal, nestingRefusal}
+
+-- ---- numbers and values of the answers
+abbrev pub outcomeNumber : Outcome → ℕ
+outcomeNumber Outcome.Done = 0
+outcomeNumber (Outcome.Refused k) = k
+
+abbrev pub verdictNumber : Verdict → ℕ
+verdictNumber Verdict.Member = 0
+verdictNumber (Verdict.SubWord i) = 32 + i
+verdictNumber (Verdict.NestedWord l) = 64 + l
+verdictNumber (Verdict.Refused k) = k
+
+abbrev pub verdictValues : Verdict → List ℕ
+verdictValues Verdict.Member = []
+verdictValues (Verdict.SubWord i) = i ∷ []
+verdictValues (Verdict.NestedWord l) = l ∷ []
+verdictValues (Verdict.Refused k) = []
+
+abbrev pub nestingNumber : Nesting → ℕ
+nestingNumber (Nesting.Coefficient c) = 0
+nestingNumber (Nesting.Refused k) = k
+
+abbrev pub nestingValues : Nesting → List ℕ
+nestingValues (Nesting.Coefficient c) = c ∷ []
+nestingValues (Nesting.Refused k) = []
+
+-- ---- by the refusal's number, 0 for none
+abbrev pub outcome : ℕ → Outcome
+outcome zero = Outcome.Done
+outcome (suc k) = Outcome.Refused (suc k)
+
+abbrev pub unlessRefused : ℕ → Verdict → Verdict
+unlessRefused zero v = v
+unlessRefused (suc k) v = Verdict.Refused (suc k)
+
+abbrev pub leaves : ℕ → List ℕ → List ℕ → List ℕ
+leaves zero result old = result
+leaves (suc k) result old = old
+
+-- a call's answer, with a lent buffer before and after it; a refusal's number is 1 to 12
+pub record Made (refusal : ℕ) (result old after : List ℕ) (answer : Outcome) : Type 0 where
+  pub answers : answer ≡ outcome refusal
+  pub number : outcomeNumber answer ≡ refusal
+  pub small : refusal ≤ 12
+  pub buffer : after ≡ leaves refusal result old
+
+-- ---- write
+abbrev pub writeAnswer : Parameters → ℕ → List ℕ → List ℕ → Outcome
+writeAnswer p L blocks page = outcome (writeRefusal p L blocks (length page))
+
+abbrev pub writeLeaves : Parameters → ℕ → List ℕ → List ℕ → List ℕ
+writeLeaves p L blocks page = leaves (writeRefusal p L blocks (length page)) (pageOf p blocks) page
+
+abbrev pub Written : Parameters → ℕ → List ℕ → List ℕ → List ℕ → Outcome → Type 0
+Written p L blocks page after r = Made (writeRefusal p L blocks (length page)) (pageOf p blocks) page after r
+
+-- ---- judge and read out
+unfoldable pub judgeAnswer : Parameters → List ℕ → Verdict
+unfolding judgeRefusal verdict wordsOf
+judgeAnswer p page = unlessRefused (judgeRefusal p page) (verdict p (wordsOf p page))
+
+pub record Judged (p : Parameters) (page : List ℕ) (r : Verdict) : Type 0 where
+  pub answers : r ≡ judgeAnswer p page
+  pub number : verdictNumber r ≡ verdictNumber (judgeAnswer p page)
+  pub small : judgeRefusal p page ≤ 12
+
+unfoldable pub readAnswer : Parameters → List ℕ → List ℕ → Verdict
+unfolding readRefusal verdict wordsOf
+readAnswer p page blocks = unlessRefused (readRefusal p page (length blocks)) (verdict p (wordsOf p page))
+
+unfoldable pub readLeaves : Parameters → List ℕ → List ℕ → List ℕ
+unfolding readRefusal dataOf
+readLeaves p page blocks = leaves (readRefusal p page (length blocks)) (dataOf p page) blocks
+
+pub record ReadOut (p : Parameters) (page blocks after : List ℕ) (r : Verdict) : Type 0 where
+  pub answers : r ≡ readAnswer p page blocks
+  pub number : verdictNumber r ≡ verdictNumber (readAnswer p page blocks)
+  pub small : readRefusal p page (length blocks) ≤ 12
+  pub buffer : after ≡ readLeaves p page blocks
+
+-- ---- one word of a page
+abbrev pub subWordOf : Parameters → List ℕ → ℕ → ℕ
+subWordOf p page i = getD (wordsOf p page) i 0
+
+abbrev pub nestedOf : Parameters → List ℕ → ℕ → ℕ
+nestedOf p page l = nested p l (wordsOf p page)
+
+unfoldable pub remainderBytes : Parameters → List ℕ → ℕ → List ℕ
+unfolding digits rem gen degree wordsOf
+remainderBytes p page i = digits 8 96 (remainder p 0 (subWordOf p page i))
+
+unfoldable pub shortBytes : Parameters → List ℕ → ℕ → List ℕ
+unfolding digits shortRemainder wordsOf
+shortBytes p page l = digits 8 96 (shortRemainder p l (wordsOf p page))
+
+unfoldable pub nestedWordBytes : Parameters → List ℕ → ℕ → List ℕ
+unfolding digits nested wordsOf
+nestedWordBytes p page l = digits 8 (nestedBytes p) (nestedOf p page l)
+
+unfoldable pub syndromeList : Parameters → List ℕ → ℕ → List ℕ
+unfolding syndromes wordsOf
+syndromeList p page i = syndromes p (2 * strength p 0) (subWordOf p page i)
+
+unfoldable pub nestedSyndromeList : Parameters → List ℕ → ℕ → List ℕ
+unfolding syndromes nested wordsOf
+nestedSyndromeList p page l = syndromes p (2 * strength p (p .v - l)) (nestedOf p page l)
+
+abbrev pub RemainderMade : Parameters → List ℕ → ℕ → List ℕ → List ℕ → Outcome → Type 0
+RemainderMade p page i out after r = Made (remainderRefusal p page i (length out)) (remainderBytes p page i) out after r
+
+abbrev pub ShortMade : Parameters → List ℕ → ℕ → List ℕ → List ℕ → Outcome → Type 0
+ShortMade p page l out after r = Made (shortRefusal p page l (length out)) (shortBytes p page l) out after r
+
+abbrev pub NestedMade : Parameters → List ℕ → ℕ → List ℕ → List ℕ → Outcome → Type 0
+NestedMade p page l out after r = Made (nestedRefusal p page l (length out)) (nestedWordBytes p page l) out after r
+
+abbrev pub SyndromesMade : Parameters → List ℕ → ℕ → List ℕ → List ℕ → Outcome → Type 0
+SyndromesMade p page i out after r = Made (syndromesRefusal 1 p page i (length out)) (syndromeList p page i) out after r
+
+abbrev pub NestedSyndromesMade : Parameters → List ℕ → ℕ → List ℕ → List ℕ → Outcome → Type 0
+NestedSyndromesMade p page l out after r = Made (nestedSyndromesRefusal 1 p page l (length out)) (nestedSyndromeList p page l) out after r
+
+-- ---- the C calls: the answer is the number, and a list of 16-bit numbers is bytes, two a number, low byte first
+unfoldable pub asBytes : List ℕ → List ℕ
+unfolding digits
+asBytes [] = []
+asBytes (x ∷ l) = digits 8 2 x ++ asBytes l
+
+pub record MadeC (refusal : ℕ) (result old after : List ℕ) (answer : ℕ) : Type 0 where
+  pub answers : answer ≡ outcomeNumber (outcome refusal)
+  pub small : refusal ≤ 12
+  pub buffer : after ≡ leaves refusal result old
+
+abbrev pub WrittenC : Parameters → ℕ → List ℕ → List ℕ → List ℕ → ℕ → Type 0
+WrittenC p L blocks page after r = MadeC (writeRefusal p L blocks (length page)) (pageOf p blocks) page after r
+
+pub record ReadOutC (p : Parameters) (page blocks after : List ℕ) (r : ℕ) : Type 0 where
+  pub answers : r ≡ verdictNumber (readAnswer p page blocks)
+  pub buffer : after ≡ readLeaves p page blocks
+
+abbrev pub judgeNumber : Parameters → List ℕ → ℕ
+judgeNumber p page = verdictNumber (judgeAnswer p page)
+
+abbrev pub SyndromesMadeC : Parameters → List ℕ → ℕ → List ℕ → List ℕ → ℕ → Type 0
+SyndromesMadeC p page i out after r = MadeC (syndromesRefusal 2 p page i (length out)) (asBytes (syndromeList p page i)) out after r
+
+abbrev pub NestedSyndromesMadeC : Parameters → List ℕ → ℕ → List ℕ → List ℕ → ℕ → Type 0
+NestedSyndromesMadeC p page l out after r = MadeC (nestedSyndromesRefusal 2 p page l (length out)) (asBytes (nestedSyndromeList p page l)) out after r
+
+-- ---- the register
+abbrev pub empty : ℕ → Register
+empty level = record { level = level; count = 0; remainder = replicate 12 0 }
+
+-- after L coefficients more: r × x^L + u by g_a
+unfoldable pub advanced : Parameters → ℕ → Register → ℕ → Register
+unfolding digits rem gen degree value xor
+advanced p L r u = record {
+  level = r .level;
+  count = r .count + L;
+  remainder = digits 64 12 (remainder p (r .level) (xor (value 64 (r .remainder) * 2 ^ L) u));
+}
+
+abbrev pub fedBy : ℕ → Register → Register → Fed
+fedBy zero next old = record { outcome = Outcome.Done; register = next }
+fedBy (suc k) next old = record { outcome = Outcome.Refused (suc k); register = old }
+
+-- a refused opening hands back the empty register of level 0, a refused feeding the register as it came
+unfoldable pub opened : Parameters → ℕ → Fed
+unfolding openRefusal
+opened p level = fedBy (openRefusal p level) (empty level) (empty 0)
+
+unfoldable pub fed : Parameters → ℕ → Register → ℕ → Fed
+unfolding feedRefusal advanced
+fed p L r u = fedBy (feedRefusal p L r u) (advanced p L r u) r
+
+-- ---- a sheet's generators, level 0 to level v, 13 words of 64 bits each; rows past v, and all rows of refused parameters, are 0
+abbrev pub generatorRow : Parameters → ℕ → List ℕ
+generatorRow p a = digits 64 13 (cond (leb a (p .v)) (gen p a) 0)
+
+abbrev pub rowsBy : ℕ → List (List ℕ) → List (List ℕ)
+rowsBy zero rows = rows
+rowsBy (suc k) rows = replicate 4 (replicate 13 0)
+
+unfoldable pub generators : Parameters → List (List ℕ)
+unfolding digits gen sheetRefusal
+generators p = rowsBy (sheetRefusal p) (map (generatorRow p) (range 0 4))
+
+-- ---- the nesting coefficient's call
+abbrev pub nestingBy : ℕ → ℕ → Nesting
+nestingBy zero c = Nesting.Coefficient c
+nestingBy (suc k) c = Nesting.Refused (suc k)
+
+unfoldable pub nesting : ℕ → ℕ → Nesting
+unfolding N
+nesting i l = nestingBy (nestingRefusal i l) (N i l)

@@ -1,0 +1,105 @@
+-- Pages and blocks as bytes. The little-endian number of a sub-word's bytes is the word: x^k is bit k mod 8 of byte k div 8.
+-- Block i (document 01's word for the data of sub-word i) is the number of its bytes likewise: bit r is the coefficient of x^(w + r).
+--   wordsOf p page        the sub-words of a page; pageClear p page: no spare bit is 1
+--   blockBits p           the data bits of each block; blockSizes p its bytes; blockOffset p i where block i begins
+--   blocksOf p blocks     the numbers of the blocks; blocksClear p blocks: no unused bit is 1
+--   pageOf p blocks       the page of some blocks; dataOf p page the blocks of a page
+--   bitFrom bs at k       bit k mod 8 of byte at + k div 8
+--   Bytes l               every element is a byte
+--   Fits p blocks         blocks that fit: their length is exact and their unused bits are 0
+--   IsPage p page         a page of the sheet's length with clear spare bits
+--   coefficientOf p x i k the coefficient of x^k of sub-word i, blockBit p b i r bit r of block i: both literally, as bits of bytes
+--   differences p x y     the number of pairs of a sub-word i and a place k at which the coefficients of two pages differ
+use mathlib.Core.Path.{_≡_}
+use mathlib.Core.Bool.{Bool, true, false, not}
+use mathlib.Core.List.{List, [], _∷_, map}
+use Prim.Native.Nat.{ℕ, zero, suc, _+_, _-_, _*_, _/_, _%_, _<_}
+use lib.Dec.{T, eqb}
+use lib.ListN.{length, getD, replicate, take}
+use Rattle.polynomial.specs.Bits.{coefficient}
+use Rattle.polynomial.specs.Lists.{All}
+use Rattle.code.specs.declared.Parameters.{Parameters}
+use Rattle.code.specs.Lists.{range, sum, split, join, within, addBelow, countBelow}
+use Rattle.code.specs.Parameters.{stored, subWordBytes}
+use Rattle.code.specs.Code.{degree, checkBits, encode, dataWords}
+
+-- ---- pages: m sub-words of 2^q / 8 bytes, the stored coefficients and above them spare bits
+abbrev pub wordSizes : Parameters → List ℕ
+wordSizes p = replicate (p .m) (subWordBytes p)
+
+abbrev pub pageBytes : Parameters → ℕ
+pageBytes p = p .m * subWordBytes p
+
+unfoldable pub wordsOf : Parameters → List ℕ → List ℕ
+unfolding split
+wordsOf p page = split (wordSizes p) page
+
+unfoldable pub pageClear : Parameters → List ℕ → Bool
+unfolding within wordsOf
+pageClear p page = within (replicate (p .m) (stored p)) (wordsOf p page)
+
+-- ---- blocks: block i has the stored coefficients less sub-word i's check bits, on whole bytes
+abbrev pub dataBits : Parameters → ℕ → ℕ
+dataBits p i = stored p - checkBits p i
+
+unfoldable pub blockBits : Parameters → List ℕ
+unfolding range degree
+blockBits p = map (dataBits p) (range 0 (p .m))
+
+unfoldable pub blockSizes : Parameters → List ℕ
+unfolding blockBits
+blockSizes p = map (λ b. (b + 7) / 8) (blockBits p)
+
+unfoldable pub dataBytes : Parameters → ℕ
+unfolding sum blockSizes
+dataBytes p = sum (blockSizes p)
+
+unfoldable pub blockOffset : Parameters → ℕ → ℕ
+unfolding sum blockSizes
+blockOffset p i = sum (take i (blockSizes p))
+
+unfoldable pub blocksOf : Parameters → List ℕ → List ℕ
+unfolding split blockSizes
+blocksOf p blocks = split (blockSizes p) blocks
+
+unfoldable pub blocksClear : Parameters → List ℕ → Bool
+unfolding within blockBits blocksOf
+blocksClear p blocks = within (blockBits p) (blocksOf p blocks)
+
+-- ---- from one to the other
+unfoldable pub pageOf : Parameters → List ℕ → List ℕ
+unfolding join encode blocksOf
+pageOf p blocks = join (wordSizes p) (encode p (blocksOf p blocks))
+
+unfoldable pub dataOf : Parameters → List ℕ → List ℕ
+unfolding join blockSizes dataWords wordsOf
+dataOf p page = join (blockSizes p) (dataWords p (wordsOf p page))
+
+-- ---- what the theorems say of lists of bytes
+abbrev pub bitFrom : List ℕ → ℕ → ℕ → ℕ
+bitFrom bs at k = coefficient (getD bs (at + k / 8) 0) (k % 8)
+
+abbrev pub Bytes : List ℕ → Type 0
+Bytes l = All (λ b. b < 256) l
+
+pub record Fits (p : Parameters) (blocks : List ℕ) : Type 0 where
+  pub bytes : Bytes blocks
+  pub exact : length blocks ≡ dataBytes p
+  pub clear : T (blocksClear p blocks)
+
+pub record IsPage (p : Parameters) (page : List ℕ) : Type 0 where
+  pub bytes : Bytes page
+  pub exact : length page ≡ pageBytes p
+  pub clear : T (pageClear p page)
+
+-- the coefficient of x^k of sub-word i of a page
+abbrev pub coefficientOf : Parameters → List ℕ → ℕ → ℕ → ℕ
+coefficientOf p page i k = bitFrom page (i * subWordBytes p) k
+
+-- bit r of block i, at its byte offset among the blocks
+abbrev pub blockBit : Parameters → List ℕ → ℕ → ℕ → ℕ
+blockBit p blocks i r = bitFrom blocks (blockOffset p i) r
+
+unfoldable pub differences : Parameters → List ℕ → List ℕ → ℕ
+unfolding addBelow countBelow
+differences p x y = addBelow (p .m) (λ i. countBelow (stored p) (λ k. not (eqb (coefficientOf p x i k) (coefficientOf p y i k))))

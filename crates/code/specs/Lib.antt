@@ -1,0 +1,9 @@
+-- Document 01 as definitions, and the theorems of demands 2 and 3 on them.
+-- The definitions:
+pub mod Lists
+pub mod Parameters
+pub mod Code
+pub mod Layout
+pub mod Refusals
+pub mod Calls
+pub mod Writer

@@ -1,0 +1,66 @@
+-- Lists, tests, and refusals as numbers.
+--   range i k         i, i + 1, .., k of them
+--   any P l           some element passes the test P
+--   first P l o       the first element that passes, or o
+--   sum l             the sum of the elements
+--   split ks bs       bytes cut into runs of ks bytes, each read as a number, low byte first; join is the way back
+--   within bs xs      each number of xs has at most as many bits as bs says
+--   countBelow n P    how many k < n pass the test P; addBelow n f is f 0 + .. + f (n - 1)
+--   k when b          the number k under the condition b, else 0, which is no refusal
+--   r orElse s        the refusal r or, if there is none, s
+use mathlib.Core.Bool.{Bool, true, false, _&&_, _||_, cond}
+use mathlib.Core.List.{List, [], _∷_, _++_}
+use Prim.Native.Nat.{ℕ, zero, suc, _+_, _^_}
+use lib.Dec.{ltb}
+use lib.ListN.{take, drop}
+use Rattle.polynomial.specs.Digits.{value, digits}
+
+unfoldable pub range : ℕ → ℕ → List ℕ
+range from zero = []
+range from (suc k) = from ∷ range (suc from) k
+
+unfoldable pub any : {A : Type 0} → (A → Bool) → List A → Bool
+any P [] = false
+any P (x ∷ l) = P x || any P l
+
+unfoldable pub first : (ℕ → Bool) → List ℕ → ℕ → ℕ
+first P [] other = other
+first P (x ∷ l) other = cond (P x) x (first P l other)
+
+unfoldable pub sum : List ℕ → ℕ
+sum [] = 0
+sum (x ∷ l) = x + sum l
+
+unfoldable pub split : List ℕ → List ℕ → List ℕ
+unfolding value
+split [] bs = []
+split (k ∷ ks) bs = value 8 (take k bs) ∷ split ks (drop k bs)
+
+unfoldable pub join : List ℕ → List ℕ → List ℕ
+unfolding digits
+join [] xs = []
+join (k ∷ ks) [] = []
+join (k ∷ ks) (x ∷ xs) = digits 8 k x ++ join ks xs
+
+unfoldable pub within : List ℕ → List ℕ → Bool
+within [] xs = true
+within (b ∷ bs) [] = true
+within (b ∷ bs) (x ∷ xs) = ltb x (2 ^ b) && within bs xs
+
+unfoldable pub addBelow : ℕ → (ℕ → ℕ) → ℕ
+addBelow zero f = 0
+addBelow (suc n) f = addBelow n f + f n
+
+unfoldable pub countBelow : ℕ → (ℕ → Bool) → ℕ
+unfolding addBelow
+countBelow n P = addBelow n (λ k. cond (P k) 1 0)
+
+infix 22 _when_
+infixr 21 _orElse_
+abbrev pub _when_ : ℕ → Bool → ℕ
+k when true = k
+k when false = 0
+
+abbrev pub _orElse_ : ℕ → ℕ → ℕ
+zero orElse s = s
+suc r orElse s = suc r

@@ -1,0 +1,86 @@
+-- The parameters of a code (document 01: the sheet) and the rules on its numbers.
+--   len p             n = 2^q - 1, the cyclic length: the places of a nested word, x^n = 1
+--   stored p          how many coefficients of a sub-word are stored, from x^0 on
+--   subWordBytes p    the bytes of a sub-word in a page
+--   nestedBytes p     the bytes of a nested word
+--   full p            the count at which a register is full
+--   strength p a      t_a, the strength of level a
+--   sheetRefusal p    the refusal of the parameters, 1 to 4; 0: they are accepted
+--   Accepted p        the parameters meet every rule
+--   tested p          what testing them answers
+use mathlib.Core.Path.{_≡_}
+use mathlib.Core.Bool.{Bool, true, false, not, _&&_, _||_, cond}
+use mathlib.Core.List.{List, [], _∷_}
+use Prim.Native.Nat.{ℕ, zero, suc, _+_, _-_, _*_, _/_, _%_, _^_}
+use lib.Dec.{eqb, leb, ltb}
+use lib.ListN.{getD}
+use Rattle.code.specs.declared.Parameters.{Parameters}
+use Rattle.code.specs.declared.Tested.{Tested}
+use Rattle.code.specs.Lists.{range, any, _when_, _orElse_}
+
+abbrev pub len : Parameters → ℕ
+len p = 2 ^ p .q - 1
+
+abbrev pub stored : Parameters → ℕ
+stored p = len p
+
+abbrev pub subWordBytes : Parameters → ℕ
+subWordBytes p = 2 ^ p .q / 8
+
+abbrev pub nestedBytes : Parameters → ℕ
+nestedBytes p = 2 ^ p .q / 8
+
+abbrev pub full : Parameters → ℕ
+full p = len p
+
+abbrev pub strength : Parameters → ℕ → ℕ
+strength p a = getD (p .t0 ∷ p .t1 ∷ p .t2 ∷ p .t3 ∷ []) a 0
+
+-- ---- the rules
+-- q is 4, 8 or 12
+unfoldable pub fieldKnown : Parameters → Bool
+fieldKnown p = eqb (p .q) 4 || eqb (p .q) 8 || eqb (p .q) 12
+
+-- v is 1 to 3, m is v + 1 to 8
+unfoldable pub shapeFits : Parameters → Bool
+shapeFits p = leb 1 (p .v) && leb (p .v) 3 && ltb (p .v) (p .m) && leb (p .m) 8
+
+-- place a, 2 or 3: up to v the strengths do not fall, past v they are 0
+unfoldable pub placeFits : Parameters → ℕ → Bool
+placeFits p a = cond (leb a (p .v)) (leb (strength p (a - 1)) (strength p a)) (eqb (strength p a) 0)
+
+-- 1 ≤ t_0 < t_1 ≤ .. ≤ t_v ≤ 64 and 2 t_v ≤ n - 1
+unfoldable pub strengthsFit : Parameters → Bool
+unfolding placeFits
+strengthsFit p =
+    leb 1 (p .t0) && ltb (p .t0) (p .t1) && placeFits p 2 && placeFits p 3
+    && leb (strength p (p .v)) 64 && leb (2 * strength p (p .v)) (len p - 1)
+
+-- some d × j is a multiple of n, d from 1 to m - 1, j from 1 to 2 t_v
+unfoldable pub clashes : Parameters → Bool
+unfolding range any
+clashes p = any (λ d. any (λ j. eqb (d * j % len p) 0) (range 1 (2 * strength p (p .v)))) (range 1 (p .m - 1))
+
+unfoldable pub sheetRefusal : Parameters → ℕ
+unfolding fieldKnown shapeFits strengthsFit clashes
+sheetRefusal p = 1 when not (fieldKnown p) orElse 2 when not (shapeFits p) orElse 3 when not (strengthsFit p) orElse 4 when clashes p
+
+abbrev pub Accepted : Parameters → Type 0
+Accepted p = sheetRefusal p ≡ 0
+
+-- ---- the answer of testing parameters, and its number and values
+abbrev pub testedOf : Parameters → ℕ → Tested
+testedOf p zero = Tested.Accepted (p .q) (p .m) (p .v) (p .t0) (p .t1) (p .t2) (p .t3)
+testedOf p (suc k) = Tested.Refused (suc k)
+
+unfoldable pub tested : Parameters → Tested
+unfolding sheetRefusal
+tested p = testedOf p (sheetRefusal p)
+
+abbrev pub testedNumber : Tested → ℕ
+testedNumber (Tested.Accepted q m v t0 t1 t2 t3) = 0
+testedNumber (Tested.Refused k) = k
+
+abbrev pub testedValues : Tested → List ℕ
+testedValues (Tested.Accepted q m v t0 t1 t2 t3) = q ∷ m ∷ v ∷ t0 ∷ t1 ∷ t2 ∷ t3 ∷ []
+testedValues (Tested.Refused k) = []

@@ -1,0 +1,99 @@
+-- The refusal of each call: of the conditions that it can meet, in the order of document 01's table, the first that holds; 0 for none.
+-- A chain takes lengths where lengths suffice, and looks at nothing behind an earlier refusal.
+use mathlib.Core.Bool.{Bool, true, false, not, _||_}
+use mathlib.Core.List.{List, [], _∷_}
+use Prim.Native.Nat.{ℕ, zero, suc, _+_, _-_, _*_, _/_, _^_}
+use lib.Dec.{eqb, leb, ltb}
+use lib.ListN.{length}
+use Rattle.polynomial.specs.Digits.{value}
+use Rattle.code.specs.declared.Parameters.{Parameters}
+use Rattle.code.specs.declared.Register.{Register}
+use Rattle.code.specs.Lists.{_when_, _orElse_}
+use Rattle.code.specs.Parameters.{full, nestedBytes, strength, sheetRefusal}
+use Rattle.code.specs.Code.{degree}
+use Rattle.code.specs.Layout.{pageBytes, dataBytes, pageClear, blocksClear}
+
+-- 5: the width L is not 1 to 64
+abbrev pub badWidth : ℕ → Bool
+badWidth L = eqb L 0 || ltb 64 L
+
+-- 6, 7, 10: a length is not exact
+abbrev pub notExact : ℕ → ℕ → Bool
+notExact k exact = not (eqb k exact)
+
+-- ---- write: the page's old bytes count for their number alone
+unfoldable pub writeLengths : Parameters → ℕ → ℕ → ℕ → ℕ
+unfolding sheetRefusal dataBytes
+writeLengths p L blocks page =
+    sheetRefusal p
+    orElse 5 when badWidth L
+    orElse 6 when notExact blocks (dataBytes p)
+    orElse 7 when notExact page (pageBytes p)
+
+unfoldable pub writeRefusal : Parameters → ℕ → List ℕ → ℕ → ℕ
+unfolding writeLengths blocksClear
+writeRefusal p L blocks page = writeLengths p L (length blocks) page orElse 8 when not (blocksClear p blocks)
+
+-- ---- read out
+unfoldable pub readLengths : Parameters → ℕ → ℕ → ℕ
+unfolding sheetRefusal dataBytes
+readLengths p page blocks =
+    sheetRefusal p
+    orElse 6 when notExact blocks (dataBytes p)
+    orElse 7 when notExact page (pageBytes p)
+
+unfoldable pub readRefusal : Parameters → List ℕ → ℕ → ℕ
+unfolding readLengths pageClear
+readRefusal p page blocks = readLengths p (length page) blocks orElse 8 when not (pageClear p page)
+
+-- ---- judge
+unfoldable pub judgeLengths : Parameters → ℕ → ℕ
+unfolding sheetRefusal
+judgeLengths p page = sheetRefusal p orElse 7 when notExact page (pageBytes p)
+
+unfoldable pub judgeRefusal : Parameters → List ℕ → ℕ
+unfolding judgeLengths pageClear
+judgeRefusal p page = judgeLengths p (length page) orElse 8 when not (pageClear p page)
+
+-- ---- a call on word i of `many`, whose result takes `exact` places of a lent list of `out`
+unfoldable pub wordRefusal : Parameters → List ℕ → ℕ → ℕ → ℕ → ℕ → ℕ
+unfolding judgeRefusal
+wordRefusal p page i many out exact =
+    judgeRefusal p page
+    orElse 9 when leb many i
+    orElse 10 when notExact out exact
+
+-- the remainder of sub-word i; the short remainder of nested word l; nested word l
+abbrev pub remainderRefusal : Parameters → List ℕ → ℕ → ℕ → ℕ
+remainderRefusal p page i out = wordRefusal p page i (p .m) out 96
+
+abbrev pub shortRefusal : Parameters → List ℕ → ℕ → ℕ → ℕ
+shortRefusal p page l out = wordRefusal p page l (p .v) out 96
+
+abbrev pub nestedRefusal : Parameters → List ℕ → ℕ → ℕ → ℕ
+nestedRefusal p page l out = wordRefusal p page l (p .v) out (nestedBytes p)
+
+-- syndromes of sub-word i, and of nested word l; a number takes `size` places: 1 in a list of numbers, 2 in C's bytes
+abbrev pub syndromesRefusal : ℕ → Parameters → List ℕ → ℕ → ℕ → ℕ
+syndromesRefusal size p page i out = wordRefusal p page i (p .m) out (size * (2 * strength p 0))
+
+abbrev pub nestedSyndromesRefusal : ℕ → Parameters → List ℕ → ℕ → ℕ → ℕ
+nestedSyndromesRefusal size p page l out = wordRefusal p page l (p .v) out (size * (2 * strength p (p .v - l)))
+
+-- ---- the register
+unfoldable pub openRefusal : Parameters → ℕ → ℕ
+unfolding sheetRefusal
+openRefusal p level = sheetRefusal p orElse 9 when ltb (p .v) level
+
+unfoldable pub feedRefusal : Parameters → ℕ → Register → ℕ → ℕ
+unfolding sheetRefusal degree value
+feedRefusal p L r u =
+    sheetRefusal p
+    orElse 5 when badWidth L
+    orElse 8 when leb (2 ^ L) u
+    orElse 11 when ltb (full p) (r .count + L)
+    orElse 12 when ltb (p .v) (r .level) || leb (2 ^ degree p (r .level)) (value 64 (r .remainder))
+
+-- ---- the nesting coefficient's call gives N(i, l) for i and l up to 7
+abbrev pub nestingRefusal : ℕ → ℕ → ℕ
+nestingRefusal i l = 9 when ltb 7 i || ltb 7 l

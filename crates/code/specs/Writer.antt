@@ -1,0 +1,58 @@
+-- The writer program as a function from its input's bytes to its output's.
+--   lead input k         leading byte k of the input, 0 where it is missing
+--   sheetGiven input     the parameters: bytes q, m, v, then L, then t_0 to t_v if v is 1 to 3
+--   blocksGiven input    the blocks: the bytes behind them
+--   writer input         byte 0 and the page, or one byte, the refusal's number
+use mathlib.Core.Path.{_≡_}
+use mathlib.Core.Bool.{_&&_, cond}
+use mathlib.Core.List.{List, [], _∷_, _++_}
+use Prim.Native.Nat.{ℕ, zero, suc, _+_, _-_}
+use lib.Dec.{leb}
+use lib.ListN.{length, getD, drop, replicate}
+use Rattle.code.specs.declared.Parameters.{Parameters}
+use Rattle.code.specs.Layout.{pageBytes, pageOf}
+use Rattle.code.specs.Refusals.{writeRefusal}
+
+abbrev pub lead : List ℕ → ℕ → ℕ
+lead input k = getD input k 0
+
+-- how many strengths the input has: v + 1 if v is 1 to 3, else none
+unfoldable pub strengthsGiven : List ℕ → ℕ
+strengthsGiven input = cond (leb 1 (lead input 2) && leb (lead input 2) 3) (lead input 2 + 1) 0
+
+unfoldable pub strengthGiven : List ℕ → ℕ → ℕ
+unfolding strengthsGiven
+strengthGiven input a = cond (leb (suc a) (strengthsGiven input)) (lead input (4 + a)) 0
+
+unfoldable pub sheetGiven : List ℕ → Parameters
+unfolding strengthGiven
+sheetGiven input = record {
+  q = lead input 0;
+  m = lead input 1;
+  v = lead input 2;
+  t0 = strengthGiven input 0;
+  t1 = strengthGiven input 1;
+  t2 = strengthGiven input 2;
+  t3 = strengthGiven input 3;
+}
+
+unfoldable pub blocksGiven : List ℕ → List ℕ
+unfolding strengthsGiven
+blocksGiven input = drop (4 + strengthsGiven input) input
+
+abbrev pub outputOf : ℕ → List ℕ → List ℕ
+outputOf zero page = 0 ∷ page
+outputOf (suc k) page = suc k ∷ []
+
+-- the page's length is always exact: the program makes the page's room itself
+unfoldable pub writer : List ℕ → List ℕ
+unfolding sheetGiven blocksGiven writeRefusal pageOf
+writer input =
+    let p = sheetGiven input in
+    let blocks = blocksGiven input in
+    outputOf (writeRefusal p (lead input 3) blocks (pageBytes p)) (pageOf p blocks)
+
+-- the function behind the program: how many bytes are written, and an array of 4,097 bytes that begins with them, the rest 0
+pub record Wrote (input : List ℕ) (count : ℕ) (bytes : List ℕ) : Type 0 where
+  pub counted : count ≡ length (writer input)
+  pub output : bytes ≡ writer input ++ replicate (4097 - length (writer input)) 0
