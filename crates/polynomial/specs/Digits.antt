@@ -18,7 +18,7 @@ use Rattle.polynomial.specs.Xor.{xor}
 -- Σ d_k 2^(w k)
 unfoldable pub value : ℕ → List ℕ → ℕ
 value w [] = 0
-value w (d ∷ ds) = d + 2 ^ w * value w ds
+value w (d ∷ ds) = value w ds * 2 ^ w + d
 
 unfoldable pub digits : ℕ → ℕ → ℕ → List ℕ
 digits w zero x = []
@@ -35,23 +35,18 @@ module _ (w : ℕ) where
   digits-lt zero x = tt
   digits-lt (suc k) x = (Nat.mod-lt x (pow-pos w), digits-lt k (x / 2 ^ w))
 
-  again : (x y : ℕ) → y ≡ x / 2 ^ w → x % 2 ^ w + 2 ^ w * y ≡ x
-  again x y e = rw (e, Nat.add-comm (x % 2 ^ w) (2 ^ w * (x / 2 ^ w)), Nat.mul-comm (2 ^ w) (x / 2 ^ w)) (split x w)
+  again : (x y : ℕ) → y ≡ x / 2 ^ w → y * 2 ^ w + x % 2 ^ w ≡ x
+  again x y e = rw e (split x w)
 
   pub value-digits : (k x : ℕ) → x < 2 ^ (w * k) → value w (digits w k x) ≡ x
   unfolding digits value
   value-digits zero x h = sym (lt-one (rw Nat.mul-zero at h))
   value-digits (suc k) x h = again x (value w (digits w k (x / 2 ^ w))) (value-digits k (x / 2 ^ w) (shr-lt (w * k) w (rw Nat.mul-suc at h)))
 
-  turn : (d v : ℕ) → d + 2 ^ w * v ≡ v * 2 ^ w + d
-  turn d v = rw (Nat.mul-comm (2 ^ w) v) (Nat.add-comm d (v * 2 ^ w))
-
   pub digits-value : (l : List ℕ) → All (λ d. d < 2 ^ w) l → digits w (length l) (value w l) ≡ l
   unfolding digits value
   digits-value [] h = refl
-  digits-value (d ∷ l) h =
-      ap₂ _∷_ (ap (λ (y : ℕ). y % 2 ^ w) (turn d (value w l)) ∙ low (value w l) w (h .0))
-      (ap (digits w (length l)) (ap (λ (y : ℕ). y / 2 ^ w) (turn d (value w l)) ∙ high (value w l) w (h .0)) ∙ digits-value l (h .1))
+  digits-value (d ∷ l) h = ap₂ _∷_ (low (value w l) w (h .0)) (ap (digits w (length l)) (high (value w l) w (h .0)) ∙ digits-value l (h .1))
 
   xor-mod : (x y : ℕ) → xor x y % 2 ^ w ≡ xor (x % 2 ^ w) (y % 2 ^ w)
   unfolding xor
@@ -63,16 +58,15 @@ module _ (w : ℕ) where
   digits-xor (suc k) x y = ap₂ _∷_ (xor-mod x y) (ap (digits w k) (xor-shr x y w) ∙ digits-xor k (x / 2 ^ w) (y / 2 ^ w))
 
   -- ---- a digit by its place
-  value-next : (d v j : ℕ) → d < 2 ^ w → (d + 2 ^ w * v) / 2 ^ (w * suc j) ≡ v / 2 ^ (w * j)
+  value-next : (d v j : ℕ) → d < 2 ^ w → (v * 2 ^ w + d) / 2 ^ (w * suc j) ≡ v / 2 ^ (w * j)
   value-next d v j h =
-      ap (λ (y : ℕ). (d + 2 ^ w * v) / 2 ^ y) (Nat.mul-suc w j ∙ Nat.add-comm (w * j) w)
-      ∙ sym (shr-shr (d + 2 ^ w * v) w (w * j))
-      ∙ ap (λ (y : ℕ). y / 2 ^ (w * j)) (ap (λ (y : ℕ). y / 2 ^ w) (turn d v) ∙ high v w h)
+      ap (λ (y : ℕ). (v * 2 ^ w + d) / 2 ^ y) (Nat.mul-suc w j ∙ Nat.add-comm (w * j) w)
+      ∙ sym (shr-shr (v * 2 ^ w + d) w (w * j)) ∙ ap (λ (y : ℕ). y / 2 ^ (w * j)) (high v w h)
 
   pub value-at : (l : List ℕ) → All (λ d. d < 2 ^ w) l → (j : ℕ) → value w l / 2 ^ (w * j) % 2 ^ w ≡ getD l j 0
   unfolding value
   value-at [] h j = rw (Nat.zero-div (2 ^ (w * j))) (Nat.zero-mod (2 ^ w))
-  value-at (d ∷ l) h zero = rw (Nat.mul-zero w, Nat.div-one (d + 2 ^ w * value w l)) (ap (λ (y : ℕ). y % 2 ^ w) (turn d (value w l)) ∙ low (value w l) w (h .0))
+  value-at (d ∷ l) h zero = rw (Nat.mul-zero w, Nat.div-one (value w l * 2 ^ w + d)) (low (value w l) w (h .0))
   value-at (d ∷ l) h (suc j) = ap (λ (y : ℕ). y % 2 ^ w) (value-next d (value w l) j (h .0)) ∙ value-at l (h .1) j
 
   pub digits-at : (k x j : ℕ) → j < k → getD (digits w k x) j 0 ≡ x / 2 ^ (w * j) % 2 ^ w
