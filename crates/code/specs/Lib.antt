@@ -7,3 +7,10 @@ pub mod Layout
 pub mod Refusals
 pub mod Calls
 pub mod Writer
+-- The theorems on words:
+pub mod Steps
+pub mod Values
+pub mod Distance
+pub mod Newton
+pub mod Encode
+pub mod Places
