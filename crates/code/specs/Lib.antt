@@ -14,3 +14,9 @@ pub mod Distance
 pub mod Newton
 pub mod Encode
 pub mod Places
+-- The theorems on accepted parameters and on bytes:
+pub mod Accepted
+pub mod Bytes
+pub mod Pages
+pub mod Judge
+pub mod Refused

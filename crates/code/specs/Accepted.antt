@@ -1,0 +1,168 @@
+-- What accepted parameters obey, and from it the hypotheses of the theorems on pages.
+--   Rules p    the rules on the numbers as facts
+use mathlib.Core.Path.{_≡_, refl, sym, ap, _∙_}
+use mathlib.Core.Logic.{_≢_, _↔_, _⊎_, inl, inr}
+use mathlib.Core.Bool.{Bool, true, false, not, _&&_, _||_, cond}
+use Prim.Native.Nat.{ℕ, zero, suc, _+_, _-_, _*_, _%_, _^_, _≤_, _<_}
+use native.Mathlib.Nat as Nat
+use native.Mathlib.Decide.{le-ind}
+use native.Mathlib.Omega.{arith}
+use lib.Dec.{T, eqb, leb, ltb, eqb→eq, leb→le, ltb→lt, le→leb}
+use Rattle.field.specs.Fields.{BinaryField, Known, fieldOf, fieldOf-length}
+use Rattle.field.specs.Irreducible.{both}
+use Rattle.field.specs.Powers.{n-pos, pow-mod, α≢0}
+use Rattle.generator.specs.Generator.{generator-deg, generator-iff, width-lt}
+use Rattle.code.specs.declared.Parameters.{Parameters}
+use Rattle.generator.specs.Generator as G
+use Rattle.code.specs.Code.{degree}
+use Rattle.code.specs.Lists.{_orElse_, _when_, any, range}
+use Rattle.code.specs.Parameters.{Accepted, clashes, fieldKnown, len, placeFits, shapeFits, sheetRefusal, strength, strengthsFit}
+use Rattle.code.specs.Steps.{degree-eq, gen-eq}
+use Rattle.code.specs.Values.{Lawful}
+
+-- ---- tests
+pub none : (k : ℕ) (b : Bool) (r : ℕ) → ((suc k when not b) orElse r) ≡ 0 → T b × (r ≡ 0)
+none k true r e = (tt, e)
+none k false r e = absurd (Nat.suc-ne-zero k e)
+
+pub last : (k : ℕ) (b : Bool) → (suc k when b) ≡ 0 → T (not b)
+last k true e = absurd (Nat.suc-ne-zero k e)
+last k false e = tt
+
+pub either : (a b : Bool) → T (a || b) → T a ⊎ T b
+either true b t = inl tt
+either false b t = inr t
+
+pub neither : (a b : Bool) → T (not (a || b)) → T (not a) × T (not b)
+neither true b t = absurd t
+neither false b t = (tt, t)
+
+chosen : (b c d : Bool) → T b → T (cond b c d) → T c
+chosen true c d h t = t
+chosen false c d h t = absurd h
+
+pub nonzero : (x : ℕ) → T (not (eqb x 0)) → 0 < x
+nonzero zero t = absurd t
+nonzero (suc x) t = omega arith
+
+any-none : (P : ℕ → Bool) (i k : ℕ) → T (not (any P (range i k))) → (x : ℕ) → i ≤ x → x < i + k → T (not (P x))
+unfolding any range
+any-none P i zero t x h l = absurd (Nat.not-suc-le-zero {n = 0} (omega arith))
+any-none P i (suc k) t x h l =
+    go (λ h. any-none P (suc i) k (neither (P i) (any P (range (suc i) k)) t .1) x h (omega arith)) (Nat.eq-or-lt-of-le h)
+  where
+    go : (i < x → T (not (P x))) → (i ≡ x) ⊎ (i < x) → T (not (P x))
+    go ih (inl e) = rw (← e) (neither (P i) (any P (range (suc i) k)) t .0)
+    go ih (inr l) = ih l
+
+-- ---- the rules
+pub record Rules (p : Parameters) : Type 0 where
+  pub known : Known (p .q)
+  pub v-low : 1 ≤ p .v
+  pub v-high : p .v ≤ 3
+  pub m-low : p .v < p .m
+  pub m-high : p .m ≤ 8
+  pub t-low : 1 ≤ strength p 0
+  pub rises : (a : ℕ) → a < p .v → strength p a ≤ strength p (suc a)
+  pub high : strength p (p .v) ≤ 64
+  pub short : 2 * strength p (p .v) ≤ len p - 1
+  pub clash : (d j : ℕ) → 0 < d → d < p .m → 0 < j → j ≤ 2 * strength p (p .v) → 0 < d * j % len p
+
+known : (p : Parameters) → T (fieldKnown p) → Known (p .q)
+unfolding fieldKnown
+known p t = go (either (eqb (p .q) 4 || eqb (p .q) 8) (eqb (p .q) 12) t)
+  where
+    two : T (eqb (p .q) 4) ⊎ T (eqb (p .q) 8) → Known (p .q)
+    two (inl t) = inl (eqb→eq (p .q) 4 t)
+    two (inr t) = inr (inl (eqb→eq (p .q) 8 t))
+
+    go : T (eqb (p .q) 4 || eqb (p .q) 8) ⊎ T (eqb (p .q) 12) → Known (p .q)
+    go (inl t) = two (either (eqb (p .q) 4) (eqb (p .q) 8) t)
+    go (inr t) = inr (inr (eqb→eq (p .q) 12 t))
+
+rise : (p : Parameters) → p .v ≤ 3 → p .t0 < p .t1 → T (placeFits p 2) → T (placeFits p 3) → (a : ℕ) → a < p .v → strength p a ≤ strength p (suc a)
+unfolding placeFits
+rise p h l x y zero b = omega arith
+rise p h l x y (suc zero) b = leb→le (p .t1) (p .t2) (chosen (leb 2 (p .v)) (leb (p .t1) (p .t2)) (eqb (p .t2) 0) (le→leb 2 (p .v) b) x)
+rise p h l x y (suc (suc zero)) b = leb→le (p .t2) (p .t3) (chosen (leb 3 (p .v)) (leb (p .t2) (p .t3)) (eqb (p .t3) 0) (le→leb 3 (p .v) b) y)
+rise p h l x y (suc (suc (suc a))) b = absurd (Nat.not-suc-le-zero {n = 0} (omega arith))
+
+module _ (p : Parameters) where
+  abbrev v-1 : Bool
+  v-1 = leb 1 (p .v)
+
+  abbrev v-3 : Bool
+  v-3 = leb (p .v) 3
+
+  abbrev v-m : Bool
+  v-m = ltb (p .v) (p .m)
+
+  abbrev t-0 : Bool
+  t-0 = leb 1 (p .t0)
+
+  abbrev t-1 : Bool
+  t-1 = ltb (p .t0) (p .t1)
+
+  abbrev t-v : Bool
+  t-v = leb (strength p (p .v)) 64
+
+  rules : T (fieldKnown p) → T (shapeFits p) → T (strengthsFit p) → T (not (clashes p)) → Rules p
+  unfolding shapeFits strengthsFit clashes
+  rules f s t c =
+      let s3 = both (v-1 && v-3 && v-m) (leb (p .m) 8) s in
+      let s2 = both (v-1 && v-3) v-m (s3 .0) in
+      let s1 = both v-1 v-3 (s2 .0) in
+      let t5 = both (t-0 && t-1 && placeFits p 2 && placeFits p 3 && t-v) (leb (2 * strength p (p .v)) (len p - 1)) t in
+      let t4 = both (t-0 && t-1 && placeFits p 2 && placeFits p 3) t-v (t5 .0) in
+      let t3 = both (t-0 && t-1 && placeFits p 2) (placeFits p 3) (t4 .0) in
+      let t2 = both (t-0 && t-1) (placeFits p 2) (t3 .0) in
+      let t1 = both t-0 t-1 (t2 .0) in
+      record {
+        known = known p f;
+        v-low = leb→le 1 (p .v) (s1 .0);
+        v-high = leb→le (p .v) 3 (s1 .1);
+        m-low = ltb→lt (p .v) (p .m) (s2 .1);
+        m-high = leb→le (p .m) 8 (s3 .1);
+        t-low = leb→le 1 (p .t0) (t1 .0);
+        rises = rise p (leb→le (p .v) 3 (s1 .1)) (ltb→lt (p .t0) (p .t1) (t1 .1)) (t2 .1) (t3 .1);
+        high = leb→le (strength p (p .v)) 64 (t4 .1);
+        short = leb→le (2 * strength p (p .v)) (len p - 1) (t5 .1);
+        clash = λ d j a b e h. nonzero (d * j % len p) (any-none (λ j. eqb (d * j % len p) 0) 1 (2 * strength p (p .v))
+            (any-none (λ d. any (λ j. eqb (d * j % len p) 0) (range 1 (2 * strength p (p .v)))) 1 (p .m - 1) c d a (omega arith)) j e (omega arith));
+      }
+
+  pub accepted : Accepted p → Rules p
+  unfolding sheetRefusal
+  accepted e =
+      let a = none 0 (fieldKnown p) (2 when not (shapeFits p) orElse 3 when not (strengthsFit p) orElse 4 when clashes p) e in
+      let b = none 1 (shapeFits p) (3 when not (strengthsFit p) orElse 4 when clashes p) (a .1) in
+      let c = none 2 (strengthsFit p) (4 when clashes p) (b .1) in
+      rules (a .0) (b .0) (c .0) (last 3 (clashes p) (c .1))
+
+module _ (p : Parameters) (R : Rules p) where
+  abbrev pub B : BinaryField
+  B = fieldOf (p .q)
+
+  pub rising : (a b : ℕ) → a ≤ b → b ≤ p .v → strength p a ≤ strength p b
+  rising a b h l =
+      le-ind (λ (x : ℕ). x ≤ p .v → strength p a ≤ strength p x) (λ _. Nat.le-refl (strength p a))
+      (λ x k ih l. Nat.le-trans (ih (omega arith)) (R .rises x l)) b h l
+
+  pub n-is : B .n ≡ len p
+  n-is = fieldOf-length (p .q) (R .known)
+
+  pub width-below : (a : ℕ) → a ≤ p .v → degree p a ≤ len p - 1
+  width-below a h = rw (degree-eq p a, ← n-is) (G.width-lt B (strength p a) (rw n-is (omega (arith, R .short, rising a (p .v) h (Nat.le-refl (p .v))))))
+
+  pub lawful : Lawful (B .field) (B .α) p
+  lawful = record {
+    pos = omega (arith, n-is, n-pos B);
+    unity = rw n-is at (B .whole);
+    α≢zero = α≢0 B;
+    order = λ i h l. B .order i h (omega (arith, n-is));
+    shape = (R .v-low, R .m-low);
+    rising = rising;
+    degrees = λ a h. rw (gen-eq p a, degree-eq p a) (G.generator-deg B (strength p a));
+    roots = λ a h f. rw (gen-eq p a, degree-eq p a) (G.generator-iff B (strength p a) f);
+    no-clash = λ d j a b e h u. B .order (d * j % B .n) (rw n-is (R .clash d j a b e h)) (Nat.mod-lt (d * j) (n-pos B)) (pow-mod B (d * j) ∙ u);
+  }

@@ -1,0 +1,277 @@
+-- Pages and blocks as lists of words.
+--   IsWords p cs     m words of the stored places
+--   IsBlocks p ds    the data of m words, each of its block's bits
+use mathlib.Core.Path.{_≡_, refl, sym, ap, ap₂, _∙_}
+use mathlib.Core.Logic.{_⊎_, inl, inr}
+use mathlib.Core.Bool.{Bool, true, false, _&&_}
+use mathlib.Core.List.{List, [], _∷_, _++_, map}
+use Prim.Native.Nat.{ℕ, zero, suc, _+_, _-_, _*_, _/_, _^_, _≤_, _<_}
+use native.Mathlib.Nat as Nat
+use native.Mathlib.Omega.{arith}
+use lib.Dec.{T, ltb, ltb→lt, lt→ltb, lit≤}
+use lib.ListN.{length, replicate, length-replicate, length-map}
+use lib.Pow.{pow-mono}
+use Rattle.polynomial.specs.Division.{xor-lt}
+use Rattle.polynomial.specs.Lists.{All, add, length-add}
+use Rattle.field.specs.Field.{zero-mul}
+use Rattle.field.specs.Fields.{Known}
+use Rattle.field.specs.Irreducible.{both}
+use Rattle.code.specs.declared.Parameters.{Parameters}
+use Rattle.code.specs.Code as P
+use Rattle.code.specs.Encode as E
+use Rattle.code.specs.Accepted.{Rules, lawful, width-below}
+use Rattle.code.specs.Bytes.{Small, bytes-join, join-add, join-split, length-join, length-split, split-join}
+use Rattle.code.specs.Code.{dataFrom, dataWords, degree, encode}
+use Rattle.code.specs.Encode.{Sized, data-encode, data-fits, encode-add, encode-length, encode-lt}
+use Rattle.code.specs.Layout.{Fits, IsPage, blockBits, blockSizes, blocksClear, blocksOf, dataBits, dataBytes, dataOf, pageClear, pageOf, wordSizes, wordsOf}
+use Rattle.code.specs.Lists.{join, range, split, sum, within}
+use Rattle.code.specs.Parameters.{len, subWordBytes}
+
+pub and-both : (a b : Bool) → T a → T b → T (a && b)
+and-both true b h t = t
+and-both false b h t = absurd h
+
+-- ---- the defining equations
+pub wordsOf-eq : (p : Parameters) (x : List ℕ) → wordsOf p x ≡ split (wordSizes p) x
+unfolding wordsOf
+wordsOf-eq p x = refl
+
+pub blocksOf-eq : (p : Parameters) (x : List ℕ) → blocksOf p x ≡ split (blockSizes p) x
+unfolding blocksOf
+blocksOf-eq p x = refl
+
+pub pageOf-eq : (p : Parameters) (x : List ℕ) → pageOf p x ≡ join (wordSizes p) (encode p (blocksOf p x))
+unfolding pageOf
+pageOf-eq p x = refl
+
+pub dataOf-eq : (p : Parameters) (x : List ℕ) → dataOf p x ≡ join (blockSizes p) (dataWords p (wordsOf p x))
+unfolding dataOf
+dataOf-eq p x = refl
+
+pageClear-eq : (p : Parameters) (x : List ℕ) → pageClear p x ≡ within (replicate (p .m) (len p)) (wordsOf p x)
+unfolding pageClear
+pageClear-eq p x = refl
+
+blocksClear-eq : (p : Parameters) (x : List ℕ) → blocksClear p x ≡ within (blockBits p) (blocksOf p x)
+unfolding blocksClear
+blocksClear-eq p x = refl
+
+dataBytes-eq : (p : Parameters) → dataBytes p ≡ sum (blockSizes p)
+unfolding dataBytes
+dataBytes-eq p = refl
+
+length-range : (i k : ℕ) → length (range i k) ≡ k
+unfolding range
+length-range i zero = refl
+length-range i (suc k) = ap suc (length-range (suc i) k)
+
+sum-replicate : (m k : ℕ) → sum (replicate m k) ≡ m * k
+unfolding sum
+sum-replicate zero k = sym (Nat.zero-mul k)
+sum-replicate (suc m) k = ap (λ (y : ℕ). k + y) (sum-replicate m k) ∙ omega arith
+
+-- ---- words of n bits
+all-within : (n m : ℕ) (cs : List ℕ) → All (λ c. c < 2 ^ n) cs → T (within (replicate m n) cs)
+unfolding within
+all-within n zero cs h = tt
+all-within n (suc m) [] h = tt
+all-within n (suc m) (c ∷ cs) h = and-both (ltb c (2 ^ n)) (within (replicate m n) cs) (lt→ltb c (2 ^ n) (h .0)) (all-within n m cs (h .1))
+
+within-all : (n m : ℕ) (cs : List ℕ) → length cs ≡ m → T (within (replicate m n) cs) → All (λ c. c < 2 ^ n) cs
+unfolding within
+within-all n m [] e t = tt
+within-all n zero (c ∷ cs) e t = absurd (Nat.suc-ne-zero (length cs) e)
+within-all n (suc m) (c ∷ cs) e t =
+    let b = both (ltb c (2 ^ n)) (within (replicate m n) cs) t in
+    (ltb→lt c (2 ^ n) (b .0), within-all n m cs (Nat.suc-inj e) (b .1))
+
+all-small : (n k m : ℕ) (cs : List ℕ) → n ≤ 8 * k → length cs ≡ m → All (λ c. c < 2 ^ n) cs → Small (replicate m k) cs
+all-small n k zero [] l e h = tt
+all-small n k zero (c ∷ cs) l e h = absurd (Nat.suc-ne-zero (length cs) e)
+all-small n k (suc m) [] l e h = absurd (Nat.suc-ne-zero m (sym e))
+all-small n k (suc m) (c ∷ cs) l e h = (Nat.lt-of-lt-of-le (h .0) (pow-mono l), all-small n k m cs l (Nat.suc-inj e) (h .1))
+
+pub room : (q : ℕ) → Known q → 2 ^ q - 1 ≤ 8 * (2 ^ q / 8)
+room q (inl e) = rw e (lit≤ tt)
+room q (inr (inl e)) = rw e (lit≤ tt)
+room q (inr (inr e)) = rw e (lit≤ tt)
+
+pub record IsWords (p : Parameters) (cs : List ℕ) : Type 0 where
+  pub many : length cs ≡ p .m
+  pub below : All (λ c. c < 2 ^ len p) cs
+
+-- ---- blocks
+blockBits-eq : (p : Parameters) → blockBits p ≡ map (dataBits p) (range 0 (p .m))
+unfolding blockBits
+blockBits-eq p = refl
+
+blockSizes-eq : (p : Parameters) → blockSizes p ≡ map (λ b. (b + 7) / 8) (blockBits p)
+unfolding blockSizes
+blockSizes-eq p = refl
+
+length-blocks : (p : Parameters) → length (blockSizes p) ≡ p .m
+length-blocks p = rw (blockSizes-eq p, length-map, blockBits-eq p, length-map) (length-range 0 (p .m))
+
+within-fits : (p : Parameters) (i k : ℕ) (ds : List ℕ) → length ds ≡ k → T (within (map (dataBits p) (range i k)) ds) → Sized p i ds
+unfolding within range
+within-fits p i k [] e t = tt
+within-fits p i zero (d ∷ ds) e t = absurd (Nat.suc-ne-zero (length ds) e)
+within-fits p i (suc k) (d ∷ ds) e t =
+    let b = both (ltb d (2 ^ dataBits p i)) (within (map (dataBits p) (range (suc i) k)) ds) t in
+    (ltb→lt d (2 ^ dataBits p i) (b .0), within-fits p (suc i) k ds (Nat.suc-inj e) (b .1))
+
+fits-within : (p : Parameters) (i k : ℕ) (ds : List ℕ) → Sized p i ds → T (within (map (dataBits p) (range i k)) ds)
+unfolding within range
+fits-within p i zero ds h = tt
+fits-within p i (suc k) [] h = tt
+fits-within p i (suc k) (d ∷ ds) h =
+    and-both (ltb d (2 ^ dataBits p i)) (within (map (dataBits p) (range (suc i) k)) ds) (lt→ltb d (2 ^ dataBits p i) (h .0)) (fits-within p (suc i) k ds (h .1))
+
+whole : (b : ℕ) → b ≤ 8 * ((b + 7) / 8)
+whole b = omega arith
+
+fits-small : (p : Parameters) (i k : ℕ) (ds : List ℕ) → length ds ≡ k → Sized p i ds → Small (map (λ b. (b + 7) / 8) (map (dataBits p) (range i k))) ds
+unfolding range
+fits-small p i zero [] e h = tt
+fits-small p i zero (d ∷ ds) e h = absurd (Nat.suc-ne-zero (length ds) e)
+fits-small p i (suc k) [] e h = absurd (Nat.suc-ne-zero k (sym e))
+fits-small p i (suc k) (d ∷ ds) e h = (Nat.lt-of-lt-of-le (h .0) (pow-mono (whole (dataBits p i))), fits-small p (suc i) k ds (Nat.suc-inj e) (h .1))
+
+fits-add : (C : Parameters) (i : ℕ) (ds es : List ℕ) → Sized C i ds → Sized C i es → Sized C i (add ds es)
+fits-add C i [] es h j = j
+fits-add C i (d ∷ ds) [] h j = h
+fits-add C i (d ∷ ds) (e ∷ es) h j = (xor-lt (dataBits C i) d e (h .0) (j .0), fits-add C (suc i) ds es (h .1) (j .1))
+
+length-data-from : (C : Parameters) (i : ℕ) (cs : List ℕ) → length (dataFrom C i cs) ≡ length cs
+unfolding dataFrom
+length-data-from C i [] = refl
+length-data-from C i (c ∷ cs) = ap suc (length-data-from C (suc i) cs)
+
+length-data : (C : Parameters) (cs : List ℕ) → length (dataWords C cs) ≡ length cs
+unfolding dataWords
+length-data C cs = length-data-from C 0 cs
+
+pub record IsBlocks (p : Parameters) (ds : List ℕ) : Type 0 where
+  pub many : length ds ≡ p .m
+  pub fits : Sized p 0 ds
+
+pub blocks-add : (p : Parameters) (ds es : List ℕ) → IsBlocks p ds → IsBlocks p es → IsBlocks p (add ds es)
+blocks-add p ds es h j = record { many = length-add ds es (h .many ∙ sym (j .many)) ∙ h .many; fits = fits-add p 0 ds es (h .fits) (j .fits) }
+
+module _ (p : Parameters) (R : Rules p) where
+  -- ---- pages
+  small-words : (cs : List ℕ) → IsWords p cs → Small (wordSizes p) cs
+  small-words cs h = all-small (len p) (subWordBytes p) (p .m) cs (room (p .q) (R .known)) (h .many) (h .below)
+
+  length-sizes : length (wordSizes p) ≡ p .m
+  length-sizes = length-replicate (p .m) (subWordBytes p)
+
+  pub page-words : (x : List ℕ) → IsPage p x → IsWords p (wordsOf p x)
+  page-words x h =
+      let e : length (wordsOf p x) ≡ p .m = rw (wordsOf-eq p x) (length-split (wordSizes p) x ∙ length-sizes) in
+      record { many = e; below = within-all (len p) (p .m) (wordsOf p x) e (rw (pageClear-eq p x) at (h .clear)) }
+
+  pub words-join : (cs : List ℕ) → IsWords p cs → wordsOf p (join (wordSizes p) cs) ≡ cs
+  words-join cs h = wordsOf-eq p (join (wordSizes p) cs) ∙ split-join (wordSizes p) cs (small-words cs h)
+
+  pub join-words : (x : List ℕ) → IsPage p x → join (wordSizes p) (wordsOf p x) ≡ x
+  join-words x h = rw (wordsOf-eq p x) (join-split (wordSizes p) x (h .bytes) (h .exact ∙ sym (sum-replicate (p .m) (subWordBytes p))))
+
+  pub words-page : (cs : List ℕ) → IsWords p cs → IsPage p (join (wordSizes p) cs)
+  words-page cs h = record {
+    bytes = bytes-join (wordSizes p) cs;
+    exact = length-join (wordSizes p) cs (h .many ∙ sym length-sizes) ∙ sum-replicate (p .m) (subWordBytes p);
+    clear = rw (pageClear-eq p (join (wordSizes p) cs), words-join cs h) (all-within (len p) (p .m) cs (h .below));
+  }
+
+  -- ---- blocks
+  small-blocks : (ds : List ℕ) → IsBlocks p ds → Small (blockSizes p) ds
+  small-blocks ds h = rw (blockSizes-eq p, blockBits-eq p) (fits-small p 0 (p .m) ds (h .many) (h .fits))
+
+  pub blocks-blocks : (x : List ℕ) → Fits p x → IsBlocks p (blocksOf p x)
+  blocks-blocks x h =
+      let e : length (blocksOf p x) ≡ p .m = rw (blocksOf-eq p x) (length-split (blockSizes p) x ∙ length-blocks p) in
+      record { many = e; fits = within-fits p 0 (p .m) (blocksOf p x) e (rw (blocksClear-eq p x, blockBits-eq p) at (h .clear)) }
+
+  pub blocks-join : (ds : List ℕ) → IsBlocks p ds → blocksOf p (join (blockSizes p) ds) ≡ ds
+  blocks-join ds h = blocksOf-eq p (join (blockSizes p) ds) ∙ split-join (blockSizes p) ds (small-blocks ds h)
+
+  pub join-blocks : (x : List ℕ) → Fits p x → join (blockSizes p) (blocksOf p x) ≡ x
+  join-blocks x h = rw (blocksOf-eq p x) (join-split (blockSizes p) x (h .bytes) (h .exact ∙ dataBytes-eq p))
+
+  pub blocks-fit : (ds : List ℕ) → IsBlocks p ds → Fits p (join (blockSizes p) ds)
+  blocks-fit ds h = record {
+    bytes = bytes-join (blockSizes p) ds;
+    exact = length-join (blockSizes p) ds (h .many ∙ sym (length-blocks p)) ∙ sym (dataBytes-eq p);
+    clear = rw (blocksClear-eq p (join (blockSizes p) ds), blocks-join ds h, blockBits-eq p) (fits-within p 0 (p .m) ds (h .fits));
+  }
+
+  -- ---- encoding
+  W : (a : ℕ) → a ≤ p .v → degree p a ≤ len p
+  W a h = Nat.le-trans (width-below p R a h) (Nat.sub-le (len p) 1)
+
+  pub encode-words : (ds : List ℕ) → IsBlocks p ds → IsWords p (encode p ds)
+  encode-words ds h =
+      record { many = encode-length p ds ∙ h .many; below = encode-lt p (lawful p R .degrees) W ds (h .fits) }
+
+  pub data-blocks : (cs : List ℕ) → IsWords p cs → IsBlocks p (dataWords p cs)
+  data-blocks cs h =
+      record { many = length-data p cs ∙ h .many; fits = data-fits p W cs (h .below) }
+
+  -- ---- the page of blocks
+  module _ (x : List ℕ) (h : Fits p x) where
+    ready : IsWords p (encode p (blocksOf p x))
+    ready = encode-words (blocksOf p x) (blocks-blocks x h)
+
+    pub page-is : IsPage p (pageOf p x)
+    page-is = rw (pageOf-eq p x) (words-page (encode p (blocksOf p x)) ready)
+
+    pub page-has : wordsOf p (pageOf p x) ≡ encode p (blocksOf p x)
+    page-has = rw (pageOf-eq p x) (words-join (encode p (blocksOf p x)) ready)
+
+    pub page-back : dataOf p (pageOf p x) ≡ x
+    page-back =
+        dataOf-eq p (pageOf p x)
+        ∙ rw (page-has, data-encode p (lawful p R .degrees) (blocksOf p x)) (join-blocks x h)
+
+  -- ---- the blocks of a page
+  module _ (x : List ℕ) (h : IsPage p x) where
+    taken : IsBlocks p (dataWords p (wordsOf p x))
+    taken = data-blocks (wordsOf p x) (page-words x h)
+
+    pub data-fit : Fits p (dataOf p x)
+    data-fit = rw (dataOf-eq p x) (blocks-fit (dataWords p (wordsOf p x)) taken)
+
+    pub data-has : blocksOf p (dataOf p x) ≡ dataWords p (wordsOf p x)
+    data-has = rw (dataOf-eq p x) (blocks-join (dataWords p (wordsOf p x)) taken)
+
+    pub again : pageOf p (dataOf p x) ≡ join (wordSizes p) (encode p (dataWords p (wordsOf p x)))
+    again = rw (pageOf-eq p (dataOf p x), data-has) refl
+
+    -- the page is written again exactly when its words are
+    pub again-to : encode p (dataWords p (wordsOf p x)) ≡ wordsOf p x → pageOf p (dataOf p x) ≡ x
+    again-to e = again ∙ rw e (join-words x h)
+
+    pub again-from : pageOf p (dataOf p x) ≡ x → encode p (dataWords p (wordsOf p x)) ≡ wordsOf p x
+    again-from e = sym (words-join (encode p (dataWords p (wordsOf p x))) (encode-words (dataWords p (wordsOf p x)) taken)) ∙ ap (wordsOf p) (sym again ∙ e)
+
+  -- ---- sums
+  module _ (a b : List ℕ) (h : Fits p a) (j : Fits p b) where
+    sum-join : join (blockSizes p) (add (blocksOf p a) (blocksOf p b)) ≡ add a b
+    sum-join =
+        join-add (blockSizes p) (blocksOf p a) (blocksOf p b) (small-blocks (blocksOf p a) (blocks-blocks a h)) (small-blocks (blocksOf p b) (blocks-blocks b j))
+        ∙ ap₂ add (join-blocks a h) (join-blocks b j)
+
+    both-blocks : IsBlocks p (add (blocksOf p a) (blocksOf p b))
+    both-blocks = blocks-add p (blocksOf p a) (blocksOf p b) (blocks-blocks a h) (blocks-blocks b j)
+
+    pub sum-fits : Fits p (add a b)
+    sum-fits = rw sum-join at (blocks-fit (add (blocksOf p a) (blocksOf p b)) both-blocks)
+
+    pub sum-page : pageOf p (add a b) ≡ add (pageOf p a) (pageOf p b)
+    sum-page =
+        pageOf-eq p (add a b)
+        ∙ ap (λ (l : List ℕ). join (wordSizes p) (encode p l)) (sym (ap (blocksOf p) sum-join) ∙ blocks-join (add (blocksOf p a) (blocksOf p b)) both-blocks)
+        ∙ ap (join (wordSizes p)) (encode-add p (lawful p R .degrees) (blocksOf p a) (blocksOf p b))
+        ∙ join-add (wordSizes p) (encode p (blocksOf p a)) (encode p (blocksOf p b)) (small-words (encode p (blocksOf p a)) (ready a h)) (small-words (encode p (blocksOf p b)) (ready b j))
+        ∙ sym (ap₂ add (pageOf-eq p a) (pageOf-eq p b))

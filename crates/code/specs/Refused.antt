@@ -1,0 +1,185 @@
+-- When a call is refused, with which numbers, and what it answers otherwise.
+--   Width L               L is 1 to 64
+--   PageBuffer p old      a page buffer of exact length; BlocksBuffer p old a blocks buffer
+use mathlib.Core.Path.{_≡_, refl, sym, ap, _∙_}
+use mathlib.Core.Logic.{_⊎_, inl, inr}
+use mathlib.Core.Bool.{Bool, true, false, not, _||_}
+use mathlib.Core.List.{List}
+use Prim.Native.Nat.{ℕ, zero, suc, _≤_, _<_, zero-le}
+use native.Mathlib.Nat as Nat
+use native.Mathlib.Omega.{arith}
+use lib.Dec.{T, eqb, leb, ltb, eqb→eq, eqb-refl, ltb→lt, lit≤, not-T}
+use lib.ListN.{length}
+use Rattle.code.specs.declared.Parameters.{Parameters}
+use Rattle.code.specs.declared.Outcome.{Outcome}
+use Rattle.code.specs.declared.Verdict.{Verdict}
+use Rattle.code.specs.Accepted.{either, none}
+use Rattle.code.specs.Calls.{judgeAnswer, readAnswer, readLeaves, unlessRefused, writeAnswer, writeLeaves}
+use Rattle.code.specs.Code.{verdict}
+use Rattle.code.specs.Layout.{Bytes, Fits, IsPage, blocksClear, dataBytes, dataOf, pageBytes, pageClear, pageOf, wordsOf}
+use Rattle.code.specs.Lists.{_orElse_, _when_}
+use Rattle.code.specs.Parameters.{Accepted, clashes, fieldKnown, shapeFits, sheetRefusal, strengthsFit}
+use Rattle.code.specs.Refusals.{badWidth, judgeLengths, judgeRefusal, notExact, readLengths, readRefusal, wordRefusal, writeLengths, writeRefusal}
+
+pub record Width (L : ℕ) : Type 0 where
+  pub low : 1 ≤ L
+  pub high : L ≤ 64
+
+abbrev pub PageBuffer : Parameters → List ℕ → Type 0
+PageBuffer p old = length old ≡ pageBytes p
+
+abbrev pub BlocksBuffer : Parameters → List ℕ → Type 0
+BlocksBuffer p old = length old ≡ dataBytes p
+
+-- ---- chains
+pub off : (c : ℕ) (b : Bool) → T b → (c when not b) ≡ 0
+off c true t = refl
+off c false t = absurd t
+
+pub off′ : (c : ℕ) (b : Bool) → T (not b) → (c when b) ≡ 0
+off′ c true t = absurd t
+off′ c false t = refl
+
+pub or-zero : (r s : ℕ) → r ≡ 0 → s ≡ 0 → (r orElse s) ≡ 0
+or-zero zero s e f = f
+or-zero (suc r) s e f = e
+
+pub or-none : (r s : ℕ) → (r orElse s) ≡ 0 → (r ≡ 0) × (s ≡ 0)
+or-none zero s e = (refl, e)
+or-none (suc r) s e = absurd (Nat.suc-ne-zero r e)
+
+pub exact-none : (c k exact : ℕ) → k ≡ exact → (c when notExact k exact) ≡ 0
+exact-none c k exact e = off c (eqb k exact) (rw e (eqb-refl exact))
+
+pub when-le : (c : ℕ) (b : Bool) → c ≤ 12 → (c when b) ≤ 12
+when-le c true h = h
+when-le c false h = zero-le
+
+pub or-le : (r s : ℕ) → r ≤ 12 → s ≤ 12 → (r orElse s) ≤ 12
+or-le zero s h k = k
+or-le (suc r) s h k = h
+
+pub width-good : (L : ℕ) → Width L → T (not (badWidth L))
+width-good L w = not-T (badWidth L) (λ t. go (either (eqb L 0) (ltb 64 L) t))
+  where
+    go : T (eqb L 0) ⊎ T (ltb 64 L) → ⊥
+    go (inl t) = Nat.not-suc-le-zero {n = 0} (omega (arith, eqb→eq L 0 t, w .low))
+    go (inr t) = Nat.not-suc-le-zero {n = 0} (omega (arith, ltb→lt 64 L t, w .high))
+
+-- ---- the defining equations, link by link
+sheet-le : (p : Parameters) → sheetRefusal p ≤ 12
+unfolding sheetRefusal
+sheet-le p =
+    or-le (1 when not (fieldKnown p)) (2 when not (shapeFits p) orElse 3 when not (strengthsFit p) orElse 4 when clashes p) (when-le 1 (not (fieldKnown p)) (lit≤ tt))
+    (or-le (2 when not (shapeFits p)) (3 when not (strengthsFit p) orElse 4 when clashes p) (when-le 2 (not (shapeFits p)) (lit≤ tt))
+    (or-le (3 when not (strengthsFit p)) (4 when clashes p) (when-le 3 (not (strengthsFit p)) (lit≤ tt)) (when-le 4 (clashes p) (lit≤ tt))))
+
+module _ (p : Parameters) where
+  abbrev page-7 : ℕ → ℕ
+  page-7 k = 7 when notExact k (pageBytes p)
+
+  abbrev blocks-6 : ℕ → ℕ
+  blocks-6 k = 6 when notExact k (dataBytes p)
+
+  abbrev stray-8 : List ℕ → ℕ
+  stray-8 x = 8 when not (pageClear p x)
+
+  judge-chain : (x : List ℕ) → judgeRefusal p x ≡ ((sheetRefusal p orElse page-7 (length x)) orElse stray-8 x)
+  unfolding judgeRefusal judgeLengths
+  judge-chain x = refl
+
+  read-chain : (x : List ℕ) (k : ℕ) → readRefusal p x k ≡ ((sheetRefusal p orElse blocks-6 k orElse page-7 (length x)) orElse stray-8 x)
+  unfolding readRefusal readLengths
+  read-chain x k = refl
+
+  write-chain : (L : ℕ) (a : List ℕ) (k : ℕ)
+      → writeRefusal p L a k ≡ ((sheetRefusal p orElse 5 when badWidth L orElse blocks-6 (length a) orElse page-7 k) orElse 8 when not (blocksClear p a))
+  unfolding writeRefusal writeLengths
+  write-chain L a k = refl
+
+  -- ---- a refusal's number is at most 12
+  pub judge-le : (x : List ℕ) → judgeRefusal p x ≤ 12
+  judge-le x =
+      rw (judge-chain x) (or-le (sheetRefusal p orElse page-7 (length x)) (stray-8 x)
+      (or-le (sheetRefusal p) (page-7 (length x)) (sheet-le p) (when-le 7 (notExact (length x) (pageBytes p)) (lit≤ tt))) (when-le 8 (not (pageClear p x)) (lit≤ tt)))
+
+  pub read-le : (x : List ℕ) (k : ℕ) → readRefusal p x k ≤ 12
+  read-le x k =
+      rw (read-chain x k) (or-le (sheetRefusal p orElse blocks-6 k orElse page-7 (length x)) (stray-8 x)
+      (or-le (sheetRefusal p) (blocks-6 k orElse page-7 (length x)) (sheet-le p)
+      (or-le (blocks-6 k) (page-7 (length x)) (when-le 6 (notExact k (dataBytes p)) (lit≤ tt)) (when-le 7 (notExact (length x) (pageBytes p)) (lit≤ tt)))) (when-le 8 (not (pageClear p x)) (lit≤ tt)))
+
+  pub write-le : (L : ℕ) (a : List ℕ) (k : ℕ) → writeRefusal p L a k ≤ 12
+  write-le L a k =
+      rw (write-chain L a k) (or-le (sheetRefusal p orElse 5 when badWidth L orElse blocks-6 (length a) orElse page-7 k) (8 when not (blocksClear p a))
+      (or-le (sheetRefusal p) (5 when badWidth L orElse blocks-6 (length a) orElse page-7 k) (sheet-le p)
+      (or-le (5 when badWidth L) (blocks-6 (length a) orElse page-7 k) (when-le 5 (badWidth L) (lit≤ tt))
+      (or-le (blocks-6 (length a)) (page-7 k) (when-le 6 (notExact (length a) (dataBytes p)) (lit≤ tt)) (when-le 7 (notExact k (pageBytes p)) (lit≤ tt))))) (when-le 8 (not (blocksClear p a)) (lit≤ tt)))
+
+  pub word-le : (x : List ℕ) (i many out exact : ℕ) → wordRefusal p x i many out exact ≤ 12
+  unfolding wordRefusal
+  word-le x i many out exact =
+      or-le (judgeRefusal p x) (9 when leb many i orElse 10 when notExact out exact) (judge-le x)
+      (or-le (9 when leb many i) (10 when notExact out exact) (when-le 9 (leb many i) (lit≤ tt)) (when-le 10 (notExact out exact) (lit≤ tt)))
+
+  -- ---- widths are alike
+  pub write-alike : (L M : ℕ) → Width L → Width M → (a : List ℕ) (k : ℕ) → writeRefusal p L a k ≡ writeRefusal p M a k
+  write-alike L M w w′ a k =
+      write-chain L a k ∙ rw (off′ 5 (badWidth L) (width-good L w)) (sym (write-chain M a k ∙ rw (off′ 5 (badWidth M) (width-good M w′)) refl))
+
+  -- ---- calls that are not refused
+  module _ (A : Accepted p) where
+    pub judge-none : (x : List ℕ) → IsPage p x → judgeRefusal p x ≡ 0
+    judge-none x h =
+        judge-chain x
+        ∙ or-zero (sheetRefusal p orElse page-7 (length x)) (stray-8 x) (or-zero (sheetRefusal p) (page-7 (length x)) A (exact-none 7 (length x) (pageBytes p) (h .exact))) (off 8 (pageClear p x) (h .clear))
+
+    pub read-none : (x old : List ℕ) → IsPage p x → BlocksBuffer p old → readRefusal p x (length old) ≡ 0
+    read-none x old h e =
+        read-chain x (length old)
+        ∙ or-zero (sheetRefusal p orElse blocks-6 (length old) orElse page-7 (length x)) (stray-8 x)
+        (or-zero (sheetRefusal p) (blocks-6 (length old) orElse page-7 (length x)) A
+        (or-zero (blocks-6 (length old)) (page-7 (length x)) (exact-none 6 (length old) (dataBytes p) e) (exact-none 7 (length x) (pageBytes p) (h .exact)))) (off 8 (pageClear p x) (h .clear))
+
+    pub write-none : (L : ℕ) (a old : List ℕ) → Width L → Fits p a → PageBuffer p old → writeRefusal p L a (length old) ≡ 0
+    write-none L a old w h e =
+        write-chain L a (length old)
+        ∙ or-zero (sheetRefusal p orElse 5 when badWidth L orElse blocks-6 (length a) orElse page-7 (length old)) (8 when not (blocksClear p a))
+        (or-zero (sheetRefusal p) (5 when badWidth L orElse blocks-6 (length a) orElse page-7 (length old)) A
+        (or-zero (5 when badWidth L) (blocks-6 (length a) orElse page-7 (length old)) (off′ 5 (badWidth L) (width-good L w))
+        (or-zero (blocks-6 (length a)) (page-7 (length old)) (exact-none 6 (length a) (dataBytes p) (h .exact)) (exact-none 7 (length old) (pageBytes p) e)))) (off 8 (blocksClear p a) (h .clear))
+
+  -- ---- what judge calls a member is a page of accepted parameters
+  unrefused : (r : ℕ) (v : Verdict) → unlessRefused r v ≡ Verdict.Member → r ≡ 0
+  unrefused zero v e = refl
+  unrefused (suc r) v e = let z : _≡_ {A = ℕ} 0 1 = cc in absurd (Nat.not-suc-le-zero {n = 0} (omega arith))
+
+  judge-eq : (x : List ℕ) → judgeAnswer p x ≡ unlessRefused (judgeRefusal p x) (verdict p (wordsOf p x))
+  unfolding judgeAnswer
+  judge-eq x = refl
+
+  pub judged-page : (x : List ℕ) → Bytes x → judgeAnswer p x ≡ Verdict.Member → IsPage p x
+  judged-page x h e =
+      let z : judgeRefusal p x ≡ 0 = unrefused (judgeRefusal p x) (verdict p (wordsOf p x)) (sym (judge-eq x) ∙ e) in
+      let a = or-none (sheetRefusal p orElse page-7 (length x)) (stray-8 x) (sym (judge-chain x) ∙ z) in
+      let b = or-none (sheetRefusal p) (page-7 (length x)) (a .0) in
+      record { bytes = h; exact = eqb→eq (length x) (pageBytes p) (none 6 (eqb (length x) (pageBytes p)) 0 (or-zero (page-7 (length x)) 0 (b .1) refl) .0); clear = none 7 (pageClear p x) 0 (or-zero (stray-8 x) 0 (a .1) refl) .0 }
+
+  -- ---- the answers where nothing is refused
+  module _ (A : Accepted p) where
+    pub judge-is : (x : List ℕ) → IsPage p x → judgeAnswer p x ≡ verdict p (wordsOf p x)
+    judge-is x h = judge-eq x ∙ rw (judge-none A x h) refl
+
+    pub read-is : (x old : List ℕ) → IsPage p x → BlocksBuffer p old → readAnswer p x old ≡ verdict p (wordsOf p x)
+    unfolding readAnswer
+    read-is x old h e = rw (read-none A x old h e) refl
+
+    pub read-leaves : (x old : List ℕ) → IsPage p x → BlocksBuffer p old → readLeaves p x old ≡ dataOf p x
+    unfolding readLeaves
+    read-leaves x old h e = rw (read-none A x old h e) refl
+
+    pub write-done : (L : ℕ) (a old : List ℕ) → Width L → Fits p a → PageBuffer p old → writeAnswer p L a old ≡ Outcome.Done
+    write-done L a old w h e = rw (write-none A L a old w h e) refl
+
+    pub write-leaves : (L : ℕ) (a old : List ℕ) → Width L → Fits p a → PageBuffer p old → writeLeaves p L a old ≡ pageOf p a
+    write-leaves L a old w h e = rw (write-none A L a old w h e) refl
