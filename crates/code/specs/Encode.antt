@@ -8,7 +8,7 @@ use Prim.Native.Nat.{ℕ, zero, suc, _-_, _*_, _/_, _%_, _^_, _≤_, _<_, zero-l
 use native.Mathlib.Nat as Nat
 use native.Mathlib.Omega.{arith}
 use lib.Bits.{xor-shifted}
-use lib.Pow.{pow-pos, pow-mono, shl-lt, shl-shr, shr-lt, split}
+use lib.Pow.{pow-pos, pow-mono, shl-lt, shl-shr, shr-lt, split, low}
 use lib.ListN.{length}
 use Rattle.polynomial.specs.Clmul.{clmul, clmul-one-l, clmul-pow, clmul-xor-r, clmul-zero-l, clmul-zero-r}
 use Rattle.polynomial.specs.Division.{Deg, rem, rem-clmul-r, rem-lt, rem-md, rem-small, rem-xor, rem-zero, xor-lt, xor-shr}
@@ -16,7 +16,7 @@ use Rattle.polynomial.specs.Lists.{All, add, add-nil}
 use Rattle.polynomial.specs.Xor.{xor, xor-eq-zero, xor-is, xor-self, xor-zero-l, xor-zero-r, xors}
 use Rattle.field.specs.Field.{Field2, zero-mul}
 use Rattle.code.specs.declared.Parameters.{Parameters}
-use Rattle.code.specs.Code.{N, carried, checked, combine, dataFrom, dataPlace, dataWords, degree, encode, encodeFrom, gen}
+use Rattle.code.specs.Code.{N, carried, checked, combine, dataFrom, dataPlace, dataWords, degree, encode, encodeFrom, gen, remainder}
 use Rattle.code.specs.Distance.{Passing}
 use Rattle.code.specs.Layout.{dataBits}
 use Rattle.code.specs.Newton.{member-equal}
@@ -98,6 +98,13 @@ module _ (C : Parameters) (deg : (a : ℕ) → a ≤ C.v → Deg (gen C a) (degr
     checked-data d f =
         rw (checked-eq C a (d * 2 ^ degree C a) f, xor-shr (d * 2 ^ degree C a) (rem (gen C a) (degree C a) (xor (d * 2 ^ degree C a) f)) (degree C a), shl-shr d (degree C a), Nat.div-eq-of-lt (rem-lt (gen C a) (degree C a) (deg a l) (xor (d * 2 ^ degree C a) f)))
         (xor-zero-r d)
+
+    -- the check bits stand below
+    pub checked-low : (d f : ℕ) → checked C a (d * 2 ^ dataPlace (degree C a)) f % 2 ^ degree C a ≡ remainder C a (xor (d * 2 ^ degree C a) f)
+    checked-low d f =
+        ap (λ (y : ℕ). y % 2 ^ degree C a) (checked-eq C a (d * 2 ^ degree C a) f ∙ sym (xor-is (d * 2 ^ degree C a) (remainder C a (xor (d * 2 ^ degree C a) f)))
+        ∙ xor-shifted d (degree C a) (remainder C a (xor (d * 2 ^ degree C a) f)) (rem-lt (gen C a) (degree C a) (deg a l) (xor (d * 2 ^ degree C a) f)))
+        ∙ low d (degree C a) (rem-lt (gen C a) (degree C a) (deg a l) (xor (d * 2 ^ degree C a) f))
 
     checked-lt : (d f : ℕ) → degree C a ≤ len C → d < 2 ^ (len C - degree C a) → checked C a (d * 2 ^ degree C a) f < 2 ^ len C
     checked-lt d f h b =

@@ -20,3 +20,4 @@ pub mod Bytes
 pub mod Pages
 pub mod Judge
 pub mod Refused
+pub mod Placement

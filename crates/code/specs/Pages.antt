@@ -101,16 +101,19 @@ pub record IsWords (p : Parameters) (cs : List ℕ) : Type 0 where
   pub below : All (λ c. c < 2 ^ len p) cs
 
 -- ---- blocks
-blockBits-eq : (p : Parameters) → blockBits p ≡ map (dataBits p) (range 0 (p .m))
+pub blockBits-eq : (p : Parameters) → blockBits p ≡ map (dataBits p) (range 0 (p .m))
 unfolding blockBits
 blockBits-eq p = refl
 
-blockSizes-eq : (p : Parameters) → blockSizes p ≡ map (λ b. (b + 7) / 8) (blockBits p)
+pub blockSizes-eq : (p : Parameters) → blockSizes p ≡ map (λ b. (b + 7) / 8) (blockBits p)
 unfolding blockSizes
 blockSizes-eq p = refl
 
-length-blocks : (p : Parameters) → length (blockSizes p) ≡ p .m
-length-blocks p = rw (blockSizes-eq p, length-map, blockBits-eq p, length-map) (length-range 0 (p .m))
+pub length-bits : (p : Parameters) → length (blockBits p) ≡ p .m
+length-bits p = rw (blockBits-eq p, length-map) (length-range 0 (p .m))
+
+pub length-blocks : (p : Parameters) → length (blockSizes p) ≡ p .m
+length-blocks p = rw (blockSizes-eq p, length-map) (length-bits p)
 
 within-fits : (p : Parameters) (i k : ℕ) (ds : List ℕ) → length ds ≡ k → T (within (map (dataBits p) (range i k)) ds) → Sized p i ds
 unfolding within range
@@ -127,7 +130,7 @@ fits-within p i (suc k) [] h = tt
 fits-within p i (suc k) (d ∷ ds) h =
     and-both (ltb d (2 ^ dataBits p i)) (within (map (dataBits p) (range (suc i) k)) ds) (lt→ltb d (2 ^ dataBits p i) (h .0)) (fits-within p (suc i) k ds (h .1))
 
-whole : (b : ℕ) → b ≤ 8 * ((b + 7) / 8)
+pub whole : (b : ℕ) → b ≤ 8 * ((b + 7) / 8)
 whole b = omega arith
 
 fits-small : (p : Parameters) (i k : ℕ) (ds : List ℕ) → length ds ≡ k → Sized p i ds → Small (map (λ b. (b + 7) / 8) (map (dataBits p) (range i k))) ds
@@ -147,7 +150,7 @@ unfolding dataFrom
 length-data-from C i [] = refl
 length-data-from C i (c ∷ cs) = ap suc (length-data-from C (suc i) cs)
 
-length-data : (C : Parameters) (cs : List ℕ) → length (dataWords C cs) ≡ length cs
+pub length-data : (C : Parameters) (cs : List ℕ) → length (dataWords C cs) ≡ length cs
 unfolding dataWords
 length-data C cs = length-data-from C 0 cs
 
