@@ -7,11 +7,12 @@ use Prim.Native.Nat.{ℕ, zero, suc, _+_, _-_, _*_, _%_, _^_, _≤_, _<_}
 use native.Mathlib.Nat as Nat
 use native.Mathlib.Decide.{le-ind}
 use native.Mathlib.Omega.{arith}
-use lib.Dec.{T, eqb, leb, ltb, eqb→eq, leb→le, ltb→lt, le→leb}
-use Rattle.field.specs.Fields.{BinaryField, Known, fieldOf, fieldOf-length}
+use lib.Dec.{T, eqb, leb, ltb, eqb→eq, leb→le, ltb→lt, le→leb, lit≤}
+use Rattle.field.specs.Fields.{BinaryField, Known, fieldOf, fieldOf-exponent, fieldOf-length}
 use Rattle.field.specs.Irreducible.{both}
 use Rattle.field.specs.Powers.{n-pos, pow-mod, α≢0}
 use Rattle.generator.specs.Generator.{generator-deg, generator-iff, width-lt}
+use Rattle.generator.specs.Next.{width-le}
 use Rattle.code.specs.declared.Parameters.{Parameters}
 use Rattle.generator.specs.Generator as G
 use Rattle.code.specs.Code.{degree}
@@ -153,6 +154,19 @@ module _ (p : Parameters) (R : Rules p) where
 
   pub width-below : (a : ℕ) → a ≤ p .v → degree p a ≤ len p - 1
   width-below a h = rw (degree-eq p a, ← n-is) (G.width-lt B (strength p a) (rw n-is (omega (arith, R .short, rising a (p .v) h (Nat.le-refl (p .v))))))
+
+  -- a generator has degree at most q t_a, so at most 768: 13 words of 64 bits hold it, and 12 a remainder
+  pub degree-le : (a : ℕ) → degree p a ≤ p .q * strength p a
+  degree-le a = rw (degree-eq p a) (Nat.le-trans (width-le B (strength p a)) (Nat.le-of-eq (ap (λ (k : ℕ). k * strength p a) (fieldOf-exponent (p .q) (R .known)))))
+
+  q-high : (q : ℕ) → Known q → q ≤ 12
+  q-high q (inl e) = rw e (lit≤ tt)
+  q-high q (inr (inl e)) = rw e (lit≤ tt)
+  q-high q (inr (inr e)) = rw e (lit≤ tt)
+
+  pub degree-high : (a : ℕ) → a ≤ p .v → degree p a ≤ 768
+  degree-high a h =
+      Nat.le-trans (degree-le a) (Nat.mul-le-mul {n₂ = 12} {m₂ = 64} (q-high (p .q) (R .known)) (Nat.le-trans (rising a (p .v) h (Nat.le-refl (p .v))) (R .high)))
 
   pub lawful : Lawful (B .field) (B .α) p
   lawful = record {

@@ -21,3 +21,4 @@ pub mod Pages
 pub mod Judge
 pub mod Refused
 pub mod Placement
+pub mod Registers
