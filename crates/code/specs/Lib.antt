@@ -22,3 +22,4 @@ pub mod Judge
 pub mod Refused
 pub mod Placement
 pub mod Registers
+pub mod Buffers

@@ -60,7 +60,7 @@ dataBytes-eq : (p : Parameters) → dataBytes p ≡ sum (blockSizes p)
 unfolding dataBytes
 dataBytes-eq p = refl
 
-length-range : (i k : ℕ) → length (range i k) ≡ k
+pub length-range : (i k : ℕ) → length (range i k) ≡ k
 unfolding range
 length-range i zero = refl
 length-range i (suc k) = ap suc (length-range (suc i) k)

@@ -60,7 +60,7 @@ offset-replicate m b zero h = sym (Nat.zero-mul b)
 offset-replicate zero b (suc i) h = absurd (Nat.not-suc-le-zero h)
 offset-replicate (suc m) b (suc i) h = ap (λ (y : ℕ). b + y) (offset-replicate m b i (Nat.le-of-suc-le-suc h)) ∙ omega arith
 
-getD-map-range : (f : ℕ → ℕ) (a k i : ℕ) → i < k → getD (map f (range a k)) i 0 ≡ f (a + i)
+pub getD-map-range : (f : ℕ → ℕ) (a k i : ℕ) → i < k → getD (map f (range a k)) i 0 ≡ f (a + i)
 unfolding range
 getD-map-range f a zero i h = absurd (Nat.not-suc-le-zero h)
 getD-map-range f a (suc k) zero h = ap f (sym (Nat.add-zero a))

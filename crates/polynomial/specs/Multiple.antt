@@ -5,8 +5,8 @@ use Prim.Native.Nat.{ℕ, _≤_, _<_}
 use native.Mathlib.Nat.{lt-of-lt-of-le, le-of-suc-le-suc, lt-of-not-le}
 use lib.Pow.{pow-pos, pow-mono}
 use Rattle.polynomial.specs.Clmul.{clmul, clmul-one-l}
-use Rattle.polynomial.specs.Division.{Deg, deg-lt, lt-of-deg, lt-of-shr, xor-shr, rem, rem-small, rem-xor, rem-multiple, le-of-deg}
-use Rattle.polynomial.specs.Xor.{xor, xor-self, xor-eq-zero}
+use Rattle.polynomial.specs.Division.{Deg, deg-lt, lt-of-deg, lt-of-shr, xor-shr, rem, rem-small, rem-xor, rem-multiple, division, le-of-deg}
+use Rattle.polynomial.specs.Xor.{xor, xors, xor-self, xor-eq-zero}
 
 abbrev pub Multiple : ℕ → ℕ → Type 0
 Multiple g f = (h : ℕ) × (f ≡ clmul h g)
@@ -28,3 +28,10 @@ module _ (g k f : ℕ) (d : Deg g k) (z : rem g k f ≡ 0) where
     where
       own : rem g k g ≡ 0
       own = sym (ap (rem g k) (clmul-one-l g)) ∙ rem-multiple g k d 1
+
+-- a polynomial differs from its remainder by a multiple
+pub rem-differ : (g k : ℕ) → Deg g k → (f : ℕ) → Multiple g (xor f (rem g k f))
+rem-differ g k d f = (division g k d f .0, move f (clmul (division g k d f .0) g) (rem g k f) (division g k d f .1))
+  where
+    move : (f h r : ℕ) → f ≡ xor h r → xor f r ≡ h
+    move f h r e = rw e (simp xors)
