@@ -140,6 +140,11 @@ module _ (p : Parameters) where
       let c = none 2 (strengthsFit p) (4 when clashes p) (b .1) in
       rules (a .0) (b .0) (c .0) (last 3 (clashes p) (c .1))
 
+pub q-high : (q : ℕ) → Known q → q ≤ 12
+q-high q (inl e) = rw e (lit≤ tt)
+q-high q (inr (inl e)) = rw e (lit≤ tt)
+q-high q (inr (inr e)) = rw e (lit≤ tt)
+
 module _ (p : Parameters) (R : Rules p) where
   abbrev pub B : BinaryField
   B = fieldOf (p .q)
@@ -158,11 +163,6 @@ module _ (p : Parameters) (R : Rules p) where
   -- a generator has degree at most q t_a, so at most 768: 13 words of 64 bits hold it, and 12 a remainder
   pub degree-le : (a : ℕ) → degree p a ≤ p .q * strength p a
   degree-le a = rw (degree-eq p a) (Nat.le-trans (width-le B (strength p a)) (Nat.le-of-eq (ap (λ (k : ℕ). k * strength p a) (fieldOf-exponent (p .q) (R .known)))))
-
-  q-high : (q : ℕ) → Known q → q ≤ 12
-  q-high q (inl e) = rw e (lit≤ tt)
-  q-high q (inr (inl e)) = rw e (lit≤ tt)
-  q-high q (inr (inr e)) = rw e (lit≤ tt)
 
   pub degree-high : (a : ℕ) → a ≤ p .v → degree p a ≤ 768
   degree-high a h =

@@ -144,11 +144,11 @@ module _ (F : Field2) where
         (λ l r. nested-vanish cs M b h j p q l (omega arith))))
 
 -- ---- the distance is at most each of its formulas
-least-many : (C : Parameters) (k : ℕ) → least C k ≤ (C.v + 1) * (2 * strength C 0 + 1)
+pub least-many : (C : Parameters) (k : ℕ) → least C k ≤ (C.v + 1) * (2 * strength C 0 + 1)
 least-many C zero = Nat.le-refl ((C.v + 1) * (2 * strength C 0 + 1))
 least-many C (suc k) = Nat.le-trans (Nat.min-le-right (suc k * (2 * strength C (C.v - k) + 1)) (least C k)) (least-many C k)
 
-least-few : (C : Parameters) (k b : ℕ) → suc b ≤ k → least C k ≤ suc b * (2 * strength C (C.v - b) + 1)
+pub least-few : (C : Parameters) (k b : ℕ) → suc b ≤ k → least C k ≤ suc b * (2 * strength C (C.v - b) + 1)
 least-few C zero b h = absurd (Nat.not-suc-le-zero h)
 least-few C (suc k) b h = go (least-few C k b) (Nat.eq-or-lt-of-le (Nat.le-of-suc-le-suc h))
   where

@@ -23,3 +23,6 @@ pub mod Refused
 pub mod Placement
 pub mod Registers
 pub mod Buffers
+-- What demands 2 and 3 say, and the theorem:
+pub mod Demands
+pub mod Theorems

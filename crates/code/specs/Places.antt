@@ -39,6 +39,10 @@ pub addBelow-ext : (n : ℕ) (f g : ℕ → ℕ) → ((k : ℕ) → k < n → f 
 addBelow-ext zero f g h = addBelow-zero f ∙ sym (addBelow-zero g)
 addBelow-ext (suc n) f g h = addBelow-suc n f ∙ ap₂ _+_ (addBelow-ext n f g (λ k l. h k (Nat.le-step l))) (h n (Nat.le-refl (suc n))) ∙ sym (addBelow-suc n g)
 
+pub countBelow-ext : (n : ℕ) (P Q : ℕ → Bool) → ((k : ℕ) → k < n → P k ≡ Q k) → countBelow n P ≡ countBelow n Q
+countBelow-ext n P Q h =
+    countBelow-eq n P ∙ addBelow-ext n (λ k. cond (P k) 1 0) (λ k. cond (Q k) 1 0) (λ k l. ap (λ (b : Bool). cond b 1 0) (h k l)) ∙ sym (countBelow-eq n Q)
+
 addBelow-front : (n : ℕ) (f : ℕ → ℕ) → addBelow (suc n) f ≡ f 0 + addBelow n (λ k. f (suc k))
 addBelow-front zero f = addBelow-suc 0 f ∙ rw (addBelow-zero f, addBelow-zero (λ k. f (suc k))) (omega arith)
 addBelow-front (suc n) f =

@@ -1,0 +1,187 @@
+-- What demands 2 and 3 say, as types, for accepted parameters. The proofs stand in Theorems.
+-- The calls appear by what they promise: Written p L blocks old after r is write's promise of its answer r and of the page buffer after it,
+-- and so are ReadOut and Judged; each call has a width and buffers of its own, of any old content.
+--   GeneratorOf q t g    g is the generator for strength t over the field of q: document 01's words
+--   Demand2 p            fields, generators, remainders, syndromes, registers, placement, membership and written pages are those of the code
+--   Demand3 p            alike at every two widths; sums; members are what is written again; distance
+use mathlib.Core.Path.{_≡_}
+use mathlib.Core.Logic.{_≢_, _↔_}
+use mathlib.Core.List.{List, []}
+use Prim.Native.Nat.{ℕ, suc, _+_, _-_, _*_, _/_, _%_, _^_, _≤_, _<_}
+use lib.ListN.{length, getD, take, drop}
+use Rattle.polynomial.specs.Bits.{coefficient}
+use Rattle.polynomial.specs.Clmul.{clmul}
+use Rattle.polynomial.specs.Digits.{value}
+use Rattle.polynomial.specs.Division.{Deg, deg}
+use Rattle.polynomial.specs.Lists.{All, add}
+use Rattle.polynomial.specs.Multiple.{Multiple}
+use Rattle.polynomial.specs.Xor.{xor}
+use Rattle.field.specs.Elements.{power, sumBelow, syndrome}
+use Rattle.field.specs.Fields.{fieldPolynomial}
+use Rattle.field.specs.Irreducible.{NoFactor}
+use Rattle.code.specs.declared.Parameters.{Parameters}
+use Rattle.code.specs.declared.Outcome.{Outcome}
+use Rattle.code.specs.declared.Verdict.{Verdict}
+use Rattle.code.specs.Calls.{Judged, ReadOut, Written, asBytes, empty, generators, nestedOf, nestedSyndromeList, nestedWordBytes, opened, outcome, remainderBytes, shortBytes, subWordOf, syndromeList}
+use Rattle.code.specs.Code.{IsMember, N, carried, degree, distance, divisor, gen, nested, newton, remainder, shortRemainder}
+use Rattle.code.specs.Layout.{Bytes, Fits, IsPage, blockBit, blocksOf, coefficientOf, dataOf, differences, pageOf, wordsOf}
+use Rattle.code.specs.Lists.{sum}
+use Rattle.code.specs.Parameters.{Accepted, full, len, stored, strength}
+use Rattle.code.specs.Refused.{BlocksBuffer, PageBuffer, Width}
+use Rattle.code.specs.Registers.{AllDone, cut, feedings}
+
+-- ---- demand 2: the field and the generators
+-- the field polynomial has degree q and no factor, and α has order n: no power repeats
+pub record FieldLaws (p : Parameters) : Type 0 where
+  pub polynomial : Deg (fieldPolynomial (p .q)) (p .q)
+  pub irreducible : NoFactor (fieldPolynomial (p .q)) (2 ^ p .q)
+  pub full-order : power (p .q) (len p) ≡ 1
+  pub no-less : (k : ℕ) → 0 < k → k < len p → power (p .q) k ≢ 1
+
+-- c vanishes at α^1 to α^(2t)
+abbrev pub Vanishes : ℕ → ℕ → ℕ → Type 0
+Vanishes q t c = (j : ℕ) → 1 ≤ j → j ≤ 2 * t → syndrome q c j ≡ 0
+
+pub record GeneratorOf (q t g : ℕ) : Type 0 where
+  pub non-zero : 0 < g
+  pub vanishes : Vanishes q t g
+  pub lowest : (f : ℕ) → 0 < f → Vanishes q t f → deg g ≤ deg f
+
+pub record GeneratorLaws (p : Parameters) (a : ℕ) : Type 0 where
+  pub is : GeneratorOf (p .q) (strength p a) (gen p a)
+  pub alone : (f : ℕ) → Deg f (degree p a) → Vanishes (p .q) (strength p a) f → f ≡ gen p a
+  pub of-degree : Deg (gen p a) (degree p a)
+  pub degree-bound : degree p a ≤ p .q * strength p a
+  pub degree-below : degree p a ≤ len p - 1
+  pub multiples : (c : ℕ) → Multiple (gen p a) c ↔ Vanishes (p .q) (strength p a) c
+  pub cyclic : Multiple (gen p a) (2 ^ len p + 1)
+  pub next : a < p .v → Multiple (gen p a) (gen p (a + 1))
+  pub row : value 64 (getD (generators p) a []) ≡ gen p a
+
+-- ---- demand 2: remainders, syndromes, registers
+pub record RemainderLaws (p : Parameters) (a c : ℕ) : Type 0 where
+  pub below : remainder p a c < 2 ^ degree p a
+  pub differs : Multiple (gen p a) (xor c (remainder p a c))
+
+-- nested word l of the words cs, by g_(v-l) / g_0
+pub record ShortLaws (p : Parameters) (l : ℕ) (cs : List ℕ) : Type 0 where
+  pub divisor-is : clmul (divisor p l) (gen p 0) ≡ gen p (p .v - l)
+  pub divisor-of : Deg (divisor p l) (degree p (p .v - l) - degree p 0)
+  pub below : shortRemainder p l cs < 2 ^ (degree p (p .v - l) - degree p 0)
+  pub differs : Multiple (divisor p l) (xor (nested p l cs) (shortRemainder p l cs))
+
+-- S_j = Σ c_k × α^(j k)
+pub record SyndromeLaws (p : Parameters) (c j : ℕ) : Type 0 where
+  pub is-sum : c < 2 ^ len p → syndrome (p .q) c j ≡ sumBelow (len p) (λ k. coefficient c k * power (p .q) (j * k))
+  pub below : syndrome (p .q) c j < 2 ^ p .q
+
+-- a polynomial c fed from the empty register, highest power first, in parts of the widths Ls
+pub record RegisterLaws (p : Parameters) (a c : ℕ) (Ls : List ℕ) : Type 0 where
+  pub opens : opened p a ≡ record { outcome = Outcome.Done; register = empty a }
+  pub done : AllDone p (empty a) (cut c Ls)
+  pub level : feedings p (empty a) (cut c Ls) .level ≡ a
+  pub count : feedings p (empty a) (cut c Ls) .count ≡ sum Ls
+  pub remainder-is : value 64 (feedings p (empty a) (cut c Ls) .remainder) ≡ remainder p a c
+
+-- what the one-word calls lay out, read back
+pub record BufferLaws (p : Parameters) (x : List ℕ) : Type 0 where
+  pub remainder-bytes : (i : ℕ) → value 8 (remainderBytes p x i) ≡ remainder p 0 (subWordOf p x i)
+  pub short-bytes : (l : ℕ) → value 8 (shortBytes p x l) ≡ shortRemainder p l (wordsOf p x)
+  pub nested-bytes : (l : ℕ) → value 8 (nestedWordBytes p x l) ≡ nestedOf p x l
+  pub syndrome-at : (i j : ℕ) → j < 2 * strength p 0 → getD (syndromeList p x i) j 0 ≡ syndrome (p .q) (subWordOf p x i) (suc j)
+  pub nested-syndrome-at : (l j : ℕ) → j < 2 * strength p (p .v - l) → getD (nestedSyndromeList p x l) j 0 ≡ syndrome (p .q) (nestedOf p x l) (suc j)
+  pub syndrome-bytes : (i j : ℕ) → j < 2 * strength p 0 → value 8 (take 2 (drop (2 * j) (asBytes (syndromeList p x i)))) ≡ syndrome (p .q) (subWordOf p x i) (suc j)
+  pub nested-syndrome-bytes : (l j : ℕ) → j < 2 * strength p (p .v - l)
+      → value 8 (take 2 (drop (2 * j) (asBytes (nestedSyndromeList p x l)))) ≡ syndrome (p .q) (nestedOf p x l) (suc j)
+
+-- ---- demand 2: placement, membership, written pages
+pub record PlacementLaws (p : Parameters) : Type 0 where
+  -- the coefficient of x^k of sub-word i is bit k mod 8 of byte i × 2^q / 8 + k div 8
+  pub sub-word : (x : List ℕ) → IsPage p x → (i k : ℕ) → i < p .m → k < stored p
+      → coefficient (subWordOf p x i) k ≡ coefficient (getD x (i * (2 ^ p .q / 8) + k / 8) 0) (k % 8)
+  -- bit r of block i is the coefficient of x^(w + r) of sub-word i, in the written page and in what read out gives
+  pub written : (b : List ℕ) → Fits p b → (i r : ℕ) → i < p .m → r < stored p - degree p (p .v - i)
+      → coefficientOf p (pageOf p b) i (degree p (p .v - i) + r) ≡ blockBit p b i r
+  pub read : (x : List ℕ) → IsPage p x → (i r : ℕ) → i < p .m → r < stored p - degree p (p .v - i)
+      → blockBit p (dataOf p x) i r ≡ coefficientOf p x i (degree p (p .v - i) + r)
+  -- the check bits are the w lowest
+  pub checks : (b : List ℕ) → Fits p b → (i : ℕ) → i < p .m
+      → subWordOf p (pageOf p b) i % 2 ^ degree p (p .v - i)
+      ≡ remainder p (p .v - i) (xor (getD (blocksOf p b) i 0 * 2 ^ degree p (p .v - i)) (carried (p .v - i) i (drop (suc i) (wordsOf p (pageOf p b)))))
+
+-- judge's answer r for a page x: member exactly when the words are; a failing word is named exactly when it is the lowest, sub-words first
+pub record JudgeLaws (p : Parameters) (x : List ℕ) (r : Verdict) : Type 0 where
+  pub member : (r ≡ Verdict.Member) ↔ IsMember p (wordsOf p x)
+  pub sub-word : (i : ℕ) → (r ≡ Verdict.SubWord i)
+      ↔ ((i < p .m) × (¬ Multiple (gen p 0) (subWordOf p x i)) × ((k : ℕ) → k < i → Multiple (gen p 0) (subWordOf p x k)))
+  pub nested-word : (l : ℕ) → (r ≡ Verdict.NestedWord l)
+      ↔ ((l < p .v) × ((i : ℕ) → i < p .m → Multiple (gen p 0) (subWordOf p x i))
+      × (¬ Multiple (gen p (p .v - l)) (nestedOf p x l))
+      × ((k : ℕ) → k < l → Multiple (gen p (p .v - k)) (nestedOf p x k)))
+
+-- write's answer r and page for blocks that fit: a member, whose blocks read back as given
+pub record WriteLaws (p : Parameters) (blocks after : List ℕ) (r : Outcome) : Type 0 where
+  pub done : r ≡ Outcome.Done
+  pub page : IsPage p after
+  pub member : IsMember p (wordsOf p after)
+  pub judged : (j : Verdict) → Judged p after j → j ≡ Verdict.Member
+  pub read : (old out : List ℕ) (j : Verdict) → BlocksBuffer p old → ReadOut p after old out j → (j ≡ Verdict.Member) × (out ≡ blocks)
+
+-- the equal form is equal as a whole
+pub record EqualFormLaws (p : Parameters) : Type 0 where
+  pub as-whole : (cs : List ℕ) → length cs ≡ p .m
+      → ((l : ℕ) → l < p .v → Multiple (gen p (p .v - l)) (nested p l cs)) ↔ ((l : ℕ) → l < p .v → Multiple (gen p (p .v - l)) (newton l cs))
+  pub from-l : (i l : ℕ) → i < l → N i l ≡ 0
+
+pub record Demand2 (p : Parameters) : Type 0 where
+  pub field-laws : FieldLaws p
+  pub generator-laws : (a : ℕ) → a ≤ p .v → GeneratorLaws p a
+  pub remainder-laws : (a : ℕ) → a ≤ p .v → (c : ℕ) → RemainderLaws p a c
+  pub short-laws : (l : ℕ) → l < p .v → (cs : List ℕ) → ShortLaws p l cs
+  pub syndrome-laws : (c j : ℕ) → SyndromeLaws p c j
+  pub register-laws : (a : ℕ) → a ≤ p .v → (c : ℕ) (Ls : List ℕ) → All Width Ls → sum Ls ≤ full p → c < 2 ^ sum Ls → RegisterLaws p a c Ls
+  pub buffer-laws : (x : List ℕ) → BufferLaws p x
+  pub placement-laws : PlacementLaws p
+  pub judge-laws : (x : List ℕ) (r : Verdict) → IsPage p x → Judged p x r → JudgeLaws p x r
+  pub write-laws : (L : ℕ) (blocks old after : List ℕ) (r : Outcome) → Width L → Fits p blocks → PageBuffer p old → Written p L blocks old after r → WriteLaws p blocks after r
+  pub equal-form-laws : EqualFormLaws p
+
+-- ---- demand 3
+-- the same answer and, when that is done, the same page
+pub record Alike (after after′ : List ℕ) (r r′ : Outcome) : Type 0 where
+  pub answers : r ≡ r′
+  pub pages : r ≡ Outcome.Done → after ≡ after′
+
+-- the page of the sum is the sum of the pages
+pub record Sums (p : Parameters) (a b page-a page-b page-sum : List ℕ) (r-a r-b r-sum : Outcome) : Type 0 where
+  pub fits : Fits p (add a b)
+  pub done-a : r-a ≡ Outcome.Done
+  pub done-b : r-b ≡ Outcome.Done
+  pub done : r-sum ≡ Outcome.Done
+  pub page : page-sum ≡ add page-a page-b
+
+-- a page x, judged j, read out with the answer r, and its blocks written again
+pub record Rewrites (x after : List ℕ) (j r : Verdict) (w : Outcome) : Type 0 where
+  pub done : w ≡ Outcome.Done
+  pub by-judge : (j ≡ Verdict.Member) ↔ (after ≡ x)
+  pub by-read-out : (r ≡ Verdict.Member) ↔ (after ≡ x)
+
+-- the distance is the smallest of (v + 1)(2 t_0 + 1) and b (2 t_(v-b+1) + 1), b from 1 to v
+abbrev pub Smallest : Parameters → Type 0
+Smallest p = (d : ℕ) → (d ≤ distance p) ↔ ((d ≤ (p .v + 1) * (2 * strength p 0 + 1)) × ((b : ℕ) → 1 ≤ b → b ≤ p .v → d ≤ b * (2 * strength p (p .v - b + 1) + 1)))
+
+pub record Demand3 (p : Parameters) : Type 0 where
+  pub alike : (L M : ℕ) (blocks old old′ after after′ : List ℕ) (r r′ : Outcome) → Width L → Width M → length old ≡ length old′
+      → Written p L blocks old after r → Written p M blocks old′ after′ r′ → Alike after after′ r r′
+  pub sums : (K L M : ℕ) (a b old-a old-b old-sum page-a page-b page-sum : List ℕ) (r-a r-b r-sum : Outcome) → Width K → Width L → Width M → Fits p a → Fits p b
+      → PageBuffer p old-a → PageBuffer p old-b → PageBuffer p old-sum
+      → Written p K a old-a page-a r-a → Written p L b old-b page-b r-b → Written p M (add a b) old-sum page-sum r-sum
+      → Sums p a b page-a page-b page-sum r-a r-b r-sum
+  pub rewrites : (L : ℕ) (x old-blocks blocks old-page after : List ℕ) (j r : Verdict) (w : Outcome) → Width L → IsPage p x → BlocksBuffer p old-blocks → PageBuffer p old-page
+      → Judged p x j → ReadOut p x old-blocks blocks r → Written p L blocks old-page after w → Rewrites x after j r w
+  pub apart : (x y : List ℕ) → Bytes x → Bytes y → Judged p x Verdict.Member → Judged p y Verdict.Member → x ≢ y → distance p ≤ differences p x y
+  pub smallest : Smallest p
+
+-- ---- both, for every accepted sheet
+abbrev pub Demands : Type 0
+Demands = (p : Parameters) → Accepted p → Demand2 p × Demand3 p

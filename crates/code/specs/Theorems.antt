@@ -1,0 +1,302 @@
+-- THE THEOREM: demands 2 and 3 hold for all accepted parameters.
+use mathlib.Core.Path.{_≡_, refl, sym, ap, ap₂, _∙_}
+use mathlib.Core.Logic.{_≢_, _↔_, _⊎_, inl, inr}
+use mathlib.Core.Bool.{Bool, not}
+use mathlib.Core.List.{List}
+use Prim.Native.Nat.{ℕ, zero, suc, _+_, _-_, _*_, _/_, _%_, _^_, _≤_, _<_, zero-le, suc-le-suc, min}
+use native.Mathlib.Nat as Nat
+use native.Mathlib.Omega.{arith}
+use lib.Dec.{eqb, lit≤}
+use lib.ListN.{length, getD, take, drop}
+use lib.Pow.{pow-mono}
+use Rattle.polynomial.specs.Bits.{coefficient}
+use Rattle.polynomial.specs.Digits.{value}
+use Rattle.polynomial.specs.Division.{Deg, rem-lt}
+use Rattle.polynomial.specs.Lists.{All, add, at-all}
+use Rattle.polynomial.specs.Multiple.{Multiple, multiple-same, rem-differ}
+use Rattle.field.specs.Elements.{power-full, power-order, syndrome, syndrome-iff, syndrome-lt, syndrome-sum}
+use Rattle.field.specs.Fields.{BinaryField, fieldOf, irreducible, polynomial-degree, polynomial-irreducible}
+use Rattle.generator.specs.Generator.{HasRoots, generator-cyclic, generator-is}
+use Rattle.generator.specs.Lists.{member}
+use Rattle.code.specs.declared.Parameters.{Parameters}
+use Rattle.code.specs.declared.Outcome.{Outcome}
+use Rattle.code.specs.declared.Verdict.{Verdict}
+use Rattle.code.specs.declared.Register.{Register}
+use Rattle.generator.specs.Generator as G
+use Rattle.code.specs.Accepted.{Rules, accepted, degree-le, lawful, n-is, q-high, width-below}
+use Rattle.code.specs.Buffers.{bytes-at, divides-up, divisor-deg, divisor-degree, divisor-times, length-syndromes, nested-back, remainder-back, row-back, short-back, short-differ, short-lt, syndromes-at}
+use Rattle.code.specs.Calls.{Judged, ReadOut, Written, asBytes, empty, judgeAnswer, leaves, nestedOf, nestedSyndromeList, outcome, subWordOf, syndromeList}
+use Rattle.code.specs.Code.{IsMember, degree, distance, gen, least, level, nested, newton, remainder, syndromes, verdict}
+use Rattle.code.specs.Demands.{Alike, BufferLaws, Demand2, Demand3, Demands, GeneratorLaws, GeneratorOf, JudgeLaws, RegisterLaws, Rewrites, ShortLaws, Smallest, Sums, Vanishes, WriteLaws}
+use Rattle.code.specs.Distance.{Passing, least-few, least-many}
+use Rattle.code.specs.Encode.{N-above, encode-member, member-encode}
+use Rattle.code.specs.Judge.{member-passing, multiple-iff, passing-member, verdict-member, verdict-nested, verdict-sub}
+use Rattle.code.specs.Layout.{Bytes, Fits, IsPage, blocksOf, coefficientOf, dataOf, differences, pageOf, wordSizes, wordsOf}
+use Rattle.code.specs.Lists.{addBelow, countBelow, join, sum}
+use Rattle.code.specs.Newton.{nesteds-of, newtons-of}
+use Rattle.code.specs.Pages.{IsWords, again-from, again-to, data-fit, join-words, page-back, page-has, page-is, page-words, sum-fits, sum-page}
+use Rattle.code.specs.Parameters.{Accepted, full, len, stored, strength}
+use Rattle.code.specs.Placement.{check-bits, read-bit, sub-word-bit, written-bit}
+use Rattle.code.specs.Places.{addBelow-ext, countBelow-ext, distance-places}
+use Rattle.code.specs.Refusals.{writeRefusal}
+use Rattle.code.specs.Refused.{BlocksBuffer, PageBuffer, Width, judge-is, judged-page, read-is, read-leaves, write-alike, write-done, write-leaves}
+use Rattle.code.specs.Registers.{cut, fed-done, fed-holds, feedings, holding, opened-empty, register-back}
+use Rattle.code.specs.Steps.{Divides, degree-eq, gen-eq}
+
+-- ---- the distance is the smallest of its formulas
+abbrev formula : Parameters → ℕ → ℕ
+formula p b = b * (2 * strength p (p .v - b + 1) + 1)
+
+above : (v b : ℕ) → suc b ≤ v → v - suc b + 1 ≡ v - b
+above v b h = omega arith
+
+least-below : (p : Parameters) (k d : ℕ) → k ≤ p .v → d ≤ (p .v + 1) * (2 * strength p 0 + 1) → ((b : ℕ) → 1 ≤ b → b ≤ k → d ≤ formula p b) → d ≤ least p k
+least-below p zero d l h f = h
+least-below p (suc k) d l h f =
+    Nat.le-min (rw (above (p .v) k l) at (f (suc k) (suc-le-suc zero-le) (Nat.le-refl (suc k)))) (least-below p k d (Nat.le-of-suc-le l) h (λ b i j. f b i (Nat.le-step j)))
+
+smallest : (p : Parameters) → Smallest p
+unfolding distance
+smallest p d = (
+  (λ h. (Nat.le-trans h (least-many p (p .v)), (λ b i l. Nat.le-trans h (few b i l)))),
+  (λ h. least-below p (p .v) d (Nat.le-refl (p .v)) (h .0) (h .1)),
+)
+  where
+    few : (b : ℕ) → 1 ≤ b → b ≤ p .v → least p (p .v) ≤ formula p b
+    few zero i l = absurd (Nat.not-suc-le-zero i)
+    few (suc b) i l = rw (above (p .v) b l) (least-few p (p .v) b l)
+
+-- ---- promises
+refused-not-done : (r : ℕ) (x old old′ : List ℕ) → outcome r ≡ Outcome.Done → leaves r x old ≡ leaves r x old′
+refused-not-done zero x old old′ e = refl
+refused-not-done (suc r) x old old′ e = let z : _≡_ {A = ℕ} 0 1 = cc in absurd (Nat.not-suc-le-zero {n = 0} (omega arith))
+
+module _ (p : Parameters) (A : Accepted p) where
+  R : Rules p
+  R = accepted p A
+
+  abbrev B : BinaryField
+  B = fieldOf (p .q)
+
+  D : (a : ℕ) → a ≤ p .v → Deg (gen p a) (degree p a)
+  D = lawful p R .degrees
+
+  -- ---- the generators
+  silent : (a c : ℕ) → Vanishes (p .q) (strength p a) c → G.HasRoots B (strength p a) c
+  silent a c h j i k = syndrome-iff (p .q) (R .known) c j .0 (h j i k)
+
+  silenced : (a c : ℕ) → G.HasRoots B (strength p a) c → Vanishes (p .q) (strength p a) c
+  silenced a c h j i k = syndrome-iff (p .q) (R .known) c j .1 (h j i k)
+
+  generator-of : (a : ℕ) → GeneratorOf (p .q) (strength p a) (gen p a)
+  generator-of a =
+      let g = G.generator-is B (strength p a) in
+      rw (gen-eq p a) (record {
+        non-zero = g .nonzero;
+        vanishes = silenced a (G.generator B (strength p a)) (g .roots);
+        lowest = λ f l r. g .least f l (silent a f r);
+      })
+
+  generators-are : (a : ℕ) → a ≤ p .v → GeneratorLaws p a
+  generators-are a h = record {
+    is = generator-of a;
+    alone = λ f d s. multiple-same (gen p a) (degree p a) f (D a h) (lawful p R .roots a h f .1 (silent a f s)) d;
+    of-degree = D a h;
+    degree-bound = degree-le p R a;
+    degree-below = width-below p R a h;
+    multiples = λ c. ((λ M. silenced a c (lawful p R .roots a h c .0 (multiple-iff p R a h c .1 M))), (λ s. multiple-iff p R a h c .0 (lawful p R .roots a h c .1 (silent a c s))));
+    cyclic = multiple-iff p R a h (2 ^ len p + 1) .0 (rw (gen-eq p a, degree-eq p a, ← n-is p R) (G.generator-cyclic B (strength p a)));
+    next = λ l. multiple-iff p R a h (gen p (a + 1)) .0 (divides-up p R a (a + 1) (omega arith) (omega arith));
+    row = row-back p R A a h;
+  }
+
+  -- ---- remainders, syndromes, registers, buffers
+  shorts-are : (l : ℕ) (cs : List ℕ) → ShortLaws p l cs
+  shorts-are l cs = record {
+    divisor-is = divisor-times p R l;
+    divisor-of = rw (← divisor-degree p R l) (divisor-deg p R l);
+    below = rw (← divisor-degree p R l) (short-lt p R l cs);
+    differs = short-differ p R l cs;
+  }
+
+  registers-are : (a : ℕ) → a ≤ p .v → (c : ℕ) (Ls : List ℕ) → All Width Ls → sum Ls ≤ full p → c < 2 ^ sum Ls → RegisterLaws p a c Ls
+  registers-are a h c Ls w b l =
+      let e : feedings p (empty a) (cut c Ls) ≡ holding a (sum Ls) (remainder p a c) = fed-holds p A a h c Ls w b l in
+      record {
+        opens = opened-empty p A a h;
+        done = fed-done p A a h c Ls w b l;
+        level = ap (λ (r : Register). r .level) e;
+        count = ap (λ (r : Register). r .count) e;
+        remainder-is = ap (λ (r : Register). value 64 (r .remainder)) e ∙ register-back p A a h c;
+      }
+
+  -- a syndrome takes at most 12 bits, so 16 hold it
+  all-small : (k c : ℕ) → All (λ x. x < 2 ^ 16) (syndromes p k c)
+  all-small k c =
+      at-all (λ x. x < 2 ^ 16) (syndromes p k c) (λ j l.
+      rw (syndromes-at p k c j (rw (length-syndromes p k c) at l)) (Nat.lt-of-lt-of-le (syndrome-lt (p .q) (R .known) c (suc j)) (pow-mono {j = 16} (Nat.le-trans (q-high (p .q) (R .known)) (lit≤ {m = 12} {n = 16} tt)))))
+
+  buffers-are : (x : List ℕ) → BufferLaws p x
+  unfolding syndromeList nestedSyndromeList
+  buffers-are x = record {
+    remainder-bytes = remainder-back p R x;
+    short-bytes = λ l. short-back p R l x;
+    nested-bytes = nested-back p R x;
+    syndrome-at = λ i j h. syndromes-at p (2 * strength p 0) (subWordOf p x i) j h;
+    nested-syndrome-at = λ l j h. syndromes-at p (2 * strength p (p .v - l)) (nestedOf p x l) j h;
+    syndrome-bytes = λ i j h. in-bytes (2 * strength p 0) (subWordOf p x i) j h;
+    nested-syndrome-bytes = λ l j h. in-bytes (2 * strength p (p .v - l)) (nestedOf p x l) j h;
+  }
+    where
+      in-bytes : (k c j : ℕ) → j < k → value 8 (take 2 (drop (2 * j) (asBytes (syndromes p k c)))) ≡ syndrome (p .q) c (suc j)
+      in-bytes k c j h = bytes-at (syndromes p k c) (all-small k c) j (rw (length-syndromes p k c) h) ∙ syndromes-at p k c j h
+
+  -- ---- members
+  judged-laws : (x : List ℕ) (r : Verdict) → IsPage p x → Judged p x r → JudgeLaws p x r
+  judged-laws x r h J =
+      let e : r ≡ verdict p (wordsOf p x) = J .answers ∙ judge-is p A x h in
+      record {
+        member = rw e (verdict-member p R (wordsOf p x));
+        sub-word = λ i. rw e (verdict-sub p R (wordsOf p x) i);
+        nested-word = λ l. rw e (verdict-nested p R (wordsOf p x) l);
+      }
+
+  member-iff : (x : List ℕ) → IsPage p x → (judgeAnswer p x ≡ Verdict.Member) ↔ IsMember p (wordsOf p x)
+  member-iff x h = rw (judge-is p A x h) (verdict-member p R (wordsOf p x))
+
+  judged-passing : (x : List ℕ) → IsPage p x → judgeAnswer p x ≡ Verdict.Member → Passing p (wordsOf p x)
+  judged-passing x h e = member-passing p R (wordsOf p x) (member-iff x h .0 e) (page-words p R x h .many)
+
+  passing-judged : (x : List ℕ) → IsPage p x → Passing p (wordsOf p x) → judgeAnswer p x ≡ Verdict.Member
+  passing-judged x h M = member-iff x h .1 (passing-member p R (wordsOf p x) M (page-words p R x h .many))
+
+  -- ---- what write makes
+  page-passing : (a : List ℕ) → Fits p a → Passing p (wordsOf p (pageOf p a))
+  page-passing a h = rw (page-has p R a h) (encode-member (B .field) (B .α) p (lawful p R) (blocksOf p a))
+
+  after-is : (L : ℕ) (a old after : List ℕ) (r : Outcome) → Width L → Fits p a → PageBuffer p old → Written p L a old after r → (r ≡ Outcome.Done) × (after ≡ pageOf p a)
+  after-is L a old after r w h e W = (W .answers ∙ write-done p A L a old w h e, W .buffer ∙ write-leaves p A L a old w h e)
+
+  written-laws : (L : ℕ) (a old after : List ℕ) (r : Outcome) → Width L → Fits p a → PageBuffer p old → Written p L a old after r → WriteLaws p a after r
+  written-laws L a old after r w h e W =
+      let x : IsPage p (pageOf p a) = page-is p R a h in
+      let j : judgeAnswer p (pageOf p a) ≡ Verdict.Member = passing-judged (pageOf p a) x (page-passing a h) in
+      let s : after ≡ pageOf p a = after-is L a old after r w h e W .1 in
+      record {
+        done = after-is L a old after r w h e W .0;
+        page = rw s x;
+        member = rw s (member-iff (pageOf p a) x .0 j);
+        judged = λ v J. J .answers ∙ rw s j;
+        read = λ other out v b O. (
+          O .answers ∙ rw s (read-is p A (pageOf p a) other x b ∙ sym (judge-is p A (pageOf p a) x) ∙ j),
+          O .buffer ∙ rw s (read-leaves p A (pageOf p a) other x b ∙ page-back p R a h),
+        );
+      }
+
+  -- ---- the equal form
+  equal-form : (cs : List ℕ) → ((l : ℕ) → l < p .v → Multiple (gen p (p .v - l)) (nested p l cs)) ↔ ((l : ℕ) → l < p .v → Multiple (gen p (p .v - l)) (newton l cs))
+  equal-form cs = (
+    (λ M l h. shown l (newton l cs) (newtons-of (B .field) (B .α) p (lawful p R) cs (λ l h. plain l (nested p l cs) (M l h)) l h)),
+    (λ M l h. shown l (nested p l cs) (nesteds-of (B .field) (B .α) p (lawful p R) cs (λ l h. plain l (newton l cs) (M l h)) l h)),
+  )
+    where
+      plain : (l c : ℕ) → Multiple (gen p (p .v - l)) c → Divides p (p .v - l) c
+      plain l c = multiple-iff p R (p .v - l) (Nat.sub-le (p .v) l) c .1
+
+      shown : (l c : ℕ) → Divides p (p .v - l) c → Multiple (gen p (p .v - l)) c
+      shown l c = multiple-iff p R (p .v - l) (Nat.sub-le (p .v) l) c .0
+
+  pub demand2 : Demand2 p
+  demand2 = record {
+    field-laws = record {
+      polynomial = polynomial-degree (p .q) (R .known);
+      irreducible = polynomial-irreducible (p .q) (R .known);
+      full-order = power-full (p .q) (R .known);
+      no-less = power-order (p .q) (R .known);
+    };
+    generator-laws = generators-are;
+    remainder-laws = λ a h c. record { below = rem-lt (gen p a) (degree p a) (D a h) c; differs = rem-differ (gen p a) (degree p a) (D a h) c };
+    short-laws = λ l h cs. shorts-are l cs;
+    syndrome-laws = λ c j. record { is-sum = syndrome-sum (p .q) (R .known) (len p) c j; below = syndrome-lt (p .q) (R .known) c j };
+    register-laws = registers-are;
+    buffer-laws = buffers-are;
+    placement-laws = record {
+      sub-word = λ x h. sub-word-bit p R x (h .bytes);
+      written = written-bit p R;
+      read = read-bit p R;
+      checks = check-bits p R;
+    };
+    judge-laws = judged-laws;
+    write-laws = written-laws;
+    equal-form-laws = record { as-whole = λ cs e. equal-form cs; from-l = N-above };
+  }
+
+  -- ---- demand 3
+  alike : (L M : ℕ) (a old old′ after after′ : List ℕ) (r r′ : Outcome) → Width L → Width M → length old ≡ length old′
+      → Written p L a old after r → Written p M a old′ after′ r′ → Alike after after′ r r′
+  alike L M a old old′ after after′ r r′ w w′ e W W′ =
+      let s : writeRefusal p L a (length old) ≡ writeRefusal p M a (length old′) = write-alike p L M w w′ a (length old) ∙ ap (writeRefusal p M a) e in
+      record {
+        answers = W .answers ∙ ap outcome s ∙ sym (W′ .answers);
+        pages = λ d. W .buffer ∙ refused-not-done (writeRefusal p L a (length old)) (pageOf p a) old old′ (sym (W .answers) ∙ d) ∙ ap (λ (k : ℕ). leaves k (pageOf p a) old′) s ∙ sym (W′ .buffer);
+      }
+
+  sums : (K L M : ℕ) (a b old-a old-b old-sum page-a page-b page-sum : List ℕ) (r-a r-b r-sum : Outcome) → Width K → Width L → Width M → Fits p a → Fits p b
+      → PageBuffer p old-a → PageBuffer p old-b → PageBuffer p old-sum
+      → Written p K a old-a page-a r-a → Written p L b old-b page-b r-b → Written p M (add a b) old-sum page-sum r-sum
+      → Sums p a b page-a page-b page-sum r-a r-b r-sum
+  sums K L M a b oa ob os pa pb ps ra rb rs wk wl wm h j ea eb es Wa Wb Ws =
+      let A-is = after-is K a oa pa ra wk h ea Wa in
+      let B-is = after-is L b ob pb rb wl j eb Wb in
+      let S-is = after-is M (add a b) os ps rs wm (sum-fits p R a b h j) es Ws in
+      record {
+        fits = sum-fits p R a b h j;
+        done-a = A-is .0;
+        done-b = B-is .0;
+        done = S-is .0;
+        page = S-is .1 ∙ sum-page p R a b h j ∙ sym (ap₂ add (A-is .1) (B-is .1));
+      }
+
+  -- a page is a member exactly when its words are written again
+  rewritten : (x : List ℕ) → IsPage p x → (judgeAnswer p x ≡ Verdict.Member) ↔ (pageOf p (dataOf p x) ≡ x)
+  rewritten x h = (
+    (λ e. again-to p R x h (member-encode (B .field) (B .α) p (lawful p R) (wordsOf p x) .0 (judged-passing x h e))),
+    (λ e. passing-judged x h (member-encode (B .field) (B .α) p (lawful p R) (wordsOf p x) .1 (again-from p R x h e))),
+  )
+
+  rewrites : (L : ℕ) (x old-blocks blocks old-page after : List ℕ) (j r : Verdict) (w : Outcome) → Width L → IsPage p x → BlocksBuffer p old-blocks → PageBuffer p old-page
+      → Judged p x j → ReadOut p x old-blocks blocks r → Written p L blocks old-page after w → Rewrites x after j r w
+  rewrites L x ob blocks op after j r o w h eb ep J O W =
+      let b : blocks ≡ dataOf p x = O .buffer ∙ read-leaves p A x ob h eb in
+      let s = after-is L (dataOf p x) op after o w (data-fit p R x h) ep (rw b at W) in
+      let i : (judgeAnswer p x ≡ Verdict.Member) ↔ (after ≡ x) = rw (s .1) (rewritten x h) in
+      let v : r ≡ judgeAnswer p x = O .answers ∙ read-is p A x ob h eb ∙ sym (judge-is p A x h) in
+      record { done = s .0; by-judge = rw (J .answers) i; by-read-out = rw v i }
+
+  -- the places that the definition counts are those of the words
+  differences-are : (x y : List ℕ) → IsPage p x → IsPage p y
+      → differences p x y ≡ addBelow (p .m) (λ i. countBelow (stored p) (λ k. not (eqb (coefficient (subWordOf p x i) k) (coefficient (subWordOf p y i) k))))
+  unfolding differences
+  differences-are x y h l =
+      addBelow-ext (p .m) (λ i. countBelow (stored p) (λ k. not (eqb (coefficientOf p x i k) (coefficientOf p y i k))))
+      (λ i. countBelow (stored p) (λ k. not (eqb (coefficient (subWordOf p x i) k) (coefficient (subWordOf p y i) k))))
+      (λ i b. countBelow-ext (stored p) (λ k. not (eqb (coefficientOf p x i k) (coefficientOf p y i k))) (λ k. not (eqb (coefficient (subWordOf p x i) k) (coefficient (subWordOf p y i) k)))
+      (λ k c. ap₂ (λ (s t : ℕ). not (eqb s t)) (sym (sub-word-bit p R x (h .bytes) i k b c)) (sym (sub-word-bit p R y (l .bytes) i k b c))))
+
+  apart : (x y : List ℕ) → Bytes x → Bytes y → Judged p x Verdict.Member → Judged p y Verdict.Member → x ≢ y → distance p ≤ differences p x y
+  apart x y b c J K n =
+      let e : judgeAnswer p x ≡ Verdict.Member = sym (J .answers) in
+      let f : judgeAnswer p y ≡ Verdict.Member = sym (K .answers) in
+      let h : IsPage p x = judged-page p x b e in
+      let k : IsPage p y = judged-page p y c f in
+      let u : IsWords p (wordsOf p x) = page-words p R x h in
+      let w : IsWords p (wordsOf p y) = page-words p R y k in
+      rw (differences-are x y h k) (distance-places (B .field) (B .α) p (lawful p R) (wordsOf p x) (wordsOf p y) (u .many) (w .many)
+      (u .below) (w .below) (judged-passing x h e) (judged-passing y k f)
+      (λ s. n (sym (join-words p R x h) ∙ ap (join (wordSizes p)) s ∙ join-words p R y k)))
+
+  pub demand3 : Demand3 p
+  demand3 = record { alike = alike; sums = sums; rewrites = rewrites; apart = apart; smallest = smallest p }
+
+pub demands : Demands
+demands p A = (demand2 p A, demand3 p A)
