@@ -1,0 +1,50 @@
+use borrow.Author.Needs.{needs}
+use borrow.Author.Tests.{eq-eqb, ne-eqb}
+use mathlib.Core.Path.{_≡_, sym, _∙_}
+use native.Mathlib.Omega.{arith}
+use Prim.Native.Nat.{_+_, _-_, _*_, _%_, _<_}
+use Rattle.sheet.specs.Clashes.{hits, Searching, search-start, search-found, search-next, search-done, first-multiple, next-multiple}
+use Rattle.sheet.proofs.clash_at.Statement.{statement}
+use Rattle.sheet.proofs.clash_at.Tie as tie
+
+abbrev Inv-loop : tie.InvT-loop
+Inv-loop d n last x₀ j₀ x j = Searching (hits n d) last j × (x ≡ d * j % n) × (x < n)
+
+abbrev μ-loop : tie.MeasureT-loop
+μ-loop d n last x₀ j₀ x j = last + 1 - j
+
+loop-holds : tie.Need-loop-holds Inv-loop μ-loop
+loop-holds c = let a = c .args in (search-start (hits (a .n) (a .d)) (a .last), first-multiple (a .d) (a .n) (c .pre .0), c .pre .0)
+
+returns : tie.Need-returns Inv-loop μ-loop
+returns c =
+    let a = c .before .before .before .args in
+    let s = c .before .before .loop in
+    search-found (hits (a .n) (a .d)) (a .last) (s .j) (s .inv .0) (c .before .loop-test .taken) (eq-eqb _ _ (sym (s .inv .1) ∙ c .if1 .taken))
+
+sum-modulo-requires : tie.Need-sum-modulo-requires Inv-loop μ-loop
+sum-modulo-requires c κs = search needs
+
+add-j : tie.Need-add-j Inv-loop μ-loop
+add-j c = search needs
+
+loop-less : tie.Need-loop-less Inv-loop μ-loop
+loop-less c = search needs
+
+loop-again : tie.Need-loop-again Inv-loop μ-loop
+loop-again c =
+    let a = c .before .before .before .before .args in
+    let s = c .before .before .before .loop in
+    (
+      search-next (hits (a .n) (a .d)) (a .last) (s .j) (s .inv .0) (c .before .before .loop-test .taken) (ne-eqb _ _ (λ e. c .before .if1 .left (s .inv .1 ∙ e))),
+      next-multiple (a .d) (a .n) (s .j) (s .x) (c .sum-modulo .result) (s .inv .1) (c .sum-modulo .ensures .0),
+      c .sum-modulo .ensures .1,
+    )
+
+returns-2 : tie.Need-returns-2 Inv-loop μ-loop
+returns-2 c = let a = c .before .before .args in let s = c .before .loop in search-done (hits (a .n) (a .d)) (a .last) (s .j) (s .inv .0) (c .loop-test .left)
+
+pub clash-at-spec : {M : Type 1} → statement M
+clash-at-spec =
+    tie.close
+    (tie.spec Inv-loop μ-loop loop-holds returns sum-modulo-requires add-j loop-less loop-again returns-2)
