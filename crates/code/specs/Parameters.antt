@@ -7,11 +7,11 @@
 --   strength p a      t_a, the strength of level a
 --   sheetRefusal p    the refusal of the parameters, 1 to 4; 0: they are accepted
 --   Accepted p        the parameters meet every rule
---   tested p          what testing them answers
+--   tested p          what testing them answers; Tests p r is the test's promise
 use mathlib.Core.Path.{_≡_}
 use mathlib.Core.Bool.{Bool, true, false, not, _&&_, _||_, cond}
 use mathlib.Core.List.{List, [], _∷_}
-use Prim.Native.Nat.{ℕ, zero, suc, _+_, _-_, _*_, _/_, _%_, _^_}
+use Prim.Native.Nat.{ℕ, zero, suc, _+_, _-_, _*_, _/_, _%_, _^_, _≤_}
 use lib.Dec.{eqb, leb, ltb}
 use lib.ListN.{getD}
 use Rattle.code.specs.declared.Parameters.{Parameters}
@@ -84,3 +84,9 @@ testedNumber (Tested.Refused k) = k
 abbrev pub testedValues : Tested → List ℕ
 testedValues (Tested.Accepted q m v t0 t1 t2 t3) = q ∷ m ∷ v ∷ t0 ∷ t1 ∷ t2 ∷ t3 ∷ []
 testedValues (Tested.Refused k) = []
+
+-- what the test promises; a refusal's number is 1 to 12
+pub record Tests (p : Parameters) (r : Tested) : Type 0 where
+  pub answers : r ≡ tested p
+  pub number : testedNumber r ≡ sheetRefusal p
+  pub small : sheetRefusal p ≤ 12

@@ -67,7 +67,7 @@ width-good L w = not-T (badWidth L) (λ t. go (either (eqb L 0) (ltb 64 L) t))
     go (inr t) = Nat.not-suc-le-zero {n = 0} (omega (arith, ltb→lt 64 L t, w .high))
 
 -- ---- the defining equations, link by link
-sheet-le : (p : Parameters) → sheetRefusal p ≤ 12
+pub sheet-le : (p : Parameters) → sheetRefusal p ≤ 12
 unfolding sheetRefusal
 sheet-le p =
     or-le (1 when not (fieldKnown p)) (2 when not (shapeFits p) orElse 3 when not (strengthsFit p) orElse 4 when clashes p) (when-le 1 (not (fieldKnown p)) (lit≤ tt))

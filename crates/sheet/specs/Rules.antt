@@ -1,12 +1,19 @@
 -- The rules on the parameters, test by test: what a program's tests show of each definition.
 use mathlib.Core.Path.{_≡_, refl, sym, ap, _∙_}
 use mathlib.Core.Bool.{Bool, true, false, not, _&&_, _||_, cond}
-use Prim.Native.Nat.{ℕ, zero, suc, _+_, _-_, _*_, _≤_, _<_}
+use Prim.Native.Nat.{ℕ, zero, suc, _+_, _-_, _*_, _^_, _≤_, _<_}
 use native.Mathlib.Omega.{arith}
-use lib.Dec.{eqb, leb, ltb}
-use borrow.Author.Tests.{lt-ltb, le-ltb, le-leb, lt-leb, eq-eqb, ne-eqb}
+use lib.Dec.{T, eqb, leb, ltb, leb→le, ltb→lt, eqb→eq}
+use borrow.Author.Tests.{lt-ltb, le-ltb, le-leb, lt-leb, eq-eqb, ne-eqb, eqb-true}
+use Rattle.field.specs.Irreducible.{both}
 use Rattle.code.specs.declared.Parameters.{Parameters}
-use Rattle.code.specs.Parameters.{len, strength, shapeFits, placeFits, strengthsFit}
+use Rattle.code.specs.declared.Tested.{Tested}
+use Rattle.code.specs.Lists.{_when_, _orElse_}
+use Rattle.code.specs.Parameters.{len, strength, fieldKnown, shapeFits, placeFits, strengthsFit, clashes, sheetRefusal, tested, testedOf, testedNumber, Tests}
+use Rattle.code.specs.Refused.{sheet-le}
+use Rattle.tables.specs.declared.Chosen.{Chosen}
+use Rattle.tables.specs.declared.Entry.{Entry}
+use Rattle.tables.specs.Choice.{known, entry, refusal, chosen, chosenBy, ChosenFor}
 
 module _ (p : Parameters) where
   -- ---- the shape
@@ -70,3 +77,97 @@ module _ (p : Parameters) where
   strengths-rest t n a b c d e h f =
       let l : strength p (p .v) ≤ 64 = rw e at h in
       sym (strengths-eq ∙ simp (le-leb 1 (p .t0) a, lt-ltb (p .t0) (p .t1) b, ← c, ← d, le-leb (strength p (p .v)) 64 l) (rw (e, f) refl))
+
+-- ---- what a passed test says
+holds : (b : Bool) → true ≡ b → T b
+holds true e = tt
+holds false e = let z : _≡_ {A = ℕ} 0 1 = cc in absurd (omega arith)
+
+pub record ShapeFacts (p : Parameters) : Type 0 where
+  pub v-low : 1 ≤ p .v
+  pub v-high : p .v ≤ 3
+  pub m-low : p .v < p .m
+  pub m-high : p .m ≤ 8
+
+pub shape-facts : (p : Parameters) → true ≡ shapeFits p → ShapeFacts p
+unfolding shapeFits
+shape-facts p e =
+    let c = both (leb 1 (p .v) && leb (p .v) 3 && ltb (p .v) (p .m)) (leb (p .m) 8) (holds (shapeFits p) e) in
+    let b = both (leb 1 (p .v) && leb (p .v) 3) (ltb (p .v) (p .m)) (c .0) in
+    let a = both (leb 1 (p .v)) (leb (p .v) 3) (b .0) in
+    record { v-low = leb→le 1 (p .v) (a .0); v-high = leb→le (p .v) 3 (a .1); m-low = ltb→lt (p .v) (p .m) (b .1); m-high = leb→le (p .m) 8 (c .1) }
+
+pub strength-high : (p : Parameters) → true ≡ strengthsFit p → strength p (p .v) ≤ 64
+unfolding strengthsFit
+strength-high p e =
+    let b = both (leb 1 (p .t0) && ltb (p .t0) (p .t1) && placeFits p 2 && placeFits p 3 && leb (strength p (p .v)) 64) (leb (2 * strength p (p .v)) (len p - 1)) (holds (strengthsFit p) e) in
+    leb→le (strength p (p .v)) 64 (both (leb 1 (p .t0) && ltb (p .t0) (p .t1) && placeFits p 2 && placeFits p 3) (leb (strength p (p .v)) 64) (b .0) .1)
+
+-- ---- what choosing a field says
+pub record FieldFacts (q : ℕ) (f : Entry) : Type 0 where
+  pub is-known : known q ≡ true
+  pub is-entry : f ≡ entry q
+  pub order-low : 8 < f .order
+  pub order-high : f .order < 4096
+
+by-known : (q : ℕ) (b : Bool) (f : Entry) → known q ≡ b → Chosen.Field f ≡ chosenBy (cond b 0 1) (entry q) → (known q ≡ true) × (f ≡ entry q)
+by-known q true f k e = (k, (cc))
+by-known q false f k e = let z : _≡_ {A = ℕ} 0 1 = cc in absurd (omega arith)
+
+order-of : (q : ℕ) → (b c d : Bool) → eqb q 4 ≡ b → eqb q 8 ≡ c → eqb q 12 ≡ d → (b || c || d) ≡ true → (8 < 2 ^ q - 1) × (2 ^ q - 1 < 4096)
+order-of q true c d i j k e = rw (eqb-true q 4 i) (omega arith, omega arith)
+order-of q false true d i j k e = rw (eqb-true q 8 j) (omega arith, omega arith)
+order-of q false false true i j k e = rw (eqb-true q 12 k) (omega arith, omega arith)
+order-of q false false false i j k e = let z : _≡_ {A = ℕ} 0 1 = cc in absurd (omega arith)
+
+pub field-facts : (q : ℕ) (f : Entry) → ChosenFor q (Chosen.Field f) → FieldFacts q f
+unfolding chosen
+field-facts q f r =
+    let a = by-known q (known q) f refl (r .answers) in
+    let o = order-of q (eqb q 4) (eqb q 8) (eqb q 12) refl refl refl (a .0) in
+    record { is-known = a .0; is-entry = a .1; order-low = rw (a .1) (o .0); order-high = rw (a .1) (o .1) }
+
+pub field-unknown : (q : ℕ) → ChosenFor q Chosen.Unknown → known q ≡ false
+unfolding chosen
+field-unknown q r = by (known q) (r .answers)
+  where
+    by : (b : Bool) → Chosen.Unknown ≡ chosenBy (cond b 0 1) (entry q) → b ≡ false
+    by true e = let z : _≡_ {A = ℕ} 0 1 = cc in absurd (omega arith)
+    by false e = refl
+
+-- ---- the whole test: the refusal by its four links
+module _ (p : Parameters) where
+  tested-eq : tested p ≡ testedOf p (1 when not (fieldKnown p) orElse 2 when not (shapeFits p) orElse 3 when not (strengthsFit p) orElse 4 when clashes p)
+  unfolding tested sheetRefusal
+  tested-eq = refl
+
+  known-eq : fieldKnown p ≡ known (p .q)
+  unfolding fieldKnown
+  known-eq = refl
+
+  -- the answer's number is the refusal
+  number-is : testedNumber (tested p) ≡ sheetRefusal p
+  unfolding tested
+  number-is = by (sheetRefusal p)
+    where
+      by : (r : ℕ) → testedNumber (testedOf p r) ≡ r
+      by zero = refl
+      by (suc r) = refl
+
+  tests : (r : Tested) → r ≡ tested p → Tests p r
+  tests r e = record { answers = e; number = ap testedNumber e ∙ number-is; small = sheet-le p }
+
+  pub test-field : known (p .q) ≡ false → Tests p (Tested.Refused 1)
+  test-field h = tests (Tested.Refused 1) (sym (tested-eq ∙ simp (known-eq, h)))
+
+  pub test-shape : known (p .q) ≡ true → false ≡ shapeFits p → Tests p (Tested.Refused 2)
+  test-shape k h = tests (Tested.Refused 2) (sym (tested-eq ∙ simp (known-eq, k, ← h)))
+
+  pub test-strengths : known (p .q) ≡ true → true ≡ shapeFits p → false ≡ strengthsFit p → Tests p (Tested.Refused 3)
+  test-strengths k s h = tests (Tested.Refused 3) (sym (tested-eq ∙ simp (known-eq, k, ← s, ← h)))
+
+  pub test-clash : known (p .q) ≡ true → true ≡ shapeFits p → true ≡ strengthsFit p → true ≡ clashes p → Tests p (Tested.Refused 4)
+  test-clash k s t h = tests (Tested.Refused 4) (sym (tested-eq ∙ simp (known-eq, k, ← s, ← t, ← h)))
+
+  pub test-accepted : known (p .q) ≡ true → true ≡ shapeFits p → true ≡ strengthsFit p → false ≡ clashes p → Tests p (Tested.Accepted (p .q) (p .m) (p .v) (p .t0) (p .t1) (p .t2) (p .t3))
+  test-accepted k s t h = tests (Tested.Accepted (p .q) (p .m) (p .v) (p .t0) (p .t1) (p .t2) (p .t3)) (sym (tested-eq ∙ simp (known-eq, k, ← s, ← t, ← h)))

@@ -3,11 +3,12 @@ ghost use mathlib.Core.Path.{_≡_};
 ghost use Prim.Native.Nat.{ℕ, _<_, _≤_, _+_, _*_, _-_, _%_};
 ghost use Rattle.code.specs.Code.{N};
 ghost use Rattle.code.specs.Calls.{nesting};
-ghost use Rattle.code.specs.Parameters.{len, strength, shapeFits, placeFits, strengthsFit, clashes};
+ghost use Rattle.code.specs.Parameters.{len, strength, shapeFits, placeFits, strengthsFit, clashes, Tests};
 ghost use Rattle.sheet.specs.Clashes.{hits, anyFrom};
 use code::Nesting;
 use code::Parameters;
 use code::Tested;
+use tables::Chosen;
 
 // v is 1 to 3, m is v + 1 to 8.
 fn shape_fits(p: Parameters) -> bool
@@ -122,6 +123,35 @@ fn clashes_at(p: Parameters, n: u32) -> bool
         d += 1;
     }
     false
+}
+
+// The parameters, or the number of the first rule that they break.
+pub fn test(p: Parameters) -> Tested
+    ensures { λ r. ⌜ Tests p r ⌝ }
+{
+    let chosen = tables::choose(p.q);
+    let Chosen::Field(f) = chosen else {
+        return Tested::Refused(1);
+    };
+    if !shape_fits(p) {
+        return Tested::Refused(2);
+    }
+    let n = f.order;
+    if !strengths_fit(p, n) {
+        return Tested::Refused(3);
+    }
+    if clashes_at(p, n) {
+        return Tested::Refused(4);
+    }
+    Tested::Accepted {
+        q: p.q,
+        m: p.m,
+        v: p.v,
+        t0: p.t0,
+        t1: p.t1,
+        t2: p.t2,
+        t3: p.t3,
+    }
 }
 
 // The nesting coefficient N(i, l), bit k the coefficient of x^k; i falls.
