@@ -6,3 +6,4 @@ pub mod Points
 pub mod Generator
 pub mod Leaders
 pub mod Next
+pub mod Turns
