@@ -20,6 +20,7 @@ pub mod Bytes
 pub mod Pages
 pub mod Judge
 pub mod Refused
+pub mod Answers
 pub mod Placement
 pub mod Registers
 pub mod Buffers
