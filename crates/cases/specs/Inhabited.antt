@@ -1,0 +1,113 @@
+-- The theorems' hypotheses hold of something, and two statements that go further than the theorems are false. All by computation.
+use mathlib.Core.Path.{_≡_, refl, sym, ap, _∙_}
+use mathlib.Core.Logic.{_≢_}
+use mathlib.Core.List.{List, [], _∷_}
+use Prim.Native.Nat.{ℕ, zero, suc, _-_, _≤_, _<_}
+use native.Mathlib.Nat.{le-of-suc-le-suc, not-suc-le-zero, lt-irrefl}
+use native.Mathlib.Omega.{arith}
+use lib.Dec.{lit<}
+use lib.ListN.{getD}
+use Rattle.polynomial.specs.Clmul.{clmul}
+use Rattle.polynomial.specs.Division.{rem}
+use Rattle.polynomial.specs.Multiple.{Multiple}
+use Rattle.polynomial.specs.Xor.{xor}
+use Rattle.field.specs.Field.{pow}
+use Rattle.code.specs.declared.Verdict.{Verdict}
+use Rattle.code.specs.Parameters.{Accepted, sheetRefusal}
+use Rattle.code.specs.Code.{gen, degree, remainder, nested, combine, N, newton, IsMember, distance}
+use Rattle.code.specs.Layout.{dataBytes, blocksClear, pageClear, wordsOf, Fits, IsPage, Bytes, differences}
+use Rattle.code.specs.Calls.{judgeAnswer}
+use Rattle.cases.specs.Sheets.{sheet, A, B}
+
+-- ---- accepted sheets
+-- document 01's sheet A
+pub accepted-A : Accepted A
+unfolding sheetRefusal
+accepted-A = refl
+
+-- and sheet B
+pub accepted-B : Accepted B
+unfolding sheetRefusal
+accepted-B = refl
+
+-- one of q = 8, with the most sub-words and nested words
+pub accepted-8 : Accepted (sheet 8 8 3 1 2 2 2)
+unfolding sheetRefusal
+accepted-8 = refl
+
+-- ---- blocks and pages
+-- blocks that fit
+pub fits-A : Fits A (0x01 ∷ 0x01 ∷ 0x00 ∷ [])
+unfolding dataBytes blocksClear
+fits-A = record { bytes = (lit< tt, (lit< tt, (lit< tt, tt))); exact = refl; clear = tt }
+
+-- their page is a page
+pub isPage-A : IsPage A (0xC2 ∷ 0x01 ∷ 0x13 ∷ 0x00 ∷ [])
+unfolding pageClear
+isPage-A = record { bytes = (lit< tt, (lit< tt, (lit< tt, (lit< tt, tt)))); exact = refl; clear = tt }
+
+-- ---- two members: g_1 beside a zero word, and the zero page
+abbrev light : List ℕ
+light = 0xD1 ∷ 0x01 ∷ 0x00 ∷ 0x00 ∷ []
+
+abbrev zeros : List ℕ
+zeros = 0x00 ∷ 0x00 ∷ 0x00 ∷ 0x00 ∷ []
+
+-- judge calls the first a member
+pub light-member : judgeAnswer A light ≡ Verdict.Member
+unfolding judgeAnswer pow
+light-member = refl
+
+-- and the other
+pub zeros-member : judgeAnswer A zeros ≡ Verdict.Member
+unfolding judgeAnswer pow
+zeros-member = refl
+
+-- they are two
+pub light-other : light ≢ zeros
+light-other e = let h : _≡_ {A = ℕ} 0xD1 0x00 = ap (λ (x : List ℕ). getD x 0 0x00) e in omega arith
+
+-- they differ in as many places as the distance says
+pub light-distance : differences A light zeros ≡ distance A
+unfolding differences distance
+light-distance = refl
+
+-- so a distance one larger is false
+pub not-farther : ((x y : List ℕ) → Bytes x → Bytes y → judgeAnswer A x ≡ Verdict.Member → judgeAnswer A y ≡ Verdict.Member → x ≢ y → suc (distance A) ≤ differences A x y) → ⊥
+not-farther h =
+    let far : suc (distance A) ≤ differences A light zeros =
+    h light zeros (lit< tt, (lit< tt, (lit< tt, (lit< tt, tt)))) (lit< tt, (lit< tt, (lit< tt, (lit< tt, tt)))) light-member zeros-member light-other in
+    lt-irrefl (distance A) (rw light-distance at far)
+
+-- the words of the first are those of a member
+light-sub : (i : ℕ) → i < 2 → Multiple (gen A 0) (getD (0x1D1 ∷ 0x000 ∷ []) i 0)
+unfolding clmul gen pow xor rem
+light-sub zero h = (0x1F, refl)
+light-sub (suc zero) h = (0, refl)
+light-sub (suc (suc i)) h = absurd (not-suc-le-zero (le-of-suc-le-suc (le-of-suc-le-suc h)))
+
+light-nested : (l : ℕ) → l < 1 → Multiple (gen A (1 - l)) (nested A l (0x1D1 ∷ 0x000 ∷ []))
+unfolding clmul gen pow xor rem nested
+light-nested zero h = (1, refl)
+light-nested (suc l) h = absurd (not-suc-le-zero (le-of-suc-le-suc h))
+
+pub light-words : IsMember A (0x1D1 ∷ 0x000 ∷ [])
+light-words = record { sub-words = light-sub; nested-words = light-nested }
+
+-- ---- the equal form holds as a whole only: sheet B, page 13 00 00 00 00 00
+abbrev words-13 : List ℕ
+words-13 = wordsOf B (0x13 ∷ 0x00 ∷ 0x00 ∷ 0x00 ∷ 0x00 ∷ 0x00 ∷ [])
+
+-- nested word 1 is no multiple of g_1
+pub nested-fails : remainder B 1 (nested B 1 words-13) ≡ 0x13
+unfolding rem gen degree nested wordsOf pow xor
+nested-fails = refl
+
+-- the sum of the N(i, 1) × c_i is one
+pub newton-holds : remainder B 1 (newton 1 words-13) ≡ 0
+unfolding rem gen degree combine N wordsOf pow xor
+newton-holds = refl
+
+-- so the equal form, word by word, is false
+pub not-wordwise : ((cs : List ℕ) (l : ℕ) → l < B .v → remainder B (B .v - l) (newton l cs) ≡ 0 → remainder B (B .v - l) (nested B l cs) ≡ 0) → ⊥
+not-wordwise h = let e : _≡_ {A = ℕ} 0x13 0 = sym nested-fails ∙ h words-13 1 (lit< tt) newton-holds in omega arith
