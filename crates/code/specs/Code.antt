@@ -103,7 +103,9 @@ checked p a u f = xor u (check p a u f)
 unfoldable pub encodeFrom : Parameters → ℕ → List ℕ → List ℕ
 unfolding checked carried degree
 encodeFrom p i [] = []
-encodeFrom p i (d ∷ ds) = checked p (level p i) (d * 2 ^ dataPlace (checkBits p i)) (carried (level p i) i (encodeFrom p (suc i) ds)) ∷ encodeFrom p (suc i) ds
+encodeFrom p i (d ∷ ds) =
+    let rest = encodeFrom p (suc i) ds in
+    checked p (level p i) (d * 2 ^ dataPlace (checkBits p i)) (carried (level p i) i rest) ∷ rest
 
 unfoldable pub encode : Parameters → List ℕ → List ℕ
 unfolding encodeFrom

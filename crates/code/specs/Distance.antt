@@ -211,4 +211,3 @@ module _ (F : Field2) (α : F .K) (C : Parameters) (L : Lawful F α C) where
       → Passing C cs → Passing C ds → cs ≢ ds → distance C ≤ pageWeight (add cs ds)
   distance-member cs ds e k a b M M′ h =
       weight-member (add cs ds) (rw (length-add cs ds e) k) (add-lt (len C) cs ds a b) (member-add C (L .pos) (L .degrees) cs ds M M′) (λ z. h (same cs ds e z))
-

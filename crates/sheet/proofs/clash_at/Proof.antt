@@ -34,8 +34,7 @@ loop-less c = search needs
 loop-again : tie.Need-loop-again Inv-loop μ-loop
 loop-again c =
     let a = c .before .before .before .before .args in
-    let s = c .before .before .before .loop in
-    (
+    let s = c .before .before .before .loop in (
       search-next (hits (a .n) (a .d)) (a .last) (s .j) (s .inv .0) (c .before .before .loop-test .taken) (ne-eqb _ _ (λ e. c .before .if1 .left (s .inv .1 ∙ e))),
       next-multiple (a .d) (a .n) (s .j) (s .x) (c .sum-modulo .result) (s .inv .1) (c .sum-modulo .ensures .0),
       c .sum-modulo .ensures .1,

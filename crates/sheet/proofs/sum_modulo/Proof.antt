@@ -12,7 +12,6 @@ add-s c = search needs
 returns : tie.Need-returns
 returns c = (sym (mod-eq-of-lt (c .if1 .taken)), c .if1 .taken)
 
-
 returns-2 : tie.Need-returns-2
 returns-2 c = let a = c .before .args in (wraps (a .a) (a .b) (a .n) (c .before .pre .0) (c .before .pre .1) (c .if1 .left), omega arith)
 

@@ -45,8 +45,7 @@ clashes-at-requires : tie.Need-clashes-at-requires
 clashes-at-requires c κs =
     let k = c .before .before .before .before .before in
     let f = field-facts _ (k .chosen .given .0 .0) (rw (k .chosen .given .1) at (k .before .before .choose .ensures)) in
-    let s = shape-facts _ (sym (not-false _ (c .before .before .if1 .left)) ∙ c .before .before .before .shape-fits .ensures) in
-    (
+    let s = shape-facts _ (sym (not-false _ (c .before .before .if1 .left)) ∙ c .before .before .before .shape-fits .ensures) in (
       ap (λ (e : Entry). e .order) (f .is-entry),
       f .order-low,
       f .order-high,
