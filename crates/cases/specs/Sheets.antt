@@ -13,8 +13,8 @@ use mathlib.Core.List.{List, [], _∷_}
 use Prim.Native.Nat.{ℕ}
 use lib.ListN.{length, replicate}
 use Rattle.code.specs.declared.Parameters.{Parameters}
-use Rattle.code.specs.declared.Fed.{Fed}
-use Rattle.code.specs.declared.Register.{Register}
+use Rattle.code.specs.Register.{Fed}
+use Rattle.code.specs.Register.{Register}
 use Rattle.code.specs.Parameters.{sheetRefusal, tested, testedNumber, testedValues}
 use Rattle.code.specs.Code.{distance}
 use Rattle.code.specs.Layout.{pageBytes, dataBytes}

@@ -7,7 +7,7 @@ use native.Mathlib.Omega.{arith}
 use lib.ListN.{length}
 use Rattle.code.specs.declared.Outcome.{Outcome}
 use Rattle.code.specs.declared.Verdict.{Verdict}
-use Rattle.code.specs.declared.Register.{Register}
+use Rattle.code.specs.Register.{Register}
 use Rattle.code.specs.Calls.{Made, fedBy, leaves, outcome, unlessRefused}
 use Rattle.code.specs.Lists.{_orElse_}
 

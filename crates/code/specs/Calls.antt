@@ -15,8 +15,7 @@ use Rattle.code.specs.declared.Parameters.{Parameters}
 use Rattle.code.specs.declared.Outcome.{Outcome}
 use Rattle.code.specs.declared.Verdict.{Verdict}
 use Rattle.code.specs.declared.Nesting.{Nesting}
-use Rattle.code.specs.declared.Register.{Register}
-use Rattle.code.specs.declared.Fed.{Fed}
+use Rattle.code.specs.Register.{Register, Fed}
 use Rattle.code.specs.Lists.{range}
 use Rattle.code.specs.Parameters.{nestedBytes, strength, sheetRefusal}
 use Rattle.code.specs.Code.{gen, degree, remainder, nested, N, shortRemainder, syndromes, verdict}

@@ -4,6 +4,7 @@ pub mod Lists
 pub mod Parameters
 pub mod Code
 pub mod Layout
+pub mod Register
 pub mod Refusals
 pub mod Calls
 pub mod Writer

@@ -7,7 +7,7 @@ use lib.Dec.{eqb, leb, ltb}
 use lib.ListN.{length}
 use Rattle.polynomial.specs.Digits.{value}
 use Rattle.code.specs.declared.Parameters.{Parameters}
-use Rattle.code.specs.declared.Register.{Register}
+use Rattle.code.specs.Register.{Register}
 use Rattle.code.specs.Lists.{_when_, _orElse_}
 use Rattle.code.specs.Parameters.{full, nestedBytes, strength, sheetRefusal}
 use Rattle.code.specs.Code.{degree}

@@ -21,8 +21,7 @@ use Rattle.polynomial.specs.Xor.{xor, xor-is}
 use Rattle.field.specs.Field.{add-assoc, add-comm, add-zero, zero-add}
 use Rattle.code.specs.declared.Parameters.{Parameters}
 use Rattle.code.specs.declared.Outcome.{Outcome}
-use Rattle.code.specs.declared.Register.{Register}
-use Rattle.code.specs.declared.Fed.{Fed}
+use Rattle.code.specs.Register.{Register, Fed}
 use Rattle.code.specs.Accepted.{Rules, accepted, degree-high, lawful}
 use Rattle.code.specs.Calls.{advanced, empty, fed, opened, outcome}
 use Rattle.code.specs.Code.{degree, gen, level, remainder}

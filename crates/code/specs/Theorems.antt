@@ -21,7 +21,7 @@ use Rattle.generator.specs.Lists.{member}
 use Rattle.code.specs.declared.Parameters.{Parameters}
 use Rattle.code.specs.declared.Outcome.{Outcome}
 use Rattle.code.specs.declared.Verdict.{Verdict}
-use Rattle.code.specs.declared.Register.{Register}
+use Rattle.code.specs.Register.{Register}
 use Rattle.generator.specs.Generator as G
 use Rattle.code.specs.Accepted.{Rules, accepted, degree-le, lawful, n-is, q-high, width-below}
 use Rattle.code.specs.Buffers.{bytes-at, divides-up, divisor-deg, divisor-degree, divisor-times, length-syndromes, nested-back, remainder-back, row-back, short-back, short-differ, short-lt, syndromes-at}

@@ -44,16 +44,3 @@ pub enum Nesting {
     Coefficient(u64),
     Refused(u8),
 }
-
-// A register: its level, the count of coefficients taken, and the remainder's words, lowest first.
-pub struct Register {
-    pub level: u32,
-    pub count: u64,
-    pub remainder: [u64; 12],
-}
-
-// What opening and feeding hand back.
-pub struct Fed {
-    pub outcome: Outcome,
-    pub register: Register,
-}
