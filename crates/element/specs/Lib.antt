@@ -1,0 +1,4 @@
+-- Elements of the three fields: laws of products and powers by exponents, the tables lent to the code, and the operations' answers.
+pub mod Exponents
+pub mod Lent
+pub mod Operations
