@@ -3,6 +3,7 @@ pub mod Shift
 pub mod Word
 pub mod Value
 pub mod Write
+pub mod Add
 pub mod Bytes
 pub mod Remainder
 pub mod Row

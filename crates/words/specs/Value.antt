@@ -80,6 +80,9 @@ module _ (w : ℕ) where
   pub take-lt : (l : List ℕ) → Bounded l → (i : ℕ) → i ≤ length l → value w (take i l) < 2 ^ (w * i)
   take-lt l b i h = rw (length-take-le i l h) at (value-lt (take i l) (bounded-take l b i))
 
+  pub take-mod : (l : List ℕ) → Bounded l → (i : ℕ) → i ≤ length l → value w (take i l) ≡ value w l % 2 ^ (w * i)
+  take-mod l b i h = sym (ap (λ (n : ℕ). n % 2 ^ (w * i)) (value-split i l h) ∙ low (value w (drop i l)) (w * i) (take-lt l b i h))
+
   -- ---- sums
   pub take-xor : (l : List ℕ) → Bounded l → (i : ℕ) → i < length l → value w (take (i + 1) l) ≡ xor (getD l i 0 * 2 ^ (w * i)) (value w (take i l))
   take-xor l b i h = take-more l i h ∙ join (getD l i 0) (w * i) (value w (take i l)) (take-lt l b i (omega arith))

@@ -7,6 +7,7 @@ use native.Mathlib.Nat as Nat
 use native.Mathlib.Omega.{arith}
 use lib.Arith.{digits-lt}
 use lib.Pow.{pow-pos, pow-add, shl-shr, shr-shr, shr-lt, field, mod-mod-pow, mod-pow-add}
+use Rattle.words.specs.Shift.{up-mod}
 
 abbrev pub moved : ℕ → ℕ → ℕ
 moved x m = x * 2 % 18446744073709551616 * 2 ^ m % 18446744073709551616
@@ -16,10 +17,6 @@ mod-mul-mod a b m =
     sym (ap (λ (x : ℕ). x * b % m) (sym (Nat.div-add-mod' a m))
     ∙ ap (λ (x : ℕ). x % m) (add-mul (a / m * m) (a % m) b ∙ ap (λ (x : ℕ). x + a % m * b) (Nat.mul-right-comm (a / m) m b))
     ∙ Nat.mul-add-mod-self-right (a / m * b) m (a % m * b))
-
--- up by k within j + k bits
-pub up-mod : (x j k : ℕ) → x * 2 ^ k % 2 ^ (j + k) ≡ x % 2 ^ j * 2 ^ k
-up-mod x j k = mod-pow-add (x * 2 ^ k) j k ∙ rw (shl-shr x k, Nat.mul-mod-left x (2 ^ k)) (Nat.add-zero (x % 2 ^ j * 2 ^ k))
 
 pow64 : (h l : ℕ) → h + l ≡ 64 → 18446744073709551616 ≡ 2 ^ (h + l)
 pow64 h l e = ap (λ (n : ℕ). 2 ^ n) (sym e)

@@ -1,10 +1,10 @@
--- Bytes written in place, from the lowest on.
---   Written l₀ l y i    i bytes of l₀ are written, which makes l: they are the lowest of y
+-- Digits written in place, from the lowest on.
+--   Written w l₀ l y i    i digits of l₀, of w bits each, are written, which makes l: they are the lowest of y
 use mathlib.Core.Path.{_≡_, sym, ap, ap₂, _∙_, refl}
 use mathlib.Core.List.{List, [], _∷_, _++_}
 use Prim.Native.Nat.{ℕ, _+_, _*_, _/_, _%_, _^_, _≤_, _<_, zero-le}
-use native.Mathlib.Nat.{div-div-eq-div-mul, mod-one, mod-lt}
-use native.Mathlib.Numerals.{towards-suc}
+use native.Mathlib.Nat.{div-div-eq-div-mul, mod-one, mod-lt, mul-zero, add-comm, mul-suc}
+use native.Mathlib.Numerals.{towards-suc, add-one}
 use native.Mathlib.Omega.{arith}
 use lib.ListN.{length, take, drop, set, length-append, length-set}
 use lib.Pow.{mod-pow-add, pow-pos}
@@ -47,39 +47,35 @@ module _ (l l′ : List ℕ) (at v : ℕ) (h : at + 8 ≤ length l) (e : l′ �
   put-drop = ap (drop (at + 8)) e ∙ drop-at (take at l ++ digits 8 8 v) (drop (at + 8) l) (at + 8) reach
 
 -- ---- loops
-pub record Written (l₀ l : List ℕ) (y i : ℕ) : Type 0 where
+pub record Written (w : ℕ) (l₀ l : List ℕ) (y i : ℕ) : Type 0 where
   pub within : i ≤ length l
   pub same : length l ≡ length l₀
-  pub done : value 8 (take i l) ≡ y % 2 ^ (8 * i)
+  pub done : value w (take i l) ≡ y % 2 ^ (w * i)
 
-pub written-start : (l : List ℕ) (y : ℕ) → Written l l y 0
-written-start l y = record { within = zero-le; same = refl; done = value-nil 8 ∙ sym (mod-one y) }
+pub written-start : (w : ℕ) (l : List ℕ) (y : ℕ) → Written w l l y 0
+written-start w l y = record { within = zero-le; same = refl; done = value-nil w ∙ rw (mul-zero w) (sym (mod-one y)) }
 
-pub written-done : (l₀ l : List ℕ) (y i n : ℕ) → length l ≤ i → length l ≡ n → Written l₀ l y i → value 8 l ≡ y % 2 ^ (8 * n)
-written-done l₀ l y i n h k p =
+pub written-done : (w : ℕ) (l₀ l : List ℕ) (y i n : ℕ) → length l ≤ i → length l ≡ n → Written w l₀ l y i → value w l ≡ y % 2 ^ (w * n)
+written-done w l₀ l y i n h k p =
     let e : i ≡ n = omega arith in
-    ap (value 8) (sym (take-all i l h)) ∙ p .done ∙ ap (λ (n : ℕ). y % 2 ^ (8 * n)) e
+    ap (value w) (sym (take-all i l h)) ∙ p .done ∙ ap (λ (m : ℕ). y % 2 ^ (w * m)) e
 
-module _ (l₀ l : List ℕ) (y i : ℕ) (p : Written l₀ l y i) where
-  -- v, the next digits of y, is written above
-  step : (n v : ℕ) → v ≡ y / 2 ^ (8 * i) % 2 ^ n → v * 2 ^ (8 * i) + value 8 (take i l) ≡ y % 2 ^ (n + 8 * i)
-  step n v e = ap₂ (λ (a b : ℕ). a * 2 ^ (8 * i) + b) e (p .done) ∙ sym (mod-pow-add y n (8 * i))
+pub written-digit : (w : ℕ) (l₀ l : List ℕ) (y i v : ℕ) → i < length l → v ≡ y / 2 ^ (w * i) % 2 ^ w → Written w l₀ l y i → Written w l₀ (set l i v) y (i + 1)
+written-digit w l₀ l y i v h e p = record {
+  within = simp length-set (omega arith);
+  same = length-set l i v ∙ p .same;
+  done =
+      take-more-set w l i v h ∙ ap₂ (λ (a b : ℕ). a * 2 ^ (w * i) + b) e (p .done) ∙ sym (mod-pow-add y w (w * i))
+      ∙ ap (λ (n : ℕ). y % 2 ^ n) (add-comm w (w * i) ∙ sym (mul-suc w i) ∙ ap (λ (n : ℕ). w * n) (sym (add-one i)));
+}
 
-  pub written-byte : (v : ℕ) → i < length l → v ≡ y / 2 ^ (8 * i) % 2 ^ 8 → Written l₀ (set l i v) y (i + 1)
-  written-byte v h e = record {
-    within = simp length-set (omega arith);
-    same = length-set l i v ∙ p .same;
-    done =
-        let k : 8 + 8 * i ≡ 8 * (i + 1) = omega arith in
-        take-more-set 8 l i v h ∙ step 8 v e ∙ ap (λ (n : ℕ). y % 2 ^ n) k;
-  }
-
-  pub written-word : (l′ : List ℕ) (v : ℕ) → i + 8 ≤ length l → length l′ ≡ length l → l′ ≡ take i l ++ digits 8 8 v ++ drop (i + 8) l
-      → v ≡ y / 2 ^ (8 * i) % 2 ^ 64 → Written l₀ l′ y (i + 8)
-  written-word l′ v h k f e = record {
-    within = omega arith;
-    same = k ∙ p .same;
-    done =
-        let j : 64 + 8 * i ≡ 8 * (i + 8) = omega arith in
-        put-take l l′ i v h f (rw e (mod-lt (y / 2 ^ (8 * i)) (pow-pos 64))) ∙ step 64 v e ∙ ap (λ (n : ℕ). y % 2 ^ n) j;
-  }
+pub written-word : (l₀ l l′ : List ℕ) (y i v : ℕ) → i + 8 ≤ length l → length l′ ≡ length l → l′ ≡ take i l ++ digits 8 8 v ++ drop (i + 8) l
+    → v ≡ y / 2 ^ (8 * i) % 2 ^ 64 → Written 8 l₀ l y i → Written 8 l₀ l′ y (i + 8)
+written-word l₀ l l′ y i v h k f e p = record {
+  within = omega arith;
+  same = k ∙ p .same;
+  done =
+      let j : 64 + 8 * i ≡ 8 * (i + 8) = omega arith in
+      put-take l l′ i v h f (rw e (mod-lt (y / 2 ^ (8 * i)) (pow-pos 64))) ∙ ap₂ (λ (a b : ℕ). a * 2 ^ (8 * i) + b) e (p .done)
+      ∙ sym (mod-pow-add y 64 (8 * i)) ∙ ap (λ (n : ℕ). y % 2 ^ n) j;
+}

@@ -71,3 +71,19 @@ pub fn bits(s: &[u8], pos: usize, count: usize) -> u64
     let x = (lo >> sh) + ((hi << 1) << (63 - sh));
     (x << (64 - count)) >> (64 - count)
 }
+
+// The `count` coefficients of s · x^up from x^pos on.
+pub fn bits_up(s: &[u8], up: usize, pos: usize, count: usize) -> u64
+    requires { ⌜ (pos < 1000000) × (1 ≤ count) × (count ≤ 64) ⌝ }
+    ensures { λ r. ⌜ r ≡ value 8 (now (s .entry)) * 2 ^ up / 2 ^ pos % 2 ^ count ⌝ }
+{
+    if up <= pos {
+        return bits(s, pos - up, count);
+    }
+    let d = up - pos;
+    if d < count {
+        let low = bits(s, 0, count - d);
+        return low << d;
+    }
+    0
+}

@@ -5,24 +5,24 @@ use lib.ListN.{length-set, length}
 use lib.Pow.{shr-shr}
 use borrow.Author.Needs.{needs}
 use Rattle.polynomial.specs.Digits.{value}
-use Rattle.words.specs.Write.{Written, written-start, written-word, written-byte, written-done}
+use Rattle.words.specs.Write.{Written, written-start, written-word, written-done, written-digit}
 use Rattle.words.proofs.bytes.copy_down.Statement.{statement}
 use Rattle.words.proofs.bytes.copy_down.Tie as tie
 
 abbrev Inv-loop : tie.InvT-loop
-Inv-loop dst₀ src w i₀ dst i = Written dst₀ dst (value 8 src / 2 ^ w) i
+Inv-loop dst₀ src w i₀ dst i = Written 8 dst₀ dst (value 8 src / 2 ^ w) i
 
 abbrev μ-loop : tie.MeasureT-loop
 μ-loop dst₀ src w i₀ dst i = length dst - i
 
 abbrev Inv-loop2 : tie.InvT-loop2
-Inv-loop2 dst₀ src w i₀ dst i = Written dst₀ dst (value 8 src / 2 ^ w) i
+Inv-loop2 dst₀ src w i₀ dst i = Written 8 dst₀ dst (value 8 src / 2 ^ w) i
 
 abbrev μ-loop2 : tie.MeasureT-loop2
 μ-loop2 dst₀ src w i₀ dst i = length dst - i
 
 loop-holds : tie.Need-loop-holds Inv-loop μ-loop Inv-loop2 μ-loop2
-loop-holds c = written-start _ _
+loop-holds c = written-start 8 _ _
 
 add-loop : tie.Need-add-loop Inv-loop μ-loop Inv-loop2 μ-loop2
 add-loop c = search needs
@@ -49,8 +49,8 @@ loop-again : tie.Need-loop-again Inv-loop μ-loop Inv-loop2 μ-loop2
 loop-again c =
     let l = c .before .before .before .before .before .before .loop in
     let a = c .before .before .before .before .before .before .before .before .before .args in
-    written-word _ (l .dst) (value 8 (a .src .now) / 2 ^ a .w) (l .i) (l .inv) _ _ (omega arith) (c .before .before .put-word .kept .0) (c .before .before .put-word .ensures)
-    (c .before .before .before .before .bits .ensures ∙ ap (λ (n : ℕ). n % 2 ^ 64) (sym (shr-shr (value 8 (a .src .now)) (a .w) (8 * l .i))))
+    written-word _ (l .dst) _ (value 8 (a .src .now) / 2 ^ a .w) (l .i) _ (omega arith) (c .before .before .put-word .kept .0) (c .before .before .put-word .ensures)
+    (c .before .before .before .before .bits .ensures ∙ ap (λ (n : ℕ). n % 2 ^ 64) (sym (shr-shr (value 8 (a .src .now)) (a .w) (8 * l .i)))) (l .inv)
 
 loop2-holds : tie.Need-loop2-holds Inv-loop μ-loop Inv-loop2 μ-loop2
 loop2-holds c = search needs
@@ -80,8 +80,8 @@ loop2-again : tie.Need-loop2-again Inv-loop μ-loop Inv-loop2 μ-loop2
 loop2-again c =
     let l = c .before .before .loop2 in
     let a = c .before .before .before .before .before .before .before .args in
-    written-byte _ (l .dst) (value 8 (a .src .now) / 2 ^ a .w) (l .i) (l .inv) _ (omega arith)
-    (c .bits2 .ensures ∙ ap (λ (n : ℕ). n % 2 ^ 8) (sym (shr-shr (value 8 (a .src .now)) (a .w) (8 * l .i))))
+    written-digit 8 _ (l .dst) (value 8 (a .src .now) / 2 ^ a .w) (l .i) _ (omega arith)
+    (c .bits2 .ensures ∙ ap (λ (n : ℕ). n % 2 ^ 8) (sym (shr-shr (value 8 (a .src .now)) (a .w) (8 * l .i)))) (l .inv)
 
 same-length : tie.Need-same-length Inv-loop μ-loop Inv-loop2 μ-loop2
 same-length c = search needs
@@ -89,7 +89,7 @@ same-length c = search needs
 returns : tie.Need-returns Inv-loop μ-loop Inv-loop2 μ-loop2
 returns c =
     let l = c .before .loop2 in
-    written-done _ (l .dst) _ (l .i) _ (omega arith) (omega arith) (l .inv)
+    written-done 8 _ (l .dst) _ (l .i) _ (omega arith) (omega arith) (l .inv)
 
 pub copy-down-spec : {M : Type 1} → statement M
 copy-down-spec =
