@@ -53,7 +53,7 @@ added-start l y = record { within = zero-le; same = refl; done = sym (rw (mod-on
 
 module _ (l₀ l l′ : List ℕ) (y i v : ℕ) (f : value 8 l′ ≡ xor (value 8 l) (v * 2 ^ (8 * i))) where
   -- v is the next c bits
-  added-next : (c : ℕ) → v ≡ y / 2 ^ (8 * i) % 2 ^ c → Added l₀ l y i → value 8 l′ ≡ xor (value 8 l₀) (y % 2 ^ (c + 8 * i))
+  pub added-next : (c : ℕ) → v ≡ y / 2 ^ (8 * i) % 2 ^ c → Added l₀ l y i → value 8 l′ ≡ xor (value 8 l₀) (y % 2 ^ (c + 8 * i))
   added-next c e p =
       f ∙ ap₂ xor (p .done) (ap (λ (x : ℕ). x * 2 ^ (8 * i)) e) ∙ xor-assoc (value 8 l₀) (y % 2 ^ (8 * i)) (y / 2 ^ (8 * i) % 2 ^ c * 2 ^ (8 * i))
       ∙ ap (xor (value 8 l₀)) (xor-comm (y % 2 ^ (8 * i)) (y / 2 ^ (8 * i) % 2 ^ c * 2 ^ (8 * i)) ∙ sym (part y c (8 * i)))

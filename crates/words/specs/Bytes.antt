@@ -7,8 +7,8 @@ use native.Mathlib.Nat.{add-assoc}
 use native.Mathlib.Omega.{arith}
 use lib.ListN.{getD, drop}
 use lib.Pow.{shr-shr, low, mod-mod-pow}
-use Rattle.polynomial.specs.Digits.{value}
-use Rattle.words.specs.Value.{Bounded, digit-at, digit-is, drop-shr}
+use Rattle.polynomial.specs.Digits.{value, value-at}
+use Rattle.words.specs.Value.{Bounded, digit-at, drop-shr, bounded-all}
 use Rattle.words.specs.Word.{moved, mask, window}
 
 abbrev pub eight : List ℕ → ℕ → ℕ
@@ -50,7 +50,7 @@ module _ (s : List ℕ) (b : Bounded 8 s) where
 
   -- a byte by its place
   pub byte-is : (at : ℕ) → getD s at 0 ≡ value 8 s / 2 ^ (8 * at) % 2 ^ 8
-  byte-is at = sym (ap (λ (n : ℕ). n % 2 ^ 8) (drop-shr 8 at s b) ∙ digit-is 8 s b at)
+  byte-is at = sym (value-at 8 s (bounded-all 8 s b) at)
 
 -- ---- the c bits of x from place `pos` on, out of a word and the byte above
 pub bits-law : (x pos c : ℕ) → c ≤ 64

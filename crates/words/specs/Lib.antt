@@ -7,6 +7,9 @@ pub mod Add
 pub mod Bytes
 pub mod Remainder
 pub mod Row
+pub mod Store
+pub mod Fold
+pub mod Zero
 pub mod Move
 pub mod Insert
 pub mod Table

@@ -117,9 +117,6 @@ module _ (w : ℕ) where
       let z : i + 0 ≡ i = omega arith in
       first-digit (drop i l) ∙ ap₂ (λ (m : List ℕ) (n : ℕ). value w m * 2 ^ w + n) (drop-drop 1 i l) (getD-drop i l 0 0 ∙ ap (λ (n : ℕ). getD l n 0) z)
 
-  pub digit-is : (l : List ℕ) → Bounded l → (i : ℕ) → value w (drop i l) % 2 ^ w ≡ getD l i 0
-  digit-is l b i = ap (λ (n : ℕ). n % 2 ^ w) (digit-at l i) ∙ low (value w (drop (i + 1) l)) w (b i)
-
 -- ---- a loop that writes from the front leaves what lies ahead
 pub drop-next : (r r₀ : List ℕ) (i v : ℕ) → drop i r ≡ drop i r₀ → drop (i + 1) (set r i v) ≡ drop (i + 1) r₀
 drop-next r r₀ i v e = drop-set-lt (i + 1) r i v (omega arith) ∙ sym (drop-drop 1 i r) ∙ ap (drop 1) e ∙ drop-drop 1 i r₀

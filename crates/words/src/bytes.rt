@@ -2,9 +2,12 @@
 ghost use mathlib.Core.Path.{_≡_};
 ghost use mathlib.Core.List.{_++_};
 ghost use Prim.Native.Nat.{_-_, _+_, _*_, _/_, _%_, _^_, _≤_, _<_};
+ghost use lib.Dec.{eqb};
 ghost use lib.ListN.{length, take, drop};
 ghost use Rattle.polynomial.specs.Digits.{value, digits};
+ghost use Rattle.polynomial.specs.Division.{rem};
 ghost use Rattle.polynomial.specs.Xor.{xor};
+ghost use Rattle.words.specs.Row.{D};
 use crate::bits::bits;
 use crate::bits::bits_up;
 use crate::bits::word_in;
@@ -98,4 +101,76 @@ pub fn add_up(acc: &mut [u8], x: &[u8], s: usize)
         let v = bits_up(x, s, 8 * i, 8 * (acc.len() - i));
         add_bytes(acc, i, v);
     }
+}
+
+// The remainder of w coefficients in r is put below the data in dst, whose own w lowest coefficients are 0.
+pub fn store_low(dst: &mut [u8], r: &[u64], w: usize)
+    requires { ⌜ (w ≤ 64 * length (now r)) × (w ≤ 8 * length (now dst)) × (value 64 (now r) < 2 ^ w) × (value 8 (now dst) % 2 ^ w ≡ 0) ⌝ }
+    ensures { λ x. ⌜ value 8 (now (dst .exit)) ≡ value 8 (now (dst .entry)) + value 64 (now (r .entry)) ⌝ }
+{
+    let n = w / 64;
+    let mut k: usize = 0;
+    while k < n {
+        add_word(dst, 8 * k, r[k]);
+        k += 1;
+    }
+    if w % 64 != 0 {
+        add_bytes(dst, 8 * n, r[n]);
+    }
+}
+
+// The register r fills the 96 bytes of dst.
+pub fn store(dst: &mut [u8], r: &[u64])
+    requires { ⌜ (length (now dst) ≡ 96) × (length (now r) ≡ 13) × (value 64 (now r) < 2 ^ D) ⌝ }
+    ensures { λ x. ⌜ now (dst .exit) ≡ digits 8 96 (value 64 (now (r .entry))) ⌝ }
+{
+    let mut k: usize = 0;
+    while k < 12 {
+        put_word(dst, 8 * k, r[k]);
+        k += 1;
+    }
+}
+
+// The coefficients from x^n on are set to 0; n is a byte's highest.
+fn clear_from(acc: &mut [u8], n: usize)
+    requires { ⌜ (n % 8 ≡ 7) × (n < 8 * length (now acc)) ⌝ }
+    ensures { λ x. ⌜ value 8 (now (acc .exit)) ≡ value 8 (now (acc .entry)) % 2 ^ n ⌝ }
+{
+    let k = n / 8;
+    acc[k] = acc[k] % 128;
+    let mut i = k + 1;
+    while i < acc.len() {
+        acc[i] = 0;
+        i += 1;
+    }
+}
+
+// acc is folded modulo x^n + 1: what stands from x^n on is added below.
+pub fn fold_cyclic(acc: &mut [u8], n: usize)
+    requires { ⌜ (n % 8 ≡ 7) × (n < 1000000) × (n < 8 * length (now acc)) × (value 8 (now acc) < 2 ^ (64 + n)) × (value 8 (now acc) < 2 ^ (n + n)) ⌝ }
+    ensures { λ x. ⌜ value 8 (now (acc .exit)) ≡ rem (2 ^ n + 1) n (value 8 (now (acc .entry))) ⌝ }
+{
+    let top = bits(acc, n, 64);
+    clear_from(acc, n);
+    add_bytes(acc, 0, top);
+}
+
+// Is the polynomial 0?
+pub fn is_zero(s: &[u8]) -> bool
+    ensures { λ r. ⌜ r ≡ eqb (value 8 (now (s .entry))) 0 ⌝ }
+{
+    let mut i: usize = 0;
+    while i + 8 <= s.len() {
+        if word_in(s, i) != 0 {
+            return false;
+        }
+        i += 8;
+    }
+    while i < s.len() {
+        if s[i] != 0 {
+            return false;
+        }
+        i += 1;
+    }
+    true
 }
