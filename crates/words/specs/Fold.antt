@@ -2,7 +2,7 @@
 use mathlib.Core.Path.{_≡_, sym, ap, _∙_, ap₂}
 use mathlib.Core.List.{List}
 use Prim.Native.Nat.{ℕ, _+_, _/_, _%_, _^_, _<_, _*_, _≤_}
-use native.Mathlib.Nat.{mod-lt, zero-add, zero-mul, mul-one, lt-of-lt-of-le, lt-of-le-of-lt, mod-le}
+use native.Mathlib.Nat.{mod-lt, mul-one, lt-of-lt-of-le, lt-of-le-of-lt, mod-le}
 use native.Mathlib.Omega.{arith}
 use lib.ListN.{length, getD, take, set}
 use lib.Pow.{split, pow-pos, shr-lt, pow-mono, mod-pow-add, mod-mod-pow, shr-mod}
@@ -42,6 +42,3 @@ clear-law l n k b h e =
     ∙ ap₂ (λ (x y : ℕ). x * 2 ^ (8 * k) + y)
     (ap (λ (x : ℕ). x % 128) (sym (value-at 8 l (bounded-all 8 l b) k)) ∙ mod-mod-pow (value 8 l / 2 ^ (8 * k)) 1 7) (take-mod 8 l b k (omega arith))
     ∙ sym (mod-pow-add (value 8 l) 7 (8 * k)) ∙ ap (λ (m : ℕ). value 8 l % 2 ^ m) e
-
-pub zero-turn : (l : List ℕ) (i x : ℕ) → i < length l → value 8 (take i l) ≡ x → value 8 (take (i + 1) (set l i 0)) ≡ x
-zero-turn l i x h e = take-more-set 8 l i 0 h ∙ rw (zero-mul (2 ^ (8 * i))) (zero-add (value 8 (take i l))) ∙ e

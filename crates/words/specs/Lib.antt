@@ -11,6 +11,7 @@ pub mod Store
 pub mod Fold
 pub mod Zero
 pub mod Move
+pub mod Degree
 pub mod Insert
 pub mod Table
 pub mod Sum

@@ -32,6 +32,13 @@ module _ (w : ℕ) where
   pub bounded-drop : (l : List ℕ) → Bounded l → (i : ℕ) → Bounded (drop i l)
   bounded-drop l b i n = rw (getD-drop i l n 0) (b (i + n))
 
+  pub bounded-set : (l : List ℕ) → Bounded l → (i v : ℕ) → v < 2 ^ w → Bounded (set l i v)
+  bounded-set [] b i v h n = b n
+  bounded-set (x ∷ l) b zero v h zero = h
+  bounded-set (x ∷ l) b zero v h (suc n) = b (suc n)
+  bounded-set (x ∷ l) b (suc i) v h zero = b 0
+  bounded-set (x ∷ l) b (suc i) v h (suc n) = bounded-set l (λ j. b (suc j)) i v h n
+
   -- ---- lists put together and cut
   pub value-nil : value w [] ≡ 0
   unfolding value

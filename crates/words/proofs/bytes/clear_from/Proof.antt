@@ -5,7 +5,8 @@ use lib.ListN.{length, take, length-set}
 use lib.Seq.{take-all}
 use borrow.Author.Needs.{needs}
 use Rattle.polynomial.specs.Digits.{value}
-use Rattle.words.specs.Fold.{clear-law, zero-turn}
+use Rattle.words.specs.Fold.{clear-law}
+use Rattle.words.specs.Zero.{zero-set}
 use Rattle.words.proofs.bytes.clear_from.Statement.{statement}
 use Rattle.words.proofs.bytes.clear_from.Tie as tie
 
@@ -41,7 +42,7 @@ loop-less c = simp length-set (omega arith)
 loop-again : tie.Need-loop-again Inv-loop μ-loop
 loop-again c =
     let l = c .before .loop in
-    (simp length-set (omega arith), length-set (l .acc) (l .i) 0 ∙ l .inv .1, zero-turn (l .acc) (l .i) _ (omega arith) (l .inv .2))
+    (simp length-set (omega arith), length-set (l .acc) (l .i) 0 ∙ l .inv .1, zero-set 8 (l .acc) (l .i) _ (omega arith) (l .inv .2))
 
 same-length : tie.Need-same-length Inv-loop μ-loop
 same-length c = c .before .loop .inv .1 ∙ simp length-set

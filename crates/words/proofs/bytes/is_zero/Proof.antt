@@ -1,29 +1,29 @@
 use mathlib.Core.Path.{_≡_, _∙_, sym}
-use Prim.Native.Nat.{_+_, _-_, _*_, _%_, _^_, _≤_}
-use native.Mathlib.Nat.{mod-one}
+use Prim.Native.Nat.{_-_, _*_, _≤_}
 use native.Mathlib.Omega.{arith}
-use lib.ListN.{length}
+use lib.ListN.{length, take}
 use borrow.Author.Needs.{needs}
 use Rattle.polynomial.specs.Digits.{value}
 use Rattle.words.specs.Bytes.{byte-is}
-use Rattle.words.specs.Zero.{zero-next, zero-no, zero-yes}
+use Rattle.words.specs.Value.{value-nil}
+use Rattle.words.specs.Zero.{zero-no, zero-yes, zero-digit, zero-word}
 use Rattle.words.proofs.bytes.is_zero.Statement.{statement}
 use Rattle.words.proofs.bytes.is_zero.Tie as tie
 
 abbrev Inv-loop : tie.InvT-loop
-Inv-loop s i₀ i = (i ≤ length s) × (value 8 s % 2 ^ (8 * i) ≡ 0)
+Inv-loop s i₀ i = (i ≤ length s) × (value 8 (take i s) ≡ 0)
 
 abbrev μ-loop : tie.MeasureT-loop
 μ-loop s i₀ i = length s - i
 
 abbrev Inv-loop2 : tie.InvT-loop2
-Inv-loop2 s i₀ i = (i ≤ length s) × (value 8 s % 2 ^ (8 * i) ≡ 0)
+Inv-loop2 s i₀ i = (i ≤ length s) × (value 8 (take i s) ≡ 0)
 
 abbrev μ-loop2 : tie.MeasureT-loop2
 μ-loop2 s i₀ i = length s - i
 
 loop-holds : tie.Need-loop-holds Inv-loop μ-loop Inv-loop2 μ-loop2
-loop-holds c = (omega arith, mod-one _)
+loop-holds c = (omega arith, value-nil 8)
 
 add-loop : tie.Need-add-loop Inv-loop μ-loop Inv-loop2 μ-loop2
 add-loop c = search needs
@@ -45,7 +45,7 @@ loop-less c = search needs
 loop-again : tie.Need-loop-again Inv-loop μ-loop Inv-loop2 μ-loop2
 loop-again c =
     let l = c .before .before .before .loop in
-    (omega arith, zero-next _ 64 (8 * l .i) (8 * (l .i + 8)) (omega arith) (l .inv .1) (sym (c .before .word-in .ensures) ∙ omega arith))
+    (omega arith, zero-word (c .before .before .before .before .before .args .s .now) (l .i) (λ k. c .before .before .before .before .shared-slice-known .given k .fits) (omega arith) (sym (c .before .word-in .ensures) ∙ omega arith) (l .inv .1))
 
 loop2-holds : tie.Need-loop2-holds Inv-loop μ-loop Inv-loop2 μ-loop2
 loop2-holds c = search needs
@@ -67,12 +67,12 @@ loop2-less c = search needs
 loop2-again : tie.Need-loop2-again Inv-loop μ-loop Inv-loop2 μ-loop2
 loop2-again c =
     let l = c .before .before .before .loop2 in
-    (omega arith, zero-next _ 8 (8 * l .i) (8 * (l .i + 1)) (omega arith) (l .inv .1) (sym (byte-is (c .before .before .before .before .before .before .before .args .s .now) (λ k. c .before .before .before .before .before .before .shared-slice-known .given k .fits) (l .i)) ∙ omega arith))
+    (omega arith, zero-digit 8 (c .before .before .before .before .before .before .before .args .s .now) (l .i) (omega arith) (omega arith) (l .inv .1))
 
 returns-3 : tie.Need-returns-3 Inv-loop μ-loop Inv-loop2 μ-loop2
 returns-3 c =
     let l = c .before .loop2 in
-    sym (zero-yes 8 (c .before .before .before .before .before .args .s .now) (l .i) (λ k. c .before .before .before .before .shared-slice-known .given k .fits) (omega arith) (l .inv .1))
+    sym (zero-yes 8 (c .before .before .before .before .before .args .s .now) (l .i) (omega arith) (l .inv .1))
 
 pub is-zero-spec : {M : Type 1} → statement M
 is-zero-spec =
