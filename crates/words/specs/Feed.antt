@@ -7,7 +7,7 @@ use native.Mathlib.Nat as Nat
 use native.Mathlib.Omega.{arith}
 use lib.Pow.{pow-pos, pow-add, shr-shr, field, mod-mod-pow, split}
 use Rattle.polynomial.specs.Division.{rem, rem-small}
-use Rattle.polynomial.specs.Xor.{xor, xor-zero-r, xor-assoc}
+use Rattle.polynomial.specs.Xor.{xor, xor-zero-r, xor-assoc, xor-zero-l}
 use Rattle.words.specs.Remainder.{rem-shift-add}
 use Rattle.words.specs.Row.{D}
 use Rattle.words.specs.Shift.{join, xor-shl}
@@ -57,3 +57,7 @@ pub end-fed : (t : List ℕ) (n f p m q r : ℕ) → q ≡ 0 → Reduced t (xor 
 end-fed t n f p m q r e a =
     let z : m - 0 ≡ m = omega arith in
     rw (e, z, pow-zero, div-one) at a
+
+-- fed to a register of 0
+pub fed-zero : (t : List ℕ) (n f p m r : ℕ) → n ≡ 0 → Reduced t (xor (n * 2 ^ m) (f % 2 ^ m * 2 ^ p)) r → Reduced t (f % 2 ^ m * 2 ^ p) r
+fed-zero t n f p m r z q = rw (z, zero-mul, xor-zero-l) at q

@@ -5,18 +5,19 @@
 --   Table G t       t is G's table: row n is the remainder of hex n · x^768
 --   four t base v   the sum of the four rows that v's four lowest hex digits choose, from row `base` on
 --   Reduced t f r   r is below 2^768, and is the remainder of f by whichever G has t as its table
+--   RemainderBy t s f r    r is the remainder of f by whichever g, moved up by s to degree 768, has t as its table
 use mathlib.Core.Path.{_≡_, refl, sym, ap, ap₂, _∙_}
 use mathlib.Core.List.{List}
-use Prim.Native.Nat.{ℕ, _+_, _*_, _/_, _%_, _^_, _≤_, _<_}
+use Prim.Native.Nat.{ℕ, _+_, _*_, _/_, _%_, _^_, _≤_, _<_, _-_}
 use native.Mathlib.Nat.{mul-assoc, mod-eq-of-lt, mul-one}
 use native.Mathlib.Omega.{arith}
 use lib.ListN.{length, take, drop, length-drop}
-use lib.Pow.{pow-add, low}
+use lib.Pow.{pow-add, low, shr-lt}
 use Rattle.polynomial.specs.Digits.{value}
-use Rattle.polynomial.specs.Division.{Deg, rem}
+use Rattle.polynomial.specs.Division.{Deg, rem, deg}
 use Rattle.polynomial.specs.Xor.{xor, xors, xor-assoc}
-use Rattle.words.specs.Remainder.{rem-top, rem-four, rem-up}
-use Rattle.words.specs.Row.{D, pow-D}
+use Rattle.words.specs.Remainder.{rem-top, rem-four, rem-up, rem-down}
+use Rattle.words.specs.Row.{D, pow-D, D-is}
 use Rattle.words.specs.Shift.{xor-shl, part}
 use Rattle.words.specs.Value.{Bounded, take-lt, bounded-drop}
 
@@ -106,6 +107,19 @@ reduced t v low r hv hl hr e = record {
     regroup : (l a b c f : ℕ) → xor (xor (xor (xor l a) b) c) f ≡ xor l (xor a (xor b (xor c f)))
     regroup l a b c f = simp xor-assoc
 
--- for a generator g of any degree w: with g moved up to degree 768, what is left of f, moved up with it, is f's remainder by g, moved up
-pub remainder : (t : List ℕ) (g w s f r : ℕ) → Deg g w → w + s ≡ D → Table (g * 2 ^ s) t → Reduced t (f * 2 ^ s) r → r ≡ rem g w f * 2 ^ s
-remainder t g w s f r d e T q = q .rest (g * 2 ^ s) T ∙ ap (λ (n : ℕ). rem (g * 2 ^ s) n (f * 2 ^ s)) (sym e) ∙ rem-up g w s d f
+-- ---- a generator g of any degree w, moved up by s to degree 768
+-- with f moved up too, what is left is f's remainder by g, moved up
+pub aligned : (t : List ℕ) (g w s f r : ℕ) → Deg g w → w + s ≡ D → Table (g * 2 ^ s) t → Reduced t (f * 2 ^ s) r → r ≡ rem g w f * 2 ^ s
+aligned t g w s f r d e T q = q .rest (g * 2 ^ s) T ∙ ap (λ (n : ℕ). rem (g * 2 ^ s) n (f * 2 ^ s)) (sym e) ∙ rem-up g w s d f
+
+pub record RemainderBy (t : List ℕ) (s f r : ℕ) : Type 0 where
+  pub small : r < 2 ^ (D - s)
+  pub rest : (g w : ℕ) → Deg g w → w + s ≡ D → Table (g * 2 ^ s) t → r ≡ rem g w f
+
+pub lowered : (t : List ℕ) (s f r : ℕ) → s ≤ 768 → Reduced t (f * 2 ^ s) r → RemainderBy t s f (r / 2 ^ s)
+lowered t s f r h q =
+    let e : (D - s) + s ≡ D = omega (arith, D-is) in
+    record {
+      small = shr-lt (D - s) s (rw e (q .small));
+      rest = λ g w d k T. ap (λ (x : ℕ). x / 2 ^ s) (q .rest (g * 2 ^ s) T ∙ ap (λ (n : ℕ). rem (g * 2 ^ s) n (f * 2 ^ s)) (sym k)) ∙ rem-down g w s d f;
+    }

@@ -5,9 +5,11 @@ ghost use lib.ListN.{length};
 ghost use Rattle.polynomial.specs.Digits.{value};
 ghost use Rattle.polynomial.specs.Xor.{xor};
 ghost use Rattle.words.specs.Row.{D};
-ghost use Rattle.words.specs.Table.{rowAt, four, Reduced};
+ghost use Rattle.words.specs.Table.{RemainderBy, rowAt, four, Reduced};
 use crate::bits::bits;
+use crate::row::clear;
 use crate::row::insert;
+use crate::row::lower;
 use crate::row::shift;
 
 // Four rows are added, which stand at a, b, c and d.
@@ -78,4 +80,22 @@ pub fn feed(r: &mut [u64], t: &[u64], s: &[u8], n: usize, l: usize, p: usize)
         let u = bits(s, 0, pos);
         step(r, t, u, pos, p);
     }
+}
+
+// The n lowest coefficients of s, moved up by p, reduced.
+pub fn aligned_of(r: &mut [u64], t: &[u64], s: &[u8], n: usize, l: usize, p: usize)
+    requires { ⌜ (length (now r) ≡ 13) × (length (now t) ≡ 3072) × (1 ≤ l) × (l ≤ 64) × (p < 768) × (n < 1000000) ⌝ }
+    ensures { λ x. ⌜ Reduced (now (t .entry)) (value 8 (now (s .entry)) % 2 ^ n * 2 ^ p) (value 64 (now (r .exit))) ⌝ }
+{
+    clear(r);
+    feed(r, t, s, n, l, p);
+}
+
+// The remainder of the n lowest coefficients of s by the generator that is moved up by p in t.
+pub fn remainder_of(r: &mut [u64], t: &[u64], s: &[u8], n: usize, l: usize, p: usize)
+    requires { ⌜ (length (now r) ≡ 13) × (length (now t) ≡ 3072) × (1 ≤ l) × (l ≤ 64) × (p < 768) × (n < 1000000) ⌝ }
+    ensures { λ x. ⌜ RemainderBy (now (t .entry)) p (value 8 (now (s .entry)) % 2 ^ n) (value 64 (now (r .exit))) ⌝ }
+{
+    aligned_of(r, t, s, n, l, p);
+    lower(r, p);
 }
