@@ -1,0 +1,28 @@
+use native.Mathlib.Omega.{arith}
+use borrow.Author.Needs.{needs}
+use Rattle.polynomial.specs.Digits.{value}
+use Rattle.words.specs.Fold.{top-lt, fold-law}
+use Rattle.words.proofs.bytes.fold_cyclic.Statement.{statement}
+use Rattle.words.proofs.bytes.fold_cyclic.Tie as tie
+
+bits-requires : tie.Need-bits-requires
+bits-requires c κs = search needs
+
+clear-from-requires : tie.Need-clear-from-requires
+clear-from-requires c κs = search needs
+
+add-bytes-requires : tie.Need-add-bytes-requires
+add-bytes-requires c κs =
+    let k = c .before .before .before .clear-from .kept .0 in
+    (omega arith, top-lt (c .before .before .before .before .before .before .before .before .args .n) (value 8 (c .before .before .before .before .before .before .before .before .args .acc .now)) _ _ (c .before .before .before .before .before .before .before .before .pre .4) (omega (arith, k)) (c .before .before .before .before .before .bits .ensures))
+
+same-length : tie.Need-same-length
+same-length c = search needs
+
+returns : tie.Need-returns
+returns c =
+    fold-law (c .before .before .before .before .before .before .before .before .before .before .before .args .n) (value 8 (c .before .before .before .before .before .before .before .before .before .before .before .args .acc .now)) _ (c .before .before .before .before .before .before .before .before .bits .result) _ (omega arith) (c .before .before .before .before .before .before .before .before .before .before .before .pre .3) (c .before .before .before .before .before .before .before .before .before .before .before .pre .4) (c .before .before .before .before .before .before .clear-from .ensures) (c .before .before .before .before .before .before .before .before .bits .ensures) (c .before .before .add-bytes .ensures)
+
+pub fold-cyclic-spec : {M : Type 1} → statement M
+fold-cyclic-spec =
+    tie.close (tie.spec bits-requires clear-from-requires add-bytes-requires same-length returns)

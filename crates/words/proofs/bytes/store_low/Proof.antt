@@ -1,0 +1,102 @@
+use mathlib.Core.Path.{_≡_, refl}
+use Prim.Native.Nat.{_+_, _-_, _*_, _≤_, _/_}
+use native.Mathlib.Omega.{arith}
+use borrow.Author.Needs.{needs}
+use Rattle.polynomial.specs.Digits.{value}
+use Rattle.words.specs.Add.{Added, added-start, added-word, added-next}
+use Rattle.words.specs.Store.{word-digit, last-lt, under}
+use Rattle.words.proofs.bytes.store_low.Statement.{statement}
+use Rattle.words.proofs.bytes.store_low.Tie as tie
+
+abbrev Inv-loop : tie.InvT-loop
+Inv-loop dst₀ r w n k₀ dst k = (k ≤ n) × Added dst₀ dst (value 64 r) (8 * k)
+
+abbrev μ-loop : tie.MeasureT-loop
+μ-loop dst₀ r w n k₀ dst k = n - k
+
+loop-holds : tie.Need-loop-holds Inv-loop μ-loop
+loop-holds c = (omega arith, added-start _ _)
+
+mul-add-word : tie.Need-mul-add-word Inv-loop μ-loop
+mul-add-word c = search needs
+
+mul-add-word-2 : tie.Need-mul-add-word-2 Inv-loop μ-loop
+mul-add-word-2 c = search needs
+
+shared-slice-read-add-word : tie.Need-shared-slice-read-add-word Inv-loop μ-loop
+shared-slice-read-add-word c = search needs
+
+add-word-requires : tie.Need-add-word-requires Inv-loop μ-loop
+add-word-requires c κs = search needs
+
+add-k : tie.Need-add-k Inv-loop μ-loop
+add-k c = search needs
+
+loop-less : tie.Need-loop-less Inv-loop μ-loop
+loop-less c = search needs
+
+loop-again : tie.Need-loop-again Inv-loop μ-loop
+loop-again c =
+    let l = c .before .before .before .before .before .before .loop in
+    let e : 8 * l .k + 8 ≡ 8 * (l .k + 1) = omega arith in (
+      omega arith,
+      rw e at (added-word _ (l .dst) _ _ (8 * l .k) _ (c .before .before .add-word .ensures) (omega arith) (c .before .before .add-word .kept .0) (word-digit (c .before .before .before .before .before .before .before .before .before .args .r .now) (λ k. c .before .before .before .before .before .before .before .shared-slice-known .given k .fits) (l .k)) (l .inv .1)),
+    )
+
+mul-add-bytes : tie.Need-mul-add-bytes Inv-loop μ-loop
+mul-add-bytes c = search needs
+
+mul-add-bytes-2 : tie.Need-mul-add-bytes-2 Inv-loop μ-loop
+mul-add-bytes-2 c = search needs
+
+shared-slice-read-add-bytes : tie.Need-shared-slice-read-add-bytes Inv-loop μ-loop
+shared-slice-read-add-bytes c = search needs
+
+add-bytes-requires : tie.Need-add-bytes-requires Inv-loop μ-loop
+add-bytes-requires c κs =
+    let l = c .before .before .before .before .loop in
+    let a = c .before .before .before .before .before .before .before .args in
+    (omega arith, last-lt (a .r .now) (λ k. c .before .before .before .before .before .shared-slice-known .given k .fits) (a .w) (a .w / 64) _ (c .before .before .before .before .before .before .before .pre .2) refl (omega arith))
+
+same-length : tie.Need-same-length Inv-loop μ-loop
+same-length c = search needs
+
+returns : tie.Need-returns Inv-loop μ-loop
+returns c =
+    let l = c .before .before .before .before .before .before .before .loop in
+    let a = c .before .before .before .before .before .before .before .before .before .before .args in
+    let e : l .k ≡ a .w / 64 = omega arith in
+    under (value 8 (a .dst .now)) (value 64 (a .r .now)) (a .w) (64 + 8 * (8 * (a .w / 64))) _ (c .before .before .before .before .before .before .before .before .before .before .pre .3) (c .before .before .before .before .before .before .before .before .before .before .pre .2) (omega arith)
+    (added-next _ (l .dst) _ _ (8 * (a .w / 64)) _ (c .before .before .add-bytes .ensures) 64 (word-digit (a .r .now) (λ k. c .before .before .before .before .before .before .before .before .shared-slice-known .given k .fits) (a .w / 64)) (rw e at (l .inv .1)))
+
+same-length-2 : tie.Need-same-length-2 Inv-loop μ-loop
+same-length-2 c = search needs
+
+returns-2 : tie.Need-returns-2 Inv-loop μ-loop
+returns-2 c =
+    let l = c .before .before .loop in
+    let a = c .before .before .before .before .before .args in
+    under (value 8 (a .dst .now)) (value 64 (a .r .now)) (a .w) (8 * (8 * l .k)) _ (c .before .before .before .before .before .pre .3) (c .before .before .before .before .before .pre .2) (omega arith) (l .inv .1 .done)
+
+pub store-low-spec : {M : Type 1} → statement M
+store-low-spec =
+    tie.close
+    (tie.spec
+    Inv-loop
+    μ-loop
+    loop-holds
+    mul-add-word
+    mul-add-word-2
+    shared-slice-read-add-word
+    add-word-requires
+    add-k
+    loop-less
+    loop-again
+    mul-add-bytes
+    mul-add-bytes-2
+    shared-slice-read-add-bytes
+    add-bytes-requires
+    same-length
+    returns
+    same-length-2
+    returns-2)

@@ -1,0 +1,176 @@
+// Polynomials in bytes: copied, moved, added.
+ghost use mathlib.Core.Path.{_≡_};
+ghost use mathlib.Core.List.{_++_};
+ghost use Prim.Native.Nat.{_-_, _+_, _*_, _/_, _%_, _^_, _≤_, _<_};
+ghost use lib.Dec.{eqb};
+ghost use lib.ListN.{length, take, drop};
+ghost use Rattle.polynomial.specs.Digits.{value, digits};
+ghost use Rattle.polynomial.specs.Division.{rem};
+ghost use Rattle.polynomial.specs.Xor.{xor};
+ghost use Rattle.words.specs.Row.{D};
+use crate::bits::bits;
+use crate::bits::bits_up;
+use crate::bits::word_in;
+
+// The 8 bytes at `at` are set to v.
+pub fn put_word(dst: &mut [u8], at: usize, v: u64)
+    requires { ⌜ at + 8 ≤ length (now dst) ⌝ }
+    ensures { λ x. ⌜ now (dst .exit) ≡ take at (now (dst .entry)) ++ digits 8 8 v ++ drop (at + 8) (now (dst .entry)) ⌝ }
+{
+    dst[at] = (v % 256) as u8;
+    dst[at + 1] = (v / 256 % 256) as u8;
+    dst[at + 2] = (v / 65536 % 256) as u8;
+    dst[at + 3] = (v / 16777216 % 256) as u8;
+    dst[at + 4] = (v / 4294967296 % 256) as u8;
+    dst[at + 5] = (v / 1099511627776 % 256) as u8;
+    dst[at + 6] = (v / 281474976710656 % 256) as u8;
+    dst[at + 7] = (v / 72057594037927936 % 256) as u8;
+}
+
+// src moved down by w places is copied to dst, 64 coefficients at a time and then 8.
+pub fn copy_down(dst: &mut [u8], src: &[u8], w: usize)
+    requires { ⌜ (w < 8192) × (length (now dst) < 8192) ⌝ }
+    ensures { λ x. ⌜ value 8 (now (dst .exit)) ≡ value 8 (now (src .entry)) / 2 ^ w % 2 ^ (8 * length (now (dst .entry))) ⌝ }
+{
+    let mut i: usize = 0;
+    while i + 8 <= dst.len() {
+        let v = bits(src, w + 8 * i, 64);
+        put_word(dst, i, v);
+        i += 8;
+    }
+    while i < dst.len() {
+        let b = bits(src, w + 8 * i, 8);
+        dst[i] = b as u8;
+        i += 1;
+    }
+}
+
+// src moved up by w places is copied to dst, 64 coefficients at a time and then 8; what passes dst's end is lost.
+pub fn copy_up(dst: &mut [u8], src: &[u8], w: usize)
+    requires { ⌜ length (now dst) < 8192 ⌝ }
+    ensures { λ x. ⌜ value 8 (now (dst .exit)) ≡ value 8 (now (src .entry)) * 2 ^ w % 2 ^ (8 * length (now (dst .entry))) ⌝ }
+{
+    let mut i: usize = 0;
+    while i + 8 <= dst.len() {
+        let v = bits_up(src, w, 8 * i, 64);
+        put_word(dst, i, v);
+        i += 8;
+    }
+    while i < dst.len() {
+        let b = bits_up(src, w, 8 * i, 8);
+        dst[i] = b as u8;
+        i += 1;
+    }
+}
+
+// v is added from byte `at` on.
+pub fn add_word(acc: &mut [u8], at: usize, v: u64)
+    requires { ⌜ at + 8 ≤ length (now acc) ⌝ }
+    ensures { λ x. ⌜ value 8 (now (acc .exit)) ≡ xor (value 8 (now (acc .entry))) (v * 2 ^ (8 * at)) ⌝ }
+{
+    let w = word_in(acc, at);
+    put_word(acc, at, w ^ v);
+}
+
+// v is added from byte `at` on, where fewer than 8 may follow.
+pub fn add_bytes(acc: &mut [u8], at: usize, v: u64)
+    requires { ⌜ (at ≤ length (now acc)) × (v < 2 ^ (8 * (length (now acc) - at))) ⌝ }
+    ensures { λ x. ⌜ value 8 (now (acc .exit)) ≡ xor (value 8 (now (acc .entry))) (v * 2 ^ (8 * at)) ⌝ }
+{
+    let mut u = v;
+    let mut i = at;
+    while u != 0 {
+        acc[i] = acc[i] ^ (u % 256) as u8;
+        u = u / 256;
+        i += 1;
+    }
+}
+
+// x moved up by s places is added into acc, 64 coefficients at a time; what passes acc's end is lost.
+pub fn add_up(acc: &mut [u8], x: &[u8], s: usize)
+    requires { ⌜ length (now acc) < 8192 ⌝ }
+    ensures { λ r. ⌜ value 8 (now (acc .exit)) ≡ xor (value 8 (now (acc .entry))) (value 8 (now (x .entry)) * 2 ^ s % 2 ^ (8 * length (now (acc .entry)))) ⌝ }
+{
+    let mut i: usize = 0;
+    while i + 8 <= acc.len() {
+        let v = bits_up(x, s, 8 * i, 64);
+        add_word(acc, i, v);
+        i += 8;
+    }
+    if i < acc.len() {
+        let v = bits_up(x, s, 8 * i, 8 * (acc.len() - i));
+        add_bytes(acc, i, v);
+    }
+}
+
+// The remainder of w coefficients in r is put below the data in dst, whose own w lowest coefficients are 0.
+pub fn store_low(dst: &mut [u8], r: &[u64], w: usize)
+    requires { ⌜ (w ≤ 64 * length (now r)) × (w ≤ 8 * length (now dst)) × (value 64 (now r) < 2 ^ w) × (value 8 (now dst) % 2 ^ w ≡ 0) ⌝ }
+    ensures { λ x. ⌜ value 8 (now (dst .exit)) ≡ value 8 (now (dst .entry)) + value 64 (now (r .entry)) ⌝ }
+{
+    let n = w / 64;
+    let mut k: usize = 0;
+    while k < n {
+        add_word(dst, 8 * k, r[k]);
+        k += 1;
+    }
+    if w % 64 != 0 {
+        add_bytes(dst, 8 * n, r[n]);
+    }
+}
+
+// The register r fills the 96 bytes of dst.
+pub fn store(dst: &mut [u8], r: &[u64])
+    requires { ⌜ (length (now dst) ≡ 96) × (length (now r) ≡ 13) × (value 64 (now r) < 2 ^ D) ⌝ }
+    ensures { λ x. ⌜ now (dst .exit) ≡ digits 8 96 (value 64 (now (r .entry))) ⌝ }
+{
+    let mut k: usize = 0;
+    while k < 12 {
+        put_word(dst, 8 * k, r[k]);
+        k += 1;
+    }
+}
+
+// The coefficients from x^n on are set to 0; n is a byte's highest.
+fn clear_from(acc: &mut [u8], n: usize)
+    requires { ⌜ (n % 8 ≡ 7) × (n < 8 * length (now acc)) ⌝ }
+    ensures { λ x. ⌜ value 8 (now (acc .exit)) ≡ value 8 (now (acc .entry)) % 2 ^ n ⌝ }
+{
+    let k = n / 8;
+    acc[k] = acc[k] % 128;
+    let mut i = k + 1;
+    while i < acc.len() {
+        acc[i] = 0;
+        i += 1;
+    }
+}
+
+// acc is folded modulo x^n + 1: what stands from x^n on is added below.
+pub fn fold_cyclic(acc: &mut [u8], n: usize)
+    requires { ⌜ (n % 8 ≡ 7) × (n < 1000000) × (n < 8 * length (now acc)) × (value 8 (now acc) < 2 ^ (64 + n)) × (value 8 (now acc) < 2 ^ (n + n)) ⌝ }
+    ensures { λ x. ⌜ value 8 (now (acc .exit)) ≡ rem (2 ^ n + 1) n (value 8 (now (acc .entry))) ⌝ }
+{
+    let top = bits(acc, n, 64);
+    clear_from(acc, n);
+    add_bytes(acc, 0, top);
+}
+
+// Is the polynomial 0?
+pub fn is_zero(s: &[u8]) -> bool
+    ensures { λ r. ⌜ r ≡ eqb (value 8 (now (s .entry))) 0 ⌝ }
+{
+    let mut i: usize = 0;
+    while i + 8 <= s.len() {
+        if word_in(s, i) != 0 {
+            return false;
+        }
+        i += 8;
+    }
+    while i < s.len() {
+        if s[i] != 0 {
+            return false;
+        }
+        i += 1;
+    }
+    true
+}

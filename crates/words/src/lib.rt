@@ -1,0 +1,7 @@
+// Kernels on bytes and 64-bit words. A slice is a polynomial over GF(2): the number whose digits, lowest first, are its bytes (`value 8`) or its
+// words (`value 64`). Each contract states its function by the plain definitions on numbers, xor, shifts and rem, and by nothing of how it is done.
+pub mod bits; // bits read out of bytes
+pub mod bytes; // polynomials in bytes: copied, moved, added
+pub mod row; // rows of 13 words: moved, added
+pub mod table; // the table of a generator
+pub mod remainder; // remainders by a table
