@@ -1,0 +1,2 @@
+-- Syndromes as a program sums them.
+pub mod Sum
