@@ -75,16 +75,16 @@ module _ (p : Parameters) (x : List ℕ) where
 
   -- one sub-word more, where the program holds n and b
   module _ (A : Accepted p) (i n b : ℕ) (h : i < p .m) (e : n ≡ stored p) (f : b ≡ subWordBytes p) where
-    pub word-there : length x ≡ pageBytes p → (1 ≤ n) × (n < 4096) × (i * b + (n + 7) / 8 ≤ length x)
-    word-there l = rw (e, f, l, stored-bytes p A) (stored-low p A, stored-high p A, word-room p i h)
+    pub word-there : length x ≡ pageBytes p → (1 ≤ n) × (n < 4096) × (b ≡ (n + 7) / 8) × (i * b + b ≤ length x)
+    word-there l = rw (e, f, l) (stored-low p A, stored-high p A, sym (stored-bytes p A), word-room p i h)
 
-    word-test : runClear x (i * b) n ≡ passes (wordBits p) (wordsOf p x) i
-    word-test = rw (e, f, stored-bytes p A) (sym (ap₂ (λ (y k : ℕ). ltb y (2 ^ k)) (word-at p x i h) (getD-replicate (p .m) i (stored p) 0 h)))
+    word-test : runClear x (i * b) b n ≡ passes (wordBits p) (wordsOf p x) i
+    word-test = rw (e, f) (sym (ap₂ (λ (y k : ℕ). ltb y (2 ^ k)) (word-at p x i h) (getD-replicate (p .m) i (stored p) 0 h)))
 
-    pub words-turn : WordsClear p x i → runClear x (i * b) n ≡ true → WordsClear p x (i + 1)
+    pub words-turn : WordsClear p x i → runClear x (i * b) b n ≡ true → WordsClear p x (i + 1)
     words-turn s t = clear-turn (wordBits p) (wordsOf p x) words-many i s (rw length-word-bits h) (sym word-test ∙ t)
 
-    pub words-found : WordsClear p x i → runClear x (i * b) n ≡ false → false ≡ pageClear p x
+    pub words-found : WordsClear p x i → runClear x (i * b) b n ≡ false → false ≡ pageClear p x
     words-found s t = clear-found (wordBits p) (wordsOf p x) words-many i s (rw length-word-bits h) (sym word-test ∙ t) ∙ sym page-eq
 
 -- ---- the unused bits of blocks
@@ -106,19 +106,19 @@ module _ (p : Parameters) (x : List ℕ) where
   pub blocks-done : (at i : ℕ) → BlocksClear p x at i → p .m ≤ i → true ≡ blocksClear p x
   blocks-done at i s h = clear-done (blockBits p) (blocksOf p x) i (s .clear) (rw (length-bits p) h) ∙ sym blocks-eq
 
-  -- one block more, where the program holds its b bits
-  module _ (at i b : ℕ) (s : BlocksClear p x at i) (h : i < p .m) (e : b ≡ dataBits p i) where
-    pub block-there : Accepted p → length x ≡ dataBytes p → (1 ≤ b) × (b < 4096) × (at + (b + 7) / 8 ≤ length x)
-    block-there A l = rw (e, s .begins, l) (data-low p A i, data-high p A i, block-room p i h)
+  -- one block more, where the program holds its bits and its size
+  module _ (at i b k : ℕ) (s : BlocksClear p x at i) (h : i < p .m) (e : b ≡ dataBits p i) (f : k ≡ (dataBits p i + 7) / 8) where
+    pub block-there : Accepted p → length x ≡ dataBytes p → (1 ≤ b) × (b < 4096) × (k ≡ (b + 7) / 8) × (at + k ≤ length x)
+    block-there A l = rw (f, e, s .begins, l) (data-low p A i, data-high p A i, refl, block-room p i h)
 
-    block-test : runClear x at b ≡ passes (blockBits p) (blocksOf p x) i
-    block-test = rw (e, s .begins) (sym (ap₂ (λ (y k : ℕ). ltb y (2 ^ k)) (block-at p x i h) (bits-at p i h)))
+    block-test : runClear x at k b ≡ passes (blockBits p) (blocksOf p x) i
+    block-test = rw (f, e, s .begins) (sym (ap₂ (λ (y k : ℕ). ltb y (2 ^ k)) (block-at p x i h) (bits-at p i h)))
 
-    pub blocks-turn : (k : ℕ) → runClear x at b ≡ true → k ≡ (b + 7) / 8 → BlocksClear p x (at + k) (i + 1)
-    blocks-turn k t f = record {
+    pub blocks-turn : runClear x at k b ≡ true → BlocksClear p x (at + k) (i + 1)
+    blocks-turn t = record {
       clear = clear-turn (blockBits p) (blocksOf p x) blocks-many i (s .clear) (rw (length-bits p) h) (sym block-test ∙ t);
-      begins = rw (f, e, s .begins) (sym (offset-next p i h));
+      begins = rw (f, s .begins) (sym (offset-next p i h));
     }
 
-    pub blocks-found : runClear x at b ≡ false → false ≡ blocksClear p x
+    pub blocks-found : runClear x at k b ≡ false → false ≡ blocksClear p x
     blocks-found t = clear-found (blockBits p) (blocksOf p x) blocks-many i (s .clear) (rw (length-bits p) h) (sym block-test ∙ t) ∙ sym blocks-eq

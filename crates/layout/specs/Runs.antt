@@ -1,5 +1,5 @@
 -- Bytes in runs of sizes ks, one run after the other: run i begins at sum (take i ks).
---   runClear l at b    the bytes of l from `at` on that b bits take are, as a number, below 2^b
+--   runClear l at k b    the k bytes of l from `at` on are, as a number, below 2^b
 use mathlib.Core.Path.{_≡_, refl, sym, ap, ap₂, _∙_}
 use mathlib.Core.Bool.{Bool, true, false}
 use mathlib.Core.List.{List, [], _∷_, _++_}
@@ -95,15 +95,15 @@ last-byte (x ∷ y ∷ l) (suc k) b h e r =
     ∙ last-byte (y ∷ l) k (b - 8) (h .1) (Nat.suc-inj e) (omega arith)
     ∙ ap (λ (n : ℕ). ltb (getD (y ∷ l) k 0) (2 ^ n)) u
 
-abbrev pub runClear : List ℕ → ℕ → ℕ → Bool
-runClear l at b = ltb (value 8 (take ((b + 7) / 8) (drop at l))) (2 ^ b)
+abbrev pub runClear : List ℕ → ℕ → ℕ → ℕ → Bool
+runClear l at k b = ltb (value 8 (take k (drop at l))) (2 ^ b)
 
--- by the last of its k bytes, below u
-pub run-test : (l : List ℕ) (at b k u : ℕ) → ((i : ℕ) → getD l i 0 < 256) → 1 ≤ b → at + (b + 7) / 8 ≤ length l → k ≡ (b + 7) / 8 → u ≡ 2 ^ (8 - (8 * k - b))
-    → ltb (getD l (at + k - 1) 0) u ≡ runClear l at b
-run-test l at b k u h low room f e =
+-- the test of a run of as many bytes as b bits take
+pub run-test : (l : List ℕ) (at k b u : ℕ) → ((i : ℕ) → getD l i 0 < 256) → 1 ≤ b → k ≡ (b + 7) / 8 → at + k ≤ length l → u ≡ 2 ^ (8 - (8 * k - b))
+    → ltb (getD l (at + k - 1) 0) u ≡ runClear l at k b
+run-test l at k b u h low f room e =
     let i : at + k - 1 ≡ at + (k - 1) = omega arith in
     let j : 8 - (8 * k - b) ≡ b - 8 * (k - 1) = omega arith in
     let run : Bytes (take k (drop at l)) = all-take (λ d. d < 256) k (drop at l) (all-drop (λ d. d < 256) at l (at-all (λ d. d < 256) l (λ n _. h n))) in
-    rw (← f) (sym (last-byte (take k (drop at l)) (k - 1) b run (length-take-le k (drop at l) (rw (length-drop at l) (omega arith)) ∙ omega arith) (omega arith)
-    ∙ ap₂ ltb (getD-take k (drop at l) (k - 1) 0 (omega arith) ∙ getD-drop at l (k - 1) 0 ∙ ap (λ (n : ℕ). getD l n 0) (sym i)) (sym (e ∙ ap (λ (n : ℕ). 2 ^ n) j))))
+    sym (last-byte (take k (drop at l)) (k - 1) b run (length-take-le k (drop at l) (rw (length-drop at l) (omega arith)) ∙ omega arith) (omega arith)
+    ∙ ap₂ ltb (getD-take k (drop at l) (k - 1) 0 (omega arith) ∙ getD-drop at l (k - 1) 0 ∙ ap (λ (n : ℕ). getD l n 0) (sym i)) (sym (e ∙ ap (λ (n : ℕ). 2 ^ n) j)))

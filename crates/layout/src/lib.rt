@@ -1,6 +1,6 @@
 // Lengths of pages and blocks, and the tests for stray bits.
 ghost use mathlib.Core.Path.{_≡_};
-ghost use Prim.Native.Nat.{_+_, _-_, _*_, _/_, _^_, _≤_, _<_};
+ghost use Prim.Native.Nat.{_+_, _/_, _^_, _≤_, _<_};
 ghost use lib.ListN.{length};
 ghost use Rattle.code.specs.Parameters.{Accepted, stored, subWordBytes};
 ghost use Rattle.code.specs.Code.{level, checkBits};
@@ -16,14 +16,6 @@ fn two_to(k: usize) -> usize
     ensures { λ r. ⌜ r ≡ 2 ^ k ⌝ }
 {
     1 << k
-}
-
-// The bytes that b bits take.
-fn bytes_of(b: usize) -> usize
-    requires { ⌜ b < 4096 ⌝ }
-    ensures { λ r. ⌜ r ≡ (b + 7) / 8 ⌝ }
-{
-    (b + 7) / 8
 }
 
 // ---- lengths
@@ -44,6 +36,7 @@ pub fn sub_word_bytes(p: Parameters) -> usize
     two_to(p.q as usize) / 8
 }
 
+// The bytes of a page.
 pub fn page_bytes(p: Parameters) -> usize
     requires { ⌜ Accepted p ⌝ }
     ensures { λ r. ⌜ r ≡ pageBytes p ⌝ }
@@ -85,7 +78,7 @@ pub fn block_size(p: Parameters, w: &[u32], i: usize) -> usize
     ensures { λ r. ⌜ r ≡ (dataBits p i + 7) / 8 ⌝ }
 {
     let b = data_bits(p, w, i);
-    bytes_of(b)
+    (b + 7) / 8
 }
 
 // Where block i begins.
@@ -112,12 +105,11 @@ pub fn data_bytes(p: Parameters, w: &[u32]) -> usize
 
 // ---- stray bits
 
-// The bytes from `at` on that hold b bits are, as a number, below 2^b: of the last one no unused bit is 1.
-fn run_clear(bytes: &[u8], at: usize, b: usize) -> bool
-    requires { ⌜ (1 ≤ b) × (b < 4096) × (at + (b + 7) / 8 ≤ length (now bytes)) ⌝ }
-    ensures { λ r. ⌜ r ≡ runClear (now (bytes .entry)) at b ⌝ }
+// The run of bytes at `at`, as many as b bits take, is below 2^b as a number: of its last byte no unused bit is 1.
+fn run_clear(bytes: &[u8], at: usize, size: usize, b: usize) -> bool
+    requires { ⌜ (1 ≤ b) × (b < 4096) × (size ≡ (b + 7) / 8) × (at + size ≤ length (now bytes)) ⌝ }
+    ensures { λ r. ⌜ r ≡ runClear (now (bytes .entry)) at size b ⌝ }
 {
-    let size = bytes_of(b);
     let unused = 8 * size - b;
     let bound = two_to(8 - unused);
     let last = at + size - 1;
@@ -134,7 +126,7 @@ pub fn page_clear(p: Parameters, page: &[u8]) -> bool
     let b = sub_word_bytes(p);
     let mut i: usize = 0;
     while i < p.m as usize {
-        if !run_clear(page, i * b, n) {
+        if !run_clear(page, i * b, b, n) {
             return false;
         }
         i += 1;
@@ -151,10 +143,11 @@ pub fn blocks_clear(p: Parameters, w: &[u32], blocks: &[u8]) -> bool
     let mut i: usize = 0;
     while i < p.m as usize {
         let b = data_bits(p, w, i);
-        if !run_clear(blocks, at, b) {
+        let size = block_size(p, w, i);
+        if !run_clear(blocks, at, size, b) {
             return false;
         }
-        at += bytes_of(b);
+        at += size;
         i += 1;
     }
     true

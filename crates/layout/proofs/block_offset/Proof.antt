@@ -1,7 +1,7 @@
+use borrow.Author.Needs.{needs}
 use native.Mathlib.Omega.{arith}
 use Prim.Native.Nat.{_-_}
 use Rattle.layout.specs.Parts.{Summed, summed-start, summed-turn, summed-done, block-room, bytes-high}
-use borrow.Author.Needs.{needs}
 use Rattle.layout.proofs.block_offset.Statement.{statement}
 use Rattle.layout.proofs.block_offset.Tie as tie
 
@@ -21,7 +21,7 @@ add-at : tie.Need-add-at Inv-loop μ-loop
 add-at c =
     let s = c .before .before .before .before in
     let l = c .before .before .loop in
-    omega (arith, l .inv .begins, c .block-size .ensures, block-room (s .args .p) (l .j) (omega arith), bytes-high (s .args .p) (s .pre .0))
+    omega (arith, l .inv .begins, c .block-size .ensures, block-room (s .args .p) (l .j) (omega arith), bytes-high _ (s .pre .0))
 
 add-j : tie.Need-add-j Inv-loop μ-loop
 add-j c = search needs
@@ -32,14 +32,10 @@ loop-less c = search needs
 loop-again : tie.Need-loop-again Inv-loop μ-loop
 loop-again c =
     let s = c .before .before .before .before in
-    let l = c .before .before .loop in
-    summed-turn (s .args .p) (s .args .i) (l .at) (l .j) (c .block-size .result) (l .inv) (c .before .loop-test .taken) (s .pre .2) (c .block-size .ensures)
+    summed-turn _ _ _ _ _ (c .before .before .loop .inv) (c .before .loop-test .taken) (s .pre .2) (c .block-size .ensures)
 
 returns : tie.Need-returns Inv-loop μ-loop
-returns c =
-    let s = c .before .before .before in
-    let l = c .before .loop in
-    summed-done (s .args .p) (s .args .i) (l .at) (l .j) (l .inv) (c .loop-test .left)
+returns c = summed-done _ _ _ _ (c .before .loop .inv) (c .loop-test .left)
 
 pub block-offset-spec : {M : Type 1} → statement M
 block-offset-spec =

@@ -1,9 +1,9 @@
-use native.Mathlib.Omega.{arith}
+use borrow.Author.Needs.{needs}
 use borrow.Author.Tests.{not-true, not-false}
 use mathlib.Core.Path.{sym, _∙_}
+use native.Mathlib.Omega.{arith}
 use Prim.Native.Nat.{_-_}
 use Rattle.layout.specs.Clear.{BlocksClear, block-there, blocks-start, blocks-turn, blocks-found, blocks-done}
-use borrow.Author.Needs.{needs}
 use Rattle.layout.proofs.blocks_clear.Statement.{statement}
 use Rattle.layout.proofs.blocks_clear.Tie as tie
 
@@ -22,33 +22,28 @@ cast-if1 c = search needs
 data-bits-requires : tie.Need-data-bits-requires Inv-loop μ-loop
 data-bits-requires c κs = search needs
 
+block-size-requires : tie.Need-block-size-requires Inv-loop μ-loop
+block-size-requires c κs = search needs
+
 run-clear-requires : tie.Need-run-clear-requires Inv-loop μ-loop
 run-clear-requires c κs =
-    let l = c .before .before .before in
-    let s = l .before .before .before in
-    block-there (s .args .p) (s .args .blocks .now) (l .loop .at) (l .loop .i) (c .data-bits .result) (l .loop .inv) (c .before .if1 .taken) (c .data-bits .ensures) (s .pre .0) (s .pre .2)
+    let t = c .before .before in
+    let s = t .before .before .before .before .before in
+    block-there _ _ _ _ _ _ (t .before .before .loop .inv) (t .if1 .taken) (c .before .data-bits .ensures) (c .block-size .ensures) (s .pre .0) (s .pre .2)
 
 returns : tie.Need-returns Inv-loop μ-loop
 returns c =
-    let d = c .before .before in
-    let l = d .before .before .before in
-    let s = l .before .before .before in
-    blocks-found (s .args .p) (s .args .blocks .now) (l .loop .at) (l .loop .i) (d .data-bits .result) (l .loop .inv) (d .before .if1 .taken) (d .data-bits .ensures)
+    let k = c .before .before in
+    let t = k .before .before in
+    blocks-found _ _ _ _ _ _ (t .before .before .loop .inv) (t .if1 .taken) (k .before .data-bits .ensures) (k .block-size .ensures)
     (sym (c .before .run-clear .ensures) ∙ not-true _ (c .if2 .taken))
-
-bytes-of-requires : tie.Need-bytes-of-requires Inv-loop μ-loop
-bytes-of-requires c κs =
-    let d = c .before .before in
-    let l = d .before .before .before in
-    let s = l .before .before .before in
-    block-there (s .args .p) (s .args .blocks .now) (l .loop .at) (l .loop .i) (d .data-bits .result) (l .loop .inv) (d .before .if1 .taken) (d .data-bits .ensures) (s .pre .0) (s .pre .2) .1
 
 add-at : tie.Need-add-at Inv-loop μ-loop
 add-at c =
-    let d = c .before .before .before in
-    let l = d .before .before .before in
-    let s = l .before .before .before in
-    omega (arith, block-there (s .args .p) (s .args .blocks .now) (l .loop .at) (l .loop .i) (d .data-bits .result) (l .loop .inv) (d .before .if1 .taken) (d .data-bits .ensures) (s .pre .0) (s .pre .2))
+    let k = c .before .before in
+    let t = k .before .before in
+    let s = t .before .before .before .before .before in
+    omega (arith, block-there _ _ _ _ _ _ (t .before .before .loop .inv) (t .if1 .taken) (k .before .data-bits .ensures) (k .block-size .ensures) (s .pre .0) (s .pre .2))
 
 add-i : tie.Need-add-i Inv-loop μ-loop
 add-i c = search needs
@@ -58,17 +53,13 @@ loop-less c = search needs
 
 loop-again : tie.Need-loop-again Inv-loop μ-loop
 loop-again c =
-    let d = c .before .before .before in
-    let l = d .before .before .before in
-    let s = l .before .before .before in
-    blocks-turn (s .args .p) (s .args .blocks .now) (l .loop .at) (l .loop .i) (d .data-bits .result) (l .loop .inv) (d .before .if1 .taken) (d .data-bits .ensures) (c .bytes-of .result)
-    (sym (c .before .before .run-clear .ensures) ∙ not-false _ (c .before .if2 .left)) (c .bytes-of .ensures)
+    let k = c .before .before in
+    let t = k .before .before in
+    blocks-turn _ _ _ _ _ _ (t .before .before .loop .inv) (t .if1 .taken) (k .before .data-bits .ensures) (k .block-size .ensures)
+    (sym (c .before .run-clear .ensures) ∙ not-false _ (c .if2 .left))
 
 returns-2 : tie.Need-returns-2 Inv-loop μ-loop
-returns-2 c =
-    let l = c .before .before in
-    let s = l .before .before .before in
-    blocks-done (s .args .p) (s .args .blocks .now) (l .loop .at) (l .loop .i) (l .loop .inv) (c .if1 .left)
+returns-2 c = blocks-done _ _ _ _ (c .before .before .loop .inv) (c .if1 .left)
 
 pub blocks-clear-spec : {M : Type 1} → statement M
 blocks-clear-spec =
@@ -79,9 +70,9 @@ blocks-clear-spec =
     loop-holds
     cast-if1
     data-bits-requires
+    block-size-requires
     run-clear-requires
     returns
-    bytes-of-requires
     add-at
     add-i
     loop-less

@@ -1,6 +1,6 @@
+use borrow.Author.Needs.{needs}
 use native.Mathlib.Omega.{arith}
 use Rattle.layout.specs.Sizes.{check-below}
-use borrow.Author.Needs.{needs}
 use Rattle.layout.proofs.data_bits.Statement.{statement}
 use Rattle.layout.proofs.data_bits.Tie as tie
 
@@ -11,7 +11,7 @@ check-bits-requires : tie.Need-check-bits-requires
 check-bits-requires c κs = search needs
 
 sub-result : tie.Need-sub-result
-sub-result c = let s = c .before .before .before in omega (arith, check-below (s .args .p) (s .pre .0) (s .args .i))
+sub-result c = let s = c .before .before .before in omega (arith, check-below _ (s .pre .0) (s .args .i))
 
 returns : tie.Need-returns
 returns c = search needs

@@ -1,6 +1,6 @@
+use borrow.Author.Needs.{needs}
 use mathlib.Core.Path.{_∙_}
 use Rattle.layout.specs.Parts.{offset-all}
-use borrow.Author.Needs.{needs}
 use Rattle.layout.proofs.data_bytes.Statement.{statement}
 use Rattle.layout.proofs.data_bytes.Tie as tie
 

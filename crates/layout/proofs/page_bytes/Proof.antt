@@ -1,8 +1,8 @@
-use native.Mathlib.Omega.{arith}
+use borrow.Author.Needs.{needs}
 use mathlib.Core.Path.{ap}
+use native.Mathlib.Omega.{arith}
 use Prim.Native.Nat.{ℕ, _*_}
 use Rattle.layout.specs.Sizes.{page-high}
-use borrow.Author.Needs.{needs}
 use Rattle.layout.proofs.page_bytes.Statement.{statement}
 use Rattle.layout.proofs.page_bytes.Tie as tie
 
@@ -13,7 +13,7 @@ cast-result : tie.Need-cast-result
 cast-result c = search needs
 
 mul-result : tie.Need-mul-result
-mul-result c = rw (c .before .sub-word-bytes .ensures) (omega (arith, page-high (c .before .before .args .p) (c .before .before .pre)))
+mul-result c = rw (c .before .sub-word-bytes .ensures) (omega (arith, page-high _ (c .before .before .pre)))
 
 returns : tie.Need-returns
 returns c = ap (λ (b : ℕ). c .before .before .args .p .m * b) (c .before .sub-word-bytes .ensures)

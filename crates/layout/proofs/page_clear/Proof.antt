@@ -1,11 +1,11 @@
-use native.Mathlib.Omega.{arith}
+use borrow.Author.Needs.{needs}
 use borrow.Author.Tests.{not-true, not-false}
 use mathlib.Core.Path.{sym, _∙_}
+use native.Mathlib.Omega.{arith}
 use Prim.Native.Nat.{_-_}
-use Rattle.layout.specs.Sizes.{page-high}
-use Rattle.layout.specs.Parts.{word-room}
 use Rattle.layout.specs.Clear.{WordsClear, word-there, words-start, words-turn, words-found, words-done}
-use borrow.Author.Needs.{needs}
+use Rattle.layout.specs.Parts.{word-room}
+use Rattle.layout.specs.Sizes.{page-high}
 use Rattle.layout.proofs.page_clear.Statement.{statement}
 use Rattle.layout.proofs.page_clear.Tie as tie
 
@@ -31,22 +31,20 @@ mul-run-clear : tie.Need-mul-run-clear Inv-loop μ-loop
 mul-run-clear c =
     let b = c .before .before .before in
     let s = b .before .before .before in
-    rw (b .sub-word-bytes .ensures) (omega (arith, word-room (s .args .p) (c .before .before .loop .i) (c .if1 .taken), page-high (s .args .p) (s .pre .0)))
+    rw (b .sub-word-bytes .ensures) (omega (arith, word-room (s .args .p) _ (c .if1 .taken), page-high _ (s .pre .0)))
 
 run-clear-requires : tie.Need-run-clear-requires Inv-loop μ-loop
 run-clear-requires c κs =
     let b = c .before .before .before in
     let s = b .before .before .before in
-    word-there (s .args .p) (s .args .page .now) (s .pre .0) (c .before .before .loop .i) (b .before .stored-of .result) (b .sub-word-bytes .result) (c .if1 .taken)
-    (b .before .stored-of .ensures) (b .sub-word-bytes .ensures) (s .pre .1)
+    word-there _ (s .args .page .now) (s .pre .0) _ _ _ (c .if1 .taken) (b .before .stored-of .ensures) (b .sub-word-bytes .ensures) (s .pre .1)
 
 returns : tie.Need-returns Inv-loop μ-loop
 returns c =
     let t = c .before .before in
     let b = t .before .before .before in
     let s = b .before .before .before in
-    words-found (s .args .p) (s .args .page .now) (s .pre .0) (t .before .before .loop .i) (b .before .stored-of .result) (b .sub-word-bytes .result) (t .if1 .taken)
-    (b .before .stored-of .ensures) (b .sub-word-bytes .ensures) (t .before .before .loop .inv) (sym (c .before .run-clear .ensures) ∙ not-true _ (c .if2 .taken))
+    words-found _ _ (s .pre .0) _ _ _ (t .if1 .taken) (b .before .stored-of .ensures) (b .sub-word-bytes .ensures) (t .before .before .loop .inv) (sym (c .before .run-clear .ensures) ∙ not-true _ (c .if2 .taken))
 
 add-i : tie.Need-add-i Inv-loop μ-loop
 add-i c = search needs
@@ -59,14 +57,10 @@ loop-again c =
     let t = c .before .before in
     let b = t .before .before .before in
     let s = b .before .before .before in
-    words-turn (s .args .p) (s .args .page .now) (s .pre .0) (t .before .before .loop .i) (b .before .stored-of .result) (b .sub-word-bytes .result) (t .if1 .taken)
-    (b .before .stored-of .ensures) (b .sub-word-bytes .ensures) (t .before .before .loop .inv) (sym (c .before .run-clear .ensures) ∙ not-false _ (c .if2 .left))
+    words-turn _ _ (s .pre .0) _ _ _ (t .if1 .taken) (b .before .stored-of .ensures) (b .sub-word-bytes .ensures) (t .before .before .loop .inv) (sym (c .before .run-clear .ensures) ∙ not-false _ (c .if2 .left))
 
 returns-2 : tie.Need-returns-2 Inv-loop μ-loop
-returns-2 c =
-    let l = c .before .before in
-    let s = l .before .before .before .before in
-    words-done (s .args .p) (s .args .page .now) (l .loop .i) (l .loop .inv) (c .if1 .left)
+returns-2 c = words-done _ _ _ (c .before .before .loop .inv) (c .if1 .left)
 
 pub page-clear-spec : {M : Type 1} → statement M
 page-clear-spec =

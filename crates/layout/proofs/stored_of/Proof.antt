@@ -1,6 +1,6 @@
+use borrow.Author.Needs.{needs}
 use native.Mathlib.Omega.{arith}
 use Rattle.layout.specs.Sizes.{q-fits, stored-low}
-use borrow.Author.Needs.{needs}
 use Rattle.layout.proofs.stored_of.Statement.{statement}
 use Rattle.layout.proofs.stored_of.Tie as tie
 
@@ -8,10 +8,10 @@ cast-two-to : tie.Need-cast-two-to
 cast-two-to c = search needs
 
 two-to-requires : tie.Need-two-to-requires
-two-to-requires c κs = q-fits (c .before .args .p) (c .before .pre)
+two-to-requires c κs = q-fits _ (c .before .pre)
 
 sub-result : tie.Need-sub-result
-sub-result c = omega (arith, stored-low (c .before .before .args .p) (c .before .before .pre))
+sub-result c = omega (arith, stored-low _ (c .before .before .pre))
 
 returns : tie.Need-returns
 returns c = search needs

@@ -1,5 +1,5 @@
-use Rattle.layout.specs.Sizes.{shifted}
 use borrow.Author.Needs.{needs}
+use Rattle.layout.specs.Sizes.{shifted}
 use Rattle.layout.proofs.two_to.Statement.{statement}
 use Rattle.layout.proofs.two_to.Tie as tie
 
