@@ -1,0 +1,97 @@
+-- The numbers of accepted parameters: degrees, check and data bits, and their bounds.
+--   Degrees p w    w holds the degrees w_0 to w_v of the generators, in four places
+use mathlib.Core.Path.{_≡_, refl, _∙_}
+use mathlib.Core.Logic.{inl, inr}
+use mathlib.Core.List.{List, [], _∷_}
+use Prim.Native.Nat.{ℕ, _+_, _-_, _*_, _/_, _%_, _^_, _≤_, _<_, zero-le, suc-le-suc}
+use native.Mathlib.Nat as Nat
+use native.Mathlib.Omega.{arith}
+use lib.Dec.{lit≤, lit<}
+use lib.ListN.{length, getD}
+use lib.Pow.{shl-exact}
+use Rattle.field.specs.Fields.{BinaryField, Known, fieldOf, fieldOf-exponent}
+use Rattle.generator.specs.Exponents.{exponents, exponents-mem}
+use Rattle.generator.specs.Generator.{width, width-eq}
+use Rattle.generator.specs.Lists.{Mem}
+use Rattle.code.specs.declared.Parameters.{Parameters}
+use Rattle.code.specs.Accepted.{Rules, accepted, rising, width-below}
+use Rattle.code.specs.Code.{checkBits, degree, level}
+use Rattle.code.specs.Layout.{dataBits, pageBytes}
+use Rattle.code.specs.Parameters.{Accepted, stored, strength, subWordBytes}
+use Rattle.code.specs.Steps.{degree-eq}
+
+pub record Degrees (p : Parameters) (w : List ℕ) : Type 0 where
+  pub four : length w ≡ 4
+  pub at : (a : ℕ) → a ≤ p .v → getD w a 0 ≡ degree p a
+
+pub level-low : (p : Parameters) (i : ℕ) → level p i ≤ p .v
+level-low p i = Nat.sub-le (p .v) i
+
+-- 2^k as a shift of 1
+pub shifted : (k : ℕ) → k < 64 → 1 * 2 ^ k % 2 ^ 64 ≡ 2 ^ k
+shifted k h = shl-exact 1 k 64 (lit< tt) (omega arith) ∙ Nat.one-mul (2 ^ k)
+
+-- what holds at 4, 8 and 12 holds at q
+by-known : (P : ℕ → Type 0) → P 4 → P 8 → P 12 → (q : ℕ) → Known q → P q
+by-known P a b c q (inl e) = rw e a
+by-known P a b c q (inr (inl e)) = rw e b
+by-known P a b c q (inr (inr e)) = rw e c
+
+-- ---- a generator of positive strength has a positive degree
+mem-pos : (a : ℕ) (l : List ℕ) → Mem a l → 1 ≤ length l
+mem-pos a [] m = absurd m
+mem-pos a (x ∷ l) m = suc-le-suc zero-le
+
+width-pos : (B : BinaryField) (t : ℕ) → 0 < B .q → 1 ≤ t → 1 ≤ width B t
+width-pos B t h l =
+    rw (width-eq B t) (mem-pos (1 * 2 ^ 0 % B .n) (exponents (B .n) (B .q) t) (exponents-mem (B .n) (B .q) t 1 0 (lit< tt) (omega arith) h))
+
+module _ (p : Parameters) (A : Accepted p) where
+  R : Rules p
+  R = accepted p A
+
+  pub q-fits : p .q < 64
+  q-fits = by-known (λ q. q < 64) (lit< tt) (lit< tt) (lit< tt) (p .q) (R .known)
+
+  pub stored-low : 1 ≤ stored p
+  stored-low = by-known (λ q. 1 ≤ 2 ^ q - 1) (lit≤ tt) (lit≤ tt) (lit≤ tt) (p .q) (R .known)
+
+  pub stored-high : stored p < 4096
+  stored-high = by-known (λ q. 2 ^ q - 1 < 4096) (lit< tt) (lit< tt) (lit< tt) (p .q) (R .known)
+
+  -- a sub-word takes the bytes of its stored coefficients
+  pub stored-bytes : (stored p + 7) / 8 ≡ subWordBytes p
+  stored-bytes = by-known (λ q. (2 ^ q - 1 + 7) / 8 ≡ 2 ^ q / 8) refl refl refl (p .q) (R .known)
+
+  pub word-high : subWordBytes p ≤ 512
+  word-high = by-known (λ q. 2 ^ q / 8 ≤ 512) (lit≤ tt) (lit≤ tt) (lit≤ tt) (p .q) (R .known)
+
+  pub page-high : pageBytes p ≤ 4096
+  page-high = Nat.mul-le-mul {n₂ = 8} {m₂ = 512} (R .m-high) word-high
+
+  -- ---- check and data bits of sub-word i
+  strength-low : (a : ℕ) → a ≤ p .v → 1 ≤ strength p a
+  strength-low a h = Nat.le-trans (R .t-low) (rising p R 0 a zero-le h)
+
+  pub check-low : (i : ℕ) → 1 ≤ checkBits p i
+  check-low i =
+      rw (degree-eq p (level p i)) (width-pos (fieldOf (p .q)) (strength p (level p i))
+      (rw (fieldOf-exponent (p .q) (R .known)) (by-known (λ q. 0 < q) (lit< tt) (lit< tt) (lit< tt) (p .q) (R .known)))
+      (strength-low (level p i) (level-low p i)))
+
+  -- no block is empty
+  pub check-below : (i : ℕ) → checkBits p i < stored p
+  check-below i = omega (arith, width-below p R (level p i) (level-low p i), stored-low)
+
+  pub data-low : (i : ℕ) → 1 ≤ dataBits p i
+  data-low i = omega (arith, check-below i)
+
+  pub data-high : (i : ℕ) → dataBits p i < 4096
+  data-high i = omega (arith, stored-high)
+
+  -- the check bits' number among the degrees
+  pub check-at : (w : List ℕ) → Degrees p w → (i : ℕ) → getD w (level p i) 0 ≡ checkBits p i
+  check-at w D i = D .at (level p i) (level-low p i)
+
+  pub check-place : (w : List ℕ) → Degrees p w → (i : ℕ) → level p i < length w
+  check-place w D i = omega (arith, D .four, level-low p i, R .v-high)
