@@ -1,2 +1,3 @@
 -- Syndromes as a program sums them.
 pub mod Sum
+pub mod Filled

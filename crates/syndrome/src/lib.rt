@@ -5,7 +5,10 @@ ghost use lib.ListN.{length, getD};
 ghost use Rattle.polynomial.specs.Bits.{coefficient};
 ghost use Rattle.polynomial.specs.Digits.{value};
 ghost use Rattle.field.specs.Elements.{syndrome};
+ghost use mathlib.Core.List.{map};
+ghost use Rattle.code.specs.Lists.{range};
 ghost use Rattle.element.specs.Lent.{Tables};
+ghost use Rattle.syndrome.specs.Filled.{Begun};
 use sheet::sum_modulo;
 
 // The coefficient of x^k.
@@ -43,4 +46,29 @@ pub fn syndrome_at(powers: &[u16], logs: &[u16], q: u32, r: &[u64], w: usize, j:
         k += 1;
     }
     x
+}
+
+// S_j, for an even j from the list of those before it: it is the square of S_(j / 2).
+fn next_syndrome(list: &[u16], powers: &[u16], logs: &[u16], q: u32, r: &[u64], w: usize, i: usize) -> u32
+    requires { ⌜ Tables q (now powers) (now logs) × (w ≤ 64 * length (now r)) × (value 64 (now r) < 2 ^ w) × (i + 1 < 2 ^ q - 1) × (i ≤ length (now list)) × Begun q (value 64 (now r)) i (now list) ⌝ }
+    ensures { λ x. ⌜ x ≡ syndrome q (value 64 (now (r .entry))) (i + 1) ⌝ }
+{
+    if i % 2 == 0 {
+        return syndrome_at(powers, logs, q, r, w, (i + 1) as u32);
+    }
+    let s = list[i / 2] as u32;
+    element::times_by(powers, logs, q, s, s)
+}
+
+// S_1, S_2, .. of the polynomial in r, as many as the list has places.
+pub fn syndromes_into(list: &mut [u16], powers: &[u16], logs: &[u16], q: u32, r: &[u64], w: usize)
+    requires { ⌜ Tables q (now powers) (now logs) × (w ≤ 64 * length (now r)) × (value 64 (now r) < 2 ^ w) × (length (now list) < 2 ^ q - 1) ⌝ }
+    ensures { λ x. ⌜ now (list .exit) ≡ map (λ j. syndrome q (value 64 (now (r .entry))) j) (range 1 (length (now (list .entry)))) ⌝ }
+{
+    let mut i: usize = 0;
+    while i < list.len() {
+        let s = next_syndrome(list, powers, logs, q, r, w, i);
+        list[i] = s as u16;
+        i += 1;
+    }
 }
