@@ -1,13 +1,13 @@
 -- Bytes added in place, from the lowest on.
 --   Added l₀ l y i          the i lowest bytes of y are added to l₀, which makes l
 --   Adding l₀ l at v i u    v is being added to l₀ from byte `at` on, which has made l: u is left, to go to byte i
-use mathlib.Core.Path.{_≡_, sym, refl, _∙_, ap₂, ap}
+use mathlib.Core.Path.{_≡_, refl, sym, ap, ap₂, _∙_}
 use mathlib.Core.List.{List, _++_}
-use Prim.Native.Nat.{ℕ, _<_, _≤_, zero-le, _+_, _^_, _/_, _*_, _%_, suc, _-_, zero}
+use Prim.Native.Nat.{ℕ, zero, suc, _+_, _-_, _*_, _/_, _%_, _^_, _≤_, _<_, zero-le}
 use native.Mathlib.Nat.{mod-one, add-zero, zero-add, add-assoc, add-comm, zero-mul, add-mul, mul-assoc, mod-lt}
 use native.Mathlib.Omega.{arith}
 use lib.Bits.{bitXor}
-use lib.ListN.{length, getD, set, length-set, take, drop}
+use lib.ListN.{length, getD, take, drop, set, length-set}
 use lib.Pow.{split, pow-pos, pow-add, shr-shr, shr-lt}
 use Rattle.polynomial.specs.Digits.{digits, value}
 use Rattle.polynomial.specs.Division.{xor-lt}

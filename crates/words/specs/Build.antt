@@ -14,7 +14,7 @@ use native.Mathlib.Nat as Nat
 use native.Mathlib.Numerals.{add-one}
 use native.Mathlib.Omega.{arith}
 use lib.Bits.{bitXor}
-use lib.ListN.{length, getD, take, drop, set, length-drop, replicate}
+use lib.ListN.{length, getD, take, drop, set, replicate, length-drop}
 use lib.Pow.{pow-pos, pow-add, pow-mono, high}
 use lib.Seq.{getD-drop, take-take, take-set-le, drop-set-add}
 use borrow.Author.Count.{below-more}
@@ -25,7 +25,7 @@ use Rattle.polynomial.specs.Xor.{xor, xors, xor-is, xor-self, xor-comm}
 use Rattle.words.specs.Remainder.{rem-add2, rem-shift, rem-same}
 use Rattle.words.specs.Row.{D, by-top, low-lt}
 use Rattle.words.specs.Shift.{join, xor-shl}
-use Rattle.words.specs.Table.{Table, rowAt, row, hex, hex-at, four}
+use Rattle.words.specs.Table.{Table, rowAt, row, hex, hex-at}
 use Rattle.words.specs.Value.{Bounded, value-nil, take-more-set, take-lt, take-xor, bounded-drop}
 
 -- ---- all indices below a sum

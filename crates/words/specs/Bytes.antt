@@ -17,7 +17,7 @@ eight s at =
     + getD s (at + 5) 0 * 1099511627776 + getD s (at + 6) 0 * 281474976710656 + getD s (at + 7) 0 * 72057594037927936
 
 module _ (s : List ℕ) (b : Bounded 8 s) where
-  eight-sum : (at : ℕ) → value 8 (drop at s) ≡ value 8 (drop (at + 8) s) * 18446744073709551616 + eight s at
+  eight-sum : (at : ℕ) → value 8 (drop at s) ≡ value 8 (drop (at + 8) s) * 2 ^ 64 + eight s at
   eight-sum at =
       let e0 = digit-at 8 s at in
       let e1 = next 1 2 refl in
@@ -32,7 +32,7 @@ module _ (s : List ℕ) (b : Bounded 8 s) where
       next : (i j : ℕ) → i + 1 ≡ j → value 8 (drop (at + i) s) ≡ value 8 (drop (at + j) s) * 256 + getD s (at + i) 0
       next i j e = digit-at 8 s (at + i) ∙ ap (λ (n : ℕ). value 8 (drop n s) * 256 + getD s (at + i) 0) (add-assoc at i 1 ∙ ap (λ (n : ℕ). at + n) e)
 
-  eight-lt : (at : ℕ) → eight s at < 18446744073709551616
+  eight-lt : (at : ℕ) → eight s at < 2 ^ 64
   eight-lt at =
       let h0 : getD s at 0 < 256 = b at in
       let h1 : getD s (at + 1) 0 < 256 = b (at + 1) in

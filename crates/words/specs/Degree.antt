@@ -1,7 +1,7 @@
 -- The degree of a row, from its highest word that is not 0.
-use mathlib.Core.Path.{_≡_, sym, _∙_, ap}
+use mathlib.Core.Path.{_≡_, sym, ap, _∙_}
 use mathlib.Core.List.{List}
-use Prim.Native.Nat.{ℕ, suc, _+_, _-_, _*_, _/_, _^_, _<_, zero}
+use Prim.Native.Nat.{ℕ, zero, suc, _+_, _-_, _*_, _/_, _^_, _<_}
 use native.Mathlib.Nat.{zero-add, zero-mul, one-mul, lt-irrefl, pos-of-ne-zero, pow-succ', div-eq-of-lt-le}
 use native.Mathlib.Omega.{arith}
 use lib.Count.{leadingZeros, leading-top}

@@ -1,7 +1,7 @@
--- Remainders by x^n + 1: what stands from x^n on is added below.
-use mathlib.Core.Path.{_≡_, sym, ap, _∙_, ap₂}
+-- Remainders by x^n + 1: what stands from x^n on is cleared and added below.
+use mathlib.Core.Path.{_≡_, sym, ap, ap₂, _∙_}
 use mathlib.Core.List.{List}
-use Prim.Native.Nat.{ℕ, _+_, _/_, _%_, _^_, _<_, _*_, _≤_}
+use Prim.Native.Nat.{ℕ, _+_, _*_, _/_, _%_, _^_, _≤_, _<_}
 use native.Mathlib.Nat.{mod-lt, mul-one, lt-of-lt-of-le, lt-of-le-of-lt, mod-le}
 use native.Mathlib.Omega.{arith}
 use lib.ListN.{length, getD, take, set}

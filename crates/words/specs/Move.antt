@@ -1,8 +1,8 @@
 -- Rows moved up and down, word by word.
 --   Shifted r₀ r l c i    i words of r₀ are moved up by l, which makes r, and c is carried on
-use mathlib.Core.Path.{_≡_, refl, ap, _∙_, sym, ap₂}
+use mathlib.Core.Path.{_≡_, refl, sym, ap, ap₂, _∙_}
 use mathlib.Core.List.{List}
-use Prim.Native.Nat.{ℕ, _+_, _-_, _*_, _/_, _%_, _^_, _≤_, _<_, suc}
+use Prim.Native.Nat.{ℕ, suc, _+_, _-_, _*_, _/_, _%_, _^_, _≤_, _<_}
 use native.Mathlib.Nat.{mul-assoc, mul-comm, add-mul, add-comm, lt-of-lt-of-le, lt-of-le-of-lt, mod-eq-of-lt, div-one}
 use native.Mathlib.Nat as Nat
 use native.Mathlib.Omega.{arith}
@@ -10,7 +10,8 @@ use lib.ListN.{length, getD, take, drop, set}
 use lib.Pow.{pow-pos, pow-add, pow-mono, shl-lt, shr-shr, shr-le}
 use Rattle.polynomial.specs.Digits.{value, value-at}
 use Rattle.polynomial.specs.Division.{Deg, lt-of-deg}
-use Rattle.words.specs.Row.{D, pow-D, set-top, by-top}
+use Rattle.words.specs.Remainder.{deg-up}
+use Rattle.words.specs.Row.{D, pow-D, set-top, by-top, D-is}
 use Rattle.words.specs.Shift.{up-up}
 use Rattle.words.specs.Value.{drop-next, same-at, Bounded, value-nil, take-more, take-more-set, bounded-all, value-lt, drop-shr}
 use Rattle.words.specs.Word.{moved, moved-up, word-sum, carry-lt, mod-mul-mod, window}
@@ -34,11 +35,11 @@ shift-turn r₀ r l c i hr h₁ h₂ li e s = record {
   left = drop-next r r₀ i (moved (getD r i 0) (l - 1) + c) (s .left);
   done =
       rw (take-more-set 64 r i (moved (getD r i 0) (l - 1) + c) li, take-more 64 r₀ i (omega arith), pow-next i, moved-up (getD r i 0) l h₁ h₂, ← same-at r r₀ i (s .left))
-      (alg (getD r i 0 % 2 ^ (64 - l) * 2 ^ l) c (getD r i 0 / 2 ^ (64 - l)) (2 ^ (64 * i)) 18446744073709551616 (value 64 (take i r)) (getD r i 0) (2 ^ l) (value 64 (take i r₀))
+      (alg (getD r i 0 % 2 ^ (64 - l) * 2 ^ l) c (getD r i 0 / 2 ^ (64 - l)) (2 ^ (64 * i)) (2 ^ 64) (value 64 (take i r)) (getD r i 0) (2 ^ l) (value 64 (take i r₀))
       (s .done) (word-sum (getD r i 0) l (64 - l) (omega arith)));
 }
   where
-    pow-next : (i : ℕ) → 2 ^ (64 * (i + 1)) ≡ 2 ^ (64 * i) * 18446744073709551616
+    pow-next : (i : ℕ) → 2 ^ (64 * (i + 1)) ≡ 2 ^ (64 * i) * 2 ^ 64
     pow-next i =
         let f : 64 * (i + 1) ≡ 64 * i + 64 = omega arith in
         ap (λ (n : ℕ). 2 ^ n) f ∙ pow-add 2 (64 * i) 64
@@ -80,7 +81,12 @@ first-up r b s p h =
     ap (λ (x : ℕ). x * 2 ^ (s - p) % 2 ^ 64) (sym (value-at 64 r (bounded-all 64 r b) 0) ∙ ap (λ (x : ℕ). x % 2 ^ 64) (div-one (value 64 r)))
     ∙ mod-mul-mod (value 64 r) (2 ^ (s - p)) (2 ^ 64) ∙ ap (λ (x : ℕ). x % 2 ^ 64) (sym (up-up (value 64 r) s p h))
 
--- what is moved up to degree 768 fits
+-- moved up to degree 768
+pub align-deg : (x w : ℕ) → Deg x w → w ≤ 768 → Deg (x * 2 ^ (768 - w)) D
+align-deg x w d h =
+    let e : w + (768 - w) ≡ D = omega (arith, D-is) in
+    rw (← e) (deg-up x w (768 - w) d)
+
 pub align-lt : (x w : ℕ) → Deg x w → w ≤ 768 → x * 2 ^ (768 - w) < 2 ^ (64 * 13)
 align-lt x w d h =
     let e : suc w + (768 - w) ≡ 769 = omega arith in

@@ -5,7 +5,6 @@ use Prim.Native.Nat.{ℕ, _+_, _/_, _^_, _≤_, _<_}
 use native.Mathlib.Nat as Nat
 use native.Mathlib.Omega.{arith}
 use lib.ListN.{length, getD, take, set}
-use lib.Pow.{low}
 use Rattle.polynomial.specs.Digits.{value}
 use Rattle.polynomial.specs.Division.{xor-lt}
 use Rattle.polynomial.specs.Xor.{xor}

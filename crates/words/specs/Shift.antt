@@ -1,6 +1,6 @@
 -- Numbers moved up and down by bits, and sums of numbers that do not overlap. Up by k places is * 2 ^ k, down by k is / 2 ^ k.
-use mathlib.Core.Path.{_≡_, sym, ap₂, _∙_, ap}
-use Prim.Native.Nat.{ℕ, _+_, _*_, _/_, _%_, _^_, _<_, _≤_, _-_}
+use mathlib.Core.Path.{_≡_, sym, ap, ap₂, _∙_}
+use Prim.Native.Nat.{ℕ, _+_, _-_, _*_, _/_, _%_, _^_, _≤_, _<_}
 use native.Mathlib.Nat.{mod-lt}
 use native.Mathlib.Nat as Nat
 use native.Mathlib.Omega.{arith}

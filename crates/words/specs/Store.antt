@@ -1,5 +1,5 @@
 -- A row's words stored among bytes.
-use mathlib.Core.Path.{_≡_, ap, _∙_, sym, ap₂}
+use mathlib.Core.Path.{_≡_, sym, ap, ap₂, _∙_}
 use mathlib.Core.List.{List}
 use Prim.Native.Nat.{ℕ, _+_, _-_, _*_, _/_, _%_, _^_, _≤_, _<_}
 use native.Mathlib.Nat.{add-zero, lt-of-lt-of-le, lt-of-le-of-lt, mod-eq-of-lt, mod-le}

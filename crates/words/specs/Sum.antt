@@ -10,7 +10,6 @@ use native.Mathlib.Numerals.{add-one}
 use native.Mathlib.Omega.{arith}
 use lib.Bits.{bitXor}
 use lib.ListN.{length, getD, take, drop, set, length-drop}
-use lib.Pow.{low}
 use lib.Seq.{take-suc-set, take-suc, getD-drop}
 use Rattle.polynomial.specs.Digits.{value}
 use Rattle.polynomial.specs.Division.{xor-lt}

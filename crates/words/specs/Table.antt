@@ -8,13 +8,13 @@
 --   RemainderBy t s f r    r is the remainder of f by whichever g, moved up by s to degree 768, has t as its table
 use mathlib.Core.Path.{_≡_, refl, sym, ap, ap₂, _∙_}
 use mathlib.Core.List.{List}
-use Prim.Native.Nat.{ℕ, _+_, _*_, _/_, _%_, _^_, _≤_, _<_, _-_}
+use Prim.Native.Nat.{ℕ, _+_, _-_, _*_, _/_, _%_, _^_, _≤_, _<_}
 use native.Mathlib.Nat.{mul-assoc, mod-eq-of-lt, mul-one}
 use native.Mathlib.Omega.{arith}
 use lib.ListN.{length, take, drop, length-drop}
-use lib.Pow.{pow-add, low, shr-lt}
+use lib.Pow.{pow-add, shr-lt}
 use Rattle.polynomial.specs.Digits.{value}
-use Rattle.polynomial.specs.Division.{Deg, rem, deg}
+use Rattle.polynomial.specs.Division.{Deg, rem}
 use Rattle.polynomial.specs.Xor.{xor, xors, xor-assoc}
 use Rattle.words.specs.Remainder.{rem-top, rem-four, rem-up, rem-down}
 use Rattle.words.specs.Row.{D, pow-D, D-is}

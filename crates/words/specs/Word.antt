@@ -10,7 +10,7 @@ use lib.Pow.{pow-pos, pow-add, shl-shr, shr-shr, shr-lt, field, mod-mod-pow, mod
 use Rattle.words.specs.Shift.{up-mod}
 
 abbrev pub moved : ℕ → ℕ → ℕ
-moved x m = x * 2 % 18446744073709551616 * 2 ^ m % 18446744073709551616
+moved x m = x * 2 % 2 ^ 64 * 2 ^ m % 2 ^ 64
 
 pub mod-mul-mod : (a b m : ℕ) → a % m * b % m ≡ a * b % m
 mod-mul-mod a b m =
@@ -18,12 +18,12 @@ mod-mul-mod a b m =
     ∙ ap (λ (x : ℕ). x % m) (add-mul (a / m * m) (a % m) b ∙ ap (λ (x : ℕ). x + a % m * b) (Nat.mul-right-comm (a / m) m b))
     ∙ Nat.mul-add-mod-self-right (a / m * b) m (a % m * b))
 
-pow64 : (h l : ℕ) → h + l ≡ 64 → 18446744073709551616 ≡ 2 ^ (h + l)
+pow64 : (h l : ℕ) → h + l ≡ 64 → 2 ^ 64 ≡ 2 ^ (h + l)
 pow64 h l e = ap (λ (n : ℕ). 2 ^ n) (sym e)
 
 pub moved-is : (x m j : ℕ) → j + suc m ≡ 64 → moved x m ≡ x % 2 ^ j * 2 ^ suc m
 moved-is x m j e =
-    mod-mul-mod (x * 2) (2 ^ m) 18446744073709551616
+    mod-mul-mod (x * 2) (2 ^ m) (2 ^ 64)
     ∙ ap₂ _%_ (mul-assoc x 2 (2 ^ m) ∙ ap (λ (n : ℕ). x * n) (sym (Nat.pow-succ' 2 m))) (pow64 j (suc m) e) ∙ up-mod x j (suc m)
 
 -- the same, by l of 1 to 64
@@ -43,7 +43,7 @@ moved-up-lt x l c h₁ h₂ h =
     moved-lt x (l - 1) (64 - l) c (omega arith) (rw e h)
 
 -- the word as a sum: what stays and what is carried on
-pub word-sum : (x l h : ℕ) → h + l ≡ 64 → x % 2 ^ h * 2 ^ l + x / 2 ^ h * 18446744073709551616 ≡ x * 2 ^ l
+pub word-sum : (x l h : ℕ) → h + l ≡ 64 → x % 2 ^ h * 2 ^ l + x / 2 ^ h * 2 ^ 64 ≡ x * 2 ^ l
 word-sum x l h e =
     rw (pow64 h l e, pow-add 2 h l)
     (ap (λ (n : ℕ). x % 2 ^ h * 2 ^ l + n) (sym (mul-assoc (x / 2 ^ h) (2 ^ h) (2 ^ l)))
@@ -65,7 +65,7 @@ spill u s h =
     o = omega arith
 
 -- up and down again: the lowest c bits are left
-pub mask : (x c : ℕ) → c ≤ 64 → x * 2 ^ (64 - c) % 18446744073709551616 / 2 ^ (64 - c) ≡ x % 2 ^ c
+pub mask : (x c : ℕ) → c ≤ 64 → x * 2 ^ (64 - c) % 2 ^ 64 / 2 ^ (64 - c) ≡ x % 2 ^ c
 mask x c h =
     ap (λ (n : ℕ). n / 2 ^ (64 - c)) (ap (λ (n : ℕ). x * 2 ^ (64 - c) % n) (pow64 c (64 - c) (omega arith)) ∙ up-mod x c (64 - c))
     ∙ shl-shr (x % 2 ^ c) (64 - c)

@@ -1,6 +1,6 @@
 -- Digits written in place, from the lowest on.
 --   Written w l₀ l y i    i digits of l₀, of w bits each, are written, which makes l: they are the lowest of y
-use mathlib.Core.Path.{_≡_, sym, ap, ap₂, _∙_, refl}
+use mathlib.Core.Path.{_≡_, refl, sym, ap, ap₂, _∙_}
 use mathlib.Core.List.{List, [], _∷_, _++_}
 use Prim.Native.Nat.{ℕ, _+_, _*_, _/_, _%_, _^_, _≤_, _<_, zero-le}
 use native.Mathlib.Nat.{div-div-eq-div-mul, mod-one, mod-lt, mul-zero, add-comm, mul-suc}

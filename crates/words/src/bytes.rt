@@ -1,7 +1,7 @@
 // Polynomials in bytes: copied, moved, added.
 ghost use mathlib.Core.Path.{_≡_};
 ghost use mathlib.Core.List.{_++_};
-ghost use Prim.Native.Nat.{_-_, _+_, _*_, _/_, _%_, _^_, _≤_, _<_};
+ghost use Prim.Native.Nat.{_+_, _-_, _*_, _/_, _%_, _^_, _≤_, _<_};
 ghost use lib.Dec.{eqb};
 ghost use lib.ListN.{length, take, drop};
 ghost use Rattle.polynomial.specs.Digits.{value, digits};
@@ -103,7 +103,7 @@ pub fn add_up(acc: &mut [u8], x: &[u8], s: usize)
     }
 }
 
-// The remainder of w coefficients in r is put below the data in dst, whose own w lowest coefficients are 0.
+// The w check coefficients in r are put below the data in dst, whose own w lowest are 0.
 pub fn store_low(dst: &mut [u8], r: &[u64], w: usize)
     requires { ⌜ (w ≤ 64 * length (now r)) × (w ≤ 8 * length (now dst)) × (value 64 (now r) < 2 ^ w) × (value 8 (now dst) % 2 ^ w ≡ 0) ⌝ }
     ensures { λ x. ⌜ value 8 (now (dst .exit)) ≡ value 8 (now (dst .entry)) + value 64 (now (r .entry)) ⌝ }

@@ -1,4 +1,5 @@
-// Remainders by a table.
+// Remainders by a table t of a generator that is moved up to degree 768. A polynomial is fed from its highest coefficients on, l at a time, at the place p
+// by which the generator was moved up; for the plain remainder the register is moved down again by p.
 ghost use mathlib.Core.Path.{_≡_};
 ghost use Prim.Native.Nat.{_+_, _*_, _%_, _^_, _≤_, _<_};
 ghost use lib.ListN.{length};
@@ -56,6 +57,7 @@ fn reduce(r: &mut [u64], t: &[u64])
     add_four(r, t, 192, top / 281474976710656);
 }
 
+// One step: the register is moved up by l places, u is added at place p, and what passes x^768 is reduced.
 pub fn step(r: &mut [u64], t: &[u64], u: u64, l: usize, p: usize)
     requires { ⌜ (length (now r) ≡ 13) × (length (now t) ≡ 3072) × (1 ≤ l) × (l ≤ 64) × (p < 768) × (value 64 (now r) < 2 ^ D) ⌝ }
     ensures { λ x. ⌜ Reduced (now (t .entry)) (xor (value 64 (now (r .entry)) * 2 ^ l) (u * 2 ^ p)) (value 64 (now (r .exit))) ⌝ }
@@ -65,7 +67,7 @@ pub fn step(r: &mut [u64], t: &[u64], u: u64, l: usize, p: usize)
     reduce(r, t);
 }
 
-// The n lowest bits of s are fed to the register, l at a time. l is not in the result.
+// The n lowest coefficients of s are fed to the register, l at a time, the short chunk last. l is not in the result.
 pub fn feed(r: &mut [u64], t: &[u64], s: &[u8], n: usize, l: usize, p: usize)
     requires { ⌜ (length (now r) ≡ 13) × (length (now t) ≡ 3072) × (1 ≤ l) × (l ≤ 64) × (p < 768) × (value 64 (now r) < 2 ^ D) × (n < 1000000) ⌝ }
     ensures { λ x. ⌜ Reduced (now (t .entry)) (xor (value 64 (now (r .entry)) * 2 ^ n) (value 8 (now (s .entry)) % 2 ^ n * 2 ^ p)) (value 64 (now (r .exit))) ⌝ }
@@ -82,7 +84,7 @@ pub fn feed(r: &mut [u64], t: &[u64], s: &[u8], n: usize, l: usize, p: usize)
     }
 }
 
-// The n lowest coefficients of s, moved up by p, reduced.
+// The n lowest coefficients of s, moved up by p, are reduced into r.
 pub fn aligned_of(r: &mut [u64], t: &[u64], s: &[u8], n: usize, l: usize, p: usize)
     requires { ⌜ (length (now r) ≡ 13) × (length (now t) ≡ 3072) × (1 ≤ l) × (l ≤ 64) × (p < 768) × (n < 1000000) ⌝ }
     ensures { λ x. ⌜ Reduced (now (t .entry)) (value 8 (now (s .entry)) % 2 ^ n * 2 ^ p) (value 64 (now (r .exit))) ⌝ }
@@ -91,7 +93,7 @@ pub fn aligned_of(r: &mut [u64], t: &[u64], s: &[u8], n: usize, l: usize, p: usi
     feed(r, t, s, n, l, p);
 }
 
-// The remainder of the n lowest coefficients of s by the generator that is moved up by p in t.
+// The remainder of the n lowest coefficients of s by the generator itself, in the lowest words of r.
 pub fn remainder_of(r: &mut [u64], t: &[u64], s: &[u8], n: usize, l: usize, p: usize)
     requires { ⌜ (length (now r) ≡ 13) × (length (now t) ≡ 3072) × (1 ≤ l) × (l ≤ 64) × (p < 768) × (n < 1000000) ⌝ }
     ensures { λ x. ⌜ RemainderBy (now (t .entry)) p (value 8 (now (s .entry)) % 2 ^ n) (value 64 (now (r .exit))) ⌝ }

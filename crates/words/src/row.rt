@@ -1,13 +1,13 @@
 // Rows of 13 words. A register is a row whose 13th word is 0 between steps; the remainder stands below x^768, in the lower 12.
 ghost use mathlib.Core.Path.{_≡_};
-ghost use Prim.Native.Nat.{_-_, _/_, _%_, _*_, _^_, _≤_, _<_};
+ghost use Prim.Native.Nat.{_-_, _*_, _/_, _%_, _^_, _≤_, _<_};
 ghost use lib.Dec.{eqb};
 ghost use lib.ListN.{length, getD};
 ghost use Rattle.polynomial.specs.Digits.{value};
 ghost use Rattle.polynomial.specs.Division.{Deg, deg};
 ghost use Rattle.polynomial.specs.Xor.{xor};
 
-// The register is moved up by `l` places, 1 to 64, into the 13th word.
+// r is moved up by l places, 1 to 64, into the 13th word.
 pub fn shift(r: &mut [u64], l: usize)
     requires { ⌜ (length (now r) ≡ 13) × (1 ≤ l) × (l ≤ 64) × (getD (now r) 12 0 ≡ 0) ⌝ }
     ensures { λ x. ⌜ value 64 (now (r .exit)) ≡ value 64 (now (r .entry)) * 2 ^ l ⌝ }
@@ -23,7 +23,7 @@ pub fn shift(r: &mut [u64], l: usize)
     r[12] = c;
 }
 
-// `u` is added at place p.
+// u is added at place p.
 pub fn insert(r: &mut [u64], u: u64, p: usize)
     requires { ⌜ (length (now r) ≡ 13) × (p < 768) ⌝ }
     ensures { λ x. ⌜ value 64 (now (r .exit)) ≡ xor (value 64 (now (r .entry))) (u * 2 ^ p) ⌝ }

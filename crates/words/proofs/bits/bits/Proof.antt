@@ -1,5 +1,6 @@
+-- The coefficients lie in eight bytes and the one above: bits-law.
 use mathlib.Core.Path.{_∙_}
-use Prim.Native.Nat.{_/_, _%_, _+_}
+use Prim.Native.Nat.{_+_, _/_, _%_}
 use native.Mathlib.Nat.{mod-lt}
 use native.Mathlib.Omega.{arith}
 use lib.Pow.{pow-pos}

@@ -1,5 +1,6 @@
-use mathlib.Core.Path.{_∙_, ap, sym}
-use Prim.Native.Nat.{ℕ, _%_, _*_, _-_, _^_}
+-- Three cases: from the place of s on, across it, and below it.
+use mathlib.Core.Path.{sym, ap, _∙_}
+use Prim.Native.Nat.{ℕ, _-_, _*_, _%_, _^_}
 use native.Mathlib.Nat.{div-one}
 use native.Mathlib.Omega.{arith}
 use borrow.Author.Needs.{needs}

@@ -1,3 +1,4 @@
+-- The eight bytes are the word: eight-is.
 use mathlib.Core.Path.{_∙_}
 use borrow.Author.Needs.{needs}
 use Rattle.words.specs.Bytes.{eight-is}

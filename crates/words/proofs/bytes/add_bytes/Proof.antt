@@ -1,3 +1,4 @@
+-- The loop: u is left of v, to be added from byte i on. The measure is u.
 use borrow.Author.Needs.{needs}
 use Rattle.words.specs.Add.{Adding, adding-start, adding-turn, adding-done, adding-in}
 use Rattle.words.proofs.bytes.add_bytes.Statement.{statement}

@@ -1,3 +1,4 @@
+-- The loop: the i lowest bytes of x * 2 ^ s are added. Then the rest in one go.
 use Prim.Native.Nat.{_-_, _*_, _^_}
 use native.Mathlib.Nat.{mod-lt}
 use native.Mathlib.Omega.{arith}

@@ -1,3 +1,4 @@
+-- The word is read, has v added and is put back: add-word-law.
 use native.Mathlib.Omega.{arith}
 use borrow.Author.Needs.{needs}
 use Rattle.words.specs.Add.{add-word-law}

@@ -1,7 +1,8 @@
-use mathlib.Core.Path.{sym, _∙_, ap}
-use Prim.Native.Nat.{ℕ, _-_, _*_, _^_, _/_, _%_}
+-- Both loops: i bytes are written, the lowest of src / 2 ^ w.
+use mathlib.Core.Path.{sym, ap, _∙_}
+use Prim.Native.Nat.{ℕ, _-_, _*_, _/_, _%_, _^_}
 use native.Mathlib.Omega.{arith}
-use lib.ListN.{length-set, length}
+use lib.ListN.{length, length-set}
 use lib.Pow.{shr-shr}
 use borrow.Author.Needs.{needs}
 use Rattle.polynomial.specs.Digits.{value}

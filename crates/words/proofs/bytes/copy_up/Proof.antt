@@ -1,3 +1,4 @@
+-- Both loops: i bytes are written, the lowest of src * 2 ^ w.
 use Prim.Native.Nat.{_-_, _*_, _^_}
 use native.Mathlib.Omega.{arith}
 use lib.ListN.{length, length-set}

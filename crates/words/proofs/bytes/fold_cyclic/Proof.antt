@@ -1,3 +1,4 @@
+-- unity-fold, as fold-law has it.
 use native.Mathlib.Omega.{arith}
 use borrow.Author.Needs.{needs}
 use Rattle.polynomial.specs.Digits.{value}

@@ -1,4 +1,5 @@
-use mathlib.Core.Path.{_≡_, _∙_, sym}
+-- Both loops: the i lowest bytes are 0.
+use mathlib.Core.Path.{_≡_, sym, _∙_}
 use Prim.Native.Nat.{_-_, _*_, _≤_}
 use native.Mathlib.Omega.{arith}
 use lib.ListN.{length, take}

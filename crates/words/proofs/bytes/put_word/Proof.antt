@@ -1,3 +1,4 @@
+-- Eight stores are the eight digits: put-law.
 use native.Mathlib.Omega.{arith}
 use lib.ListN.{length-set}
 use borrow.Author.Needs.{needs}

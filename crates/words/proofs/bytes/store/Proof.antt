@@ -1,3 +1,4 @@
+-- The loop: k words of r are written. The bytes are digits, so that the list is known by its number: store-list.
 use mathlib.Core.Path.{_≡_}
 use Prim.Native.Nat.{_+_, _-_, _*_, _≤_}
 use native.Mathlib.Omega.{arith}

@@ -1,3 +1,4 @@
+-- The four rows are those that v chooses: four.
 use borrow.Author.Needs.{needs}
 use Rattle.words.specs.Table.{four, row}
 use Rattle.words.proofs.remainder.add_four.Statement.{statement}

@@ -1,7 +1,8 @@
+-- The first loop: j words of the sum are made aside. The second: i of them are copied.
 use mathlib.Core.Path.{_≡_, _∙_}
-use Prim.Native.Nat.{_≤_, _-_}
+use Prim.Native.Nat.{_-_, _≤_}
 use native.Mathlib.Omega.{arith}
-use lib.ListN.{length-set, length}
+use lib.ListN.{length, length-set}
 use borrow.Author.Needs.{needs}
 use Rattle.words.specs.Sum.{Copied, Sum4, copy-start, copy-turn, rows-done, sum-start, sum-turn}
 use Rattle.words.proofs.remainder.add_rows.Statement.{statement}

@@ -1,3 +1,4 @@
+-- Fed to a register of 0: fed-zero.
 use mathlib.Core.Path.{_∙_}
 use lib.Pow.{pow-pos}
 use borrow.Author.Needs.{needs}

@@ -1,3 +1,4 @@
+-- Sixteen rows make the remainder of the 13th word: reduce-law.
 use mathlib.Core.Path.{_∙_}
 use native.Mathlib.Omega.{arith}
 use lib.ListN.{length-set}

@@ -1,3 +1,4 @@
+-- The aligned remainder moved down: lowered.
 use native.Mathlib.Omega.{arith}
 use borrow.Author.Needs.{needs}
 use Rattle.polynomial.specs.Digits.{value}

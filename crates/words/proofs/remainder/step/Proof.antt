@@ -1,4 +1,5 @@
-use mathlib.Core.Path.{_∙_, ap}
+-- The three calls, one after the other.
+use mathlib.Core.Path.{ap, _∙_}
 use Prim.Native.Nat.{ℕ, _*_, _^_}
 use borrow.Author.Needs.{needs}
 use Rattle.polynomial.specs.Xor.{xor}

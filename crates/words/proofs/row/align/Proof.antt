@@ -1,3 +1,4 @@
+-- The loop: i words are written, the lowest of g * 2 ^ s. All of it fits: align-lt.
 use mathlib.Core.Path.{_∙_}
 use Prim.Native.Nat.{_-_, _*_, _^_, _≤_}
 use native.Mathlib.Nat.{mod-eq-of-lt}

@@ -1,3 +1,4 @@
+-- u lies in two words: insert-law.
 use native.Mathlib.Omega.{arith}
 use lib.ListN.{length-set}
 use borrow.Author.Needs.{needs}

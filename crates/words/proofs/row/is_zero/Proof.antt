@@ -1,3 +1,4 @@
+-- The loop: the i lowest words are 0.
 use mathlib.Core.Path.{_≡_, sym}
 use Prim.Native.Nat.{_-_, _*_, _≤_}
 use native.Mathlib.Omega.{arith}

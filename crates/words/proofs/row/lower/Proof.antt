@@ -1,3 +1,4 @@
+-- The loop: i words are written, the lowest of r / 2 ^ s, and those from i on are as they were.
 use mathlib.Core.Path.{_≡_, refl, ap, _∙_}
 use Prim.Native.Nat.{ℕ, _-_, _/_, _%_, _^_, _≤_}
 use native.Mathlib.Nat.{mod-lt}

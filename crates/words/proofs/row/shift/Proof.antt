@@ -1,7 +1,8 @@
-use mathlib.Core.Path.{_∙_, _≡_}
-use Prim.Native.Nat.{_≤_, _-_}
+-- The loop: i words are moved up, and c is carried on.
+use mathlib.Core.Path.{_≡_, _∙_}
+use Prim.Native.Nat.{_-_, _≤_}
 use native.Mathlib.Omega.{arith}
-use lib.ListN.{length-set, length, getD}
+use lib.ListN.{length, getD, length-set}
 use borrow.Author.Needs.{needs}
 use Rattle.words.specs.Move.{Shifted, shift-done, shift-start, shift-turn}
 use Rattle.words.specs.Word.{moved-up-lt}

@@ -1,3 +1,4 @@
+-- The coefficients lie in two words: row-window.
 use Prim.Native.Nat.{_%_}
 use native.Mathlib.Omega.{arith}
 use borrow.Author.Needs.{needs}

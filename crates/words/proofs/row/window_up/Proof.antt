@@ -1,4 +1,5 @@
-use mathlib.Core.Path.{_∙_, ap, sym}
+-- Three cases: from the place of g on, across it, and below it.
+use mathlib.Core.Path.{sym, ap, _∙_}
 use Prim.Native.Nat.{ℕ, _-_, _*_, _%_, _^_}
 use native.Mathlib.Omega.{arith}
 use borrow.Author.Needs.{needs}

@@ -1,7 +1,8 @@
+-- The loop: j words of the row are 0.
 use mathlib.Core.Path.{_≡_, _∙_}
-use Prim.Native.Nat.{_≤_, _-_}
+use Prim.Native.Nat.{_-_, _≤_}
 use native.Mathlib.Omega.{arith}
-use lib.ListN.{length-set, length}
+use lib.ListN.{length, length-set}
 use borrow.Author.Needs.{needs}
 use Rattle.words.specs.Build.{Putting, clear-turn, put-done, put-start}
 use Rattle.words.proofs.table.clear_row.Statement.{statement}

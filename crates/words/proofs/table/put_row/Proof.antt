@@ -1,7 +1,8 @@
+-- The loop: j words of the row are written, the sums of those at `from` and of e.
 use mathlib.Core.Path.{_≡_, refl, _∙_}
-use Prim.Native.Nat.{_≤_, _-_}
+use Prim.Native.Nat.{_-_, _≤_}
 use native.Mathlib.Omega.{arith}
-use lib.ListN.{length-set, length}
+use lib.ListN.{length, length-set}
 use borrow.Author.Needs.{needs}
 use Rattle.polynomial.specs.Xor.{xors}
 use Rattle.words.specs.Build.{Putting, put-end, put-turn, sums}

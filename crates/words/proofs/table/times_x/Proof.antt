@@ -1,3 +1,4 @@
+-- The 13th word says whether g is to be taken away.
 use mathlib.Core.Path.{refl, _∙_}
 use native.Mathlib.Omega.{arith}
 use borrow.Author.Needs.{needs}
