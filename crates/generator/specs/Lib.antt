@@ -6,4 +6,5 @@ pub mod Points
 pub mod Generator
 pub mod Leaders
 pub mod Next
+pub mod Factors
 pub mod Turns

@@ -33,7 +33,7 @@ length-from q zero x = refl
 length-from q (suc m) x = ap suc (length-from q m (double q x))
 
 module _ (q : ℕ) (known : Known q) where
-  next : (x j : ℕ) → x ≡ power q j → double q x ≡ power q (suc j)
+  pub next : (x j : ℕ) → x ≡ power q j → double q x ≡ power q (suc j)
   next x j e = double-is q known x (rw e (power-lt q known j)) ∙ ap (times q 2) e ∙ sym (power-suc q j)
 
   from-at : (m x j k : ℕ) → x ≡ power q j → k < m → getD (from q m x) k 0 ≡ power q (k + j)

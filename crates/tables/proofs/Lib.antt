@@ -2,3 +2,4 @@
 mod Every
 mod Read
 mod Computed
+mod Factored

@@ -2,3 +2,4 @@
 pub mod Choice
 pub mod Powers
 pub mod Tables
+pub mod Factors

@@ -1,10 +1,12 @@
-// The constant tables: from q to its field, and each field's powers of alpha and their logs.
+// The constant tables: from q to its field, and each field's powers of alpha, their logs, and the factors of its generators.
 ghost use mathlib.Core.Path.{_≡_};
 ghost use Rattle.tables.specs.Choice.{ChosenFor};
+ghost use Rattle.tables.specs.Factors.{Factors};
 ghost use Rattle.tables.specs.Tables.{Powers, Logs};
 
 mod powers; // powers.rt: the constants
 mod logs; // logs.rt: the constants
+mod factors; // factors.rt: the constants
 
 // A field GF(2^q): its field polynomial (bit k is the coefficient of x^k), its size 2^q, and the order 2^q - 1 of alpha.
 pub struct Entry {
@@ -94,4 +96,22 @@ pub fn logs12() -> [u16; 4096]
     ensures { λ r. ⌜ Logs 12 r ⌝ }
 {
     logs::LOGS12
+}
+
+pub fn factors4() -> [u16; 7]
+    ensures { λ r. ⌜ Factors 4 r ⌝ }
+{
+    factors::FACTORS4
+}
+
+pub fn factors8() -> [u16; 64]
+    ensures { λ r. ⌜ Factors 8 r ⌝ }
+{
+    factors::FACTORS8
+}
+
+pub fn factors12() -> [u16; 64]
+    ensures { λ r. ⌜ Factors 12 r ⌝ }
+{
+    factors::FACTORS12
 }

@@ -1,0 +1,34 @@
+-- A generator raised factor by factor.
+use mathlib.Core.Path.{_≡_, refl, sym, ap, ap₂, _∙_}
+use mathlib.Core.List.{List}
+use Prim.Native.Nat.{ℕ, suc, _+_, _*_, _<_}
+use native.Mathlib.Numerals.{add-one}
+use native.Mathlib.Omega.{arith}
+use lib.ListN.{length, getD}
+use Rattle.polynomial.specs.Clmul.{clmul, clmul-comm, clmul-one-l}
+use Rattle.field.specs.Fields.{Known, fieldOf, fieldOf-length}
+use Rattle.generator.specs.Factors.{generator-factor}
+use Rattle.generator.specs.Generator.{generator}
+use Rattle.tables.specs.Factors.{Factors}
+use Rattle.generators.specs.Rows.{row, Multiplied, Raised}
+
+-- a table's entry takes generator k to generator k + 1
+entry-next : (q : ℕ) → Known q → (f : List ℕ) → Factors q f → (k : ℕ) → k < length f → clmul (getD f k 0) (generator (fieldOf q) k) ≡ generator (fieldOf q) (k + 1)
+entry-next q known f F k h =
+    ap (λ (m : ℕ). clmul m (generator (fieldOf q) k)) (F .entry k (omega (arith, F .count))) ∙ clmul-comm _ (generator (fieldOf q) k)
+    ∙ sym (rw add-one (generator-factor (fieldOf q) k (omega (arith, F .count, fieldOf-length q known))))
+
+module _ (f : List ℕ) (s : ℕ) (g : List ℕ) where
+  pub raised-start : Raised f s s g g
+  raised-start = record { raise = λ q known F e. e }
+
+  pub raised-times : (a r : List ℕ) (k : ℕ) → k < length f → Raised f s k g a → Multiplied a (getD f k 0) r → Raised f s (k + 1) g r
+  raised-times a r k h p m = record { raise = λ q known F e. m .product (generator (fieldOf q) k) (p .raise q known F e) ∙ ap row (entry-next q known f F k h) }
+
+  -- a factor 1
+  pub raised-same : (a : List ℕ) (k : ℕ) → k < length f → getD f k 0 ≡ 1 → Raised f s k g a → Raised f s (k + 1) g a
+  raised-same a k h o p = record {
+    raise = λ q known F e.
+        p .raise q known F e
+        ∙ ap row (sym (clmul-one-l (generator (fieldOf q) k)) ∙ ap (λ (m : ℕ). clmul m (generator (fieldOf q) k)) (sym o) ∙ entry-next q known f F k h);
+  }

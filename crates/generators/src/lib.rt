@@ -1,0 +1,116 @@
+// A sheet's generators, level 0 to level v, worked out together from the constant tables of their factors.
+ghost use mathlib.Core.Path.{_≡_};
+ghost use Prim.Native.Nat.{ℕ, _<_, _≤_};
+ghost use lib.ListN.{length};
+ghost use Rattle.code.specs.Calls.{generators};
+ghost use Rattle.code.specs.Parameters.{Accepted, sheetRefusal};
+ghost use Rattle.tables.specs.Factors.{Factors};
+ghost use Rattle.generators.specs.Rows.{Added, Multiplied, Raised};
+use code::Parameters;
+use code::Tested;
+
+// g times x^k is added into a.
+fn add_shifted(a: &mut [u64], g: &[u64], k: u32)
+    requires { ⌜ (length (now a) ≡ 13) × (length (now g) ≡ 13) × (k < 64) ⌝ }
+    ensures { λ r. ⌜ Added (now (a .entry)) (now (g .entry)) k (now (a .exit)) ⌝ }
+{
+    a[0] = a[0] ^ (g[0] << k);
+    let mut i: usize = 1;
+    while i < 13 {
+        a[i] = a[i] ^ (g[i] << k) ^ ((g[i - 1] >> 1) >> (63 - k));
+        i += 1;
+    }
+}
+
+// The product of a row and a factor.
+fn product(g: [u64; 13], m: u16) -> [u64; 13]
+    requires { ⌜ length g ≡ 13 ⌝ }
+    ensures { λ r. ⌜ (length r ≡ 13) × Multiplied g m r ⌝ }
+{
+    let mut a = [0u64; 13];
+    let mut k: u32 = 0;
+    while k < 16 {
+        if (m >> k) % 2 == 1 {
+            add_shifted(&mut a, &g, k);
+        }
+        k += 1;
+    }
+    a
+}
+
+// The generator of strength t from that of strength s; a factor 1 is passed over.
+fn raised(g: [u64; 13], factors: &[u16], s: usize, t: usize) -> [u64; 13]
+    requires { ⌜ (length g ≡ 13) × (s ≤ t) × (t ≤ length (now factors)) ⌝ }
+    ensures { λ r. ⌜ (length r ≡ 13) × Raised (now (factors .entry)) s t g r ⌝ }
+{
+    let mut a = g;
+    let mut k = s;
+    while k < t {
+        let m = factors[k];
+        if m != 1 {
+            let b = product(a, m);
+            a = b;
+        }
+        k += 1;
+    }
+    a
+}
+
+// The rows of the generators, by the table of the factors of p's field.
+fn rows_by(p: Parameters, factors: &[u16]) -> [[u64; 13]; 4]
+    requires { ⌜ Accepted p × Factors (p .q) (now factors) ⌝ }
+    ensures { λ r. ⌜ r ≡ generators p ⌝ }
+{
+    let mut out = [[0u64; 13]; 4];
+    let mut one = [0u64; 13];
+    one[0] = 1;
+    let t0 = p.t0 as usize;
+    let a = raised(one, factors, 0, t0);
+    out[0] = a;
+    let t1 = p.t1 as usize;
+    let b = raised(a, factors, t0, t1);
+    out[1] = b;
+    if p.v < 2 {
+        return out;
+    }
+    let t2 = p.t2 as usize;
+    let c = raised(b, factors, t1, t2);
+    out[2] = c;
+    if p.v < 3 {
+        return out;
+    }
+    let t3 = p.t3 as usize;
+    let d = raised(c, factors, t2, t3);
+    out[3] = d;
+    out
+}
+
+// The rows of an accepted sheet's generators, by level; rows past v are 0.
+pub fn rows(p: Parameters) -> [[u64; 13]; 4]
+    requires { ⌜ Accepted p ⌝ }
+    ensures { λ r. ⌜ r ≡ generators p ⌝ }
+{
+    if p.q == 4 {
+        let t = tables::factors4();
+        return rows_by(p, &t);
+    }
+    if p.q == 8 {
+        let t = tables::factors8();
+        return rows_by(p, &t);
+    }
+    let t = tables::factors12();
+    rows_by(p, &t)
+}
+
+// The same for any numbers, with the refusal's number, 0 where the sheet is accepted; the rows of a refused sheet are 0.
+pub fn generators_of(p: Parameters, refusal: &mut u8) -> [[u64; 13]; 4]
+    ensures { λ r. ⌜ (r ≡ generators p) × (now (refusal .exit) ≡ sheetRefusal p) ⌝ }
+{
+    let tested = sheet::test(p);
+    let Tested::Refused(k) = tested else {
+        *refusal = 0;
+        return rows(p);
+    };
+    *refusal = k;
+    [[0u64; 13]; 4]
+}
