@@ -122,18 +122,23 @@ module _ (p : Parameters) (R : Rules p) where
   gen-lt : (a : ℕ) → a ≤ p .v → gen p a < 2 ^ (64 * 13)
   gen-lt a h = Nat.lt-of-lt-of-le (lt-of-deg (degree p a) (D a h)) (pow-mono {j = 64 * 13} (Nat.le-trans (suc-le-suc (degree-high p R a h)) (lit≤ {m = 769} {n = 832} tt)))
 
+  four : (a : ℕ) → a ≤ 3 → getD (map (generatorRow p) (range 0 4)) a [] ≡ generatorRow p a
+  four zero l = rw range-four refl
+  four (suc zero) l = rw range-four refl
+  four (suc (suc zero)) l = rw range-four refl
+  four (suc (suc (suc zero))) l = rw range-four refl
+  four (suc (suc (suc (suc a)))) l = absurd (Nat.not-suc-le-zero {n = 0} (omega arith))
+
+  row-is : Accepted p → (a : ℕ) → a ≤ p .v → getD (generators p) a [] ≡ digits 64 13 (gen p a)
+  row-is A a h =
+      ap (λ (l : List (List ℕ)). getD l a []) (rows-eq p ∙ ap (λ (r : ℕ). rowsBy r (map (generatorRow p) (range 0 4))) A)
+      ∙ four a (Nat.le-trans h (R .v-high)) ∙ ap (digits 64 13) (chosen (leb a (p .v)) (gen p a) 0 (le→leb a (p .v) h))
+
   pub row-back : Accepted p → (a : ℕ) → a ≤ p .v → value 64 (getD (generators p) a []) ≡ gen p a
-  row-back A a h =
-      ap (λ (l : List (List ℕ)). value 64 (getD l a [])) (rows-eq p ∙ ap (λ (r : ℕ). rowsBy r (map (generatorRow p) (range 0 4))) A)
-      ∙ ap (value 64) (four a (Nat.le-trans h (R .v-high)) ∙ ap (digits 64 13) (chosen (leb a (p .v)) (gen p a) 0 (le→leb a (p .v) h)))
-      ∙ value-digits 64 13 (gen p a) (gen-lt a h)
-    where
-      four : (a : ℕ) → a ≤ 3 → getD (map (generatorRow p) (range 0 4)) a [] ≡ generatorRow p a
-      four zero l = rw range-four refl
-      four (suc zero) l = rw range-four refl
-      four (suc (suc zero)) l = rw range-four refl
-      four (suc (suc (suc zero))) l = rw range-four refl
-      four (suc (suc (suc (suc a)))) l = absurd (Nat.not-suc-le-zero {n = 0} (omega arith))
+  row-back A a h = ap (value 64) (row-is A a h) ∙ value-digits 64 13 (gen p a) (gen-lt a h)
+
+  pub row-length : Accepted p → (a : ℕ) → a ≤ p .v → length (getD (generators p) a []) ≡ 13
+  row-length A a h = ap length (row-is A a h) ∙ length-digits 64 13 (gen p a)
 
 -- ---- lists of syndromes
 pub length-syndromes : (p : Parameters) (k c : ℕ) → length (syndromes p k c) ≡ k

@@ -87,10 +87,8 @@ align-deg x w d h =
     let e : w + (768 - w) ≡ D = omega (arith, D-is) in
     rw (← e) (deg-up x w (768 - w) d)
 
-pub align-lt : (x w : ℕ) → Deg x w → w ≤ 768 → x * 2 ^ (768 - w) < 2 ^ (64 * 13)
-align-lt x w d h =
-    let e : suc w + (768 - w) ≡ 769 = omega arith in
-    lt-of-lt-of-le (shl-lt (suc w) (768 - w) (lt-of-deg w d)) (pow-mono {i = suc w + (768 - w)} {j = 64 * 13} (rw e (omega arith)))
+pub align-lt : (x w : ℕ) → x < 2 ^ (w + 1) → w ≤ 768 → x * 2 ^ (768 - w) < 2 ^ (64 * 13)
+align-lt x w h l = Nat.lt-of-lt-of-le (shl-lt (w + 1) (768 - w) h) (pow-mono {j = 64 * 13} (omega arith))
 
 -- what is moved down in place: the words from i on are still those of r₀
 pub lower-word : (r₀ r : List ℕ) (s i : ℕ) → Bounded 64 r₀ → Bounded 64 r → drop i r ≡ drop i r₀ → value 64 r / 2 ^ (s + 64 * i) ≡ value 64 r₀ / 2 ^ s / 2 ^ (64 * i)

@@ -1,10 +1,10 @@
 // Rows of 13 words. A register is a row whose 13th word is 0 between steps; the remainder stands below x^768, in the lower 12.
 ghost use mathlib.Core.Path.{_≡_};
-ghost use Prim.Native.Nat.{_-_, _*_, _/_, _%_, _^_, _≤_, _<_};
+ghost use Prim.Native.Nat.{_+_, _-_, _*_, _/_, _%_, _^_, _≤_, _<_};
 ghost use lib.Dec.{eqb};
 ghost use lib.ListN.{length, getD};
 ghost use Rattle.polynomial.specs.Digits.{value};
-ghost use Rattle.polynomial.specs.Division.{Deg, deg};
+ghost use Rattle.polynomial.specs.Division.{deg};
 ghost use Rattle.polynomial.specs.Xor.{xor};
 
 // r is moved up by l places, 1 to 64, into the 13th word.
@@ -91,9 +91,9 @@ fn window_up(g: &[u64], up: usize, pos: usize) -> u64
     0
 }
 
-// g, of degree w, is moved up to degree 768 in r.
+// g, of degree w at most, is moved up in r so that x^w stands at x^768.
 pub fn align(r: &mut [u64], g: &[u64], w: usize)
-    requires { ⌜ (length (now r) ≡ 13) × (w ≤ 768) × Deg (value 64 (now g)) w ⌝ }
+    requires { ⌜ (length (now r) ≡ 13) × (w ≤ 768) × (value 64 (now g) < 2 ^ (w + 1)) ⌝ }
     ensures { λ x. ⌜ value 64 (now (r .exit)) ≡ value 64 (now (g .entry)) * 2 ^ (768 - w) ⌝ }
 {
     let s = 768 - w;

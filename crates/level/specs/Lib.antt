@@ -1,0 +1,2 @@
+-- Levels made ready for remainders.
+pub mod Ready
