@@ -1,5 +1,4 @@
 // The constant tables: from q to its field, and each field's powers of alpha and their logs.
-ghost use mathlib.Core.Path.{_≡_};
 ghost use Rattle.tables.specs.Choice.{ChosenFor};
 ghost use Rattle.tables.specs.Tables.{Powers, Logs};
 
