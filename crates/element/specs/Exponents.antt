@@ -4,7 +4,7 @@ use mathlib.Core.Path.{_≡_, refl, sym, ap, ap₂, _∙_}
 use Prim.Native.Nat.{ℕ, zero, suc, _+_, _-_, _*_, _%_, _^_, _<_}
 use native.Mathlib.Nat as Nat
 use Rattle.polynomial.specs.Clmul.{clmul, clmul-zero-l, clmul-zero-r}
-use Rattle.polynomial.specs.Division.{rem, rem-zero, rem-lt}
+use Rattle.polynomial.specs.Division.{rem-zero, rem-lt}
 use Rattle.field.specs.Field.{Field2, pow, pow-zero, pow-suc, pow-add, pow-mul}
 use Rattle.field.specs.Fields.{BinaryField, Known, fieldOf, fieldPolynomial, fieldOf-length, polynomial-degree}
 use Rattle.field.specs.Powers.{pow-mod}

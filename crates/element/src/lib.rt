@@ -1,14 +1,13 @@
 // Elements of the three fields, as numbers below 2^q: sums, products and powers, by tables of powers and logs.
 ghost use mathlib.Core.Path.{_≡_};
 ghost use mathlib.Core.List.{_++_};
-ghost use Prim.Native.Nat.{ℕ, _+_, _-_, _%_, _^_, _≤_, _<_};
-ghost use lib.ListN.{length, take, replicate};
+ghost use Prim.Native.Nat.{_+_, _-_, _%_, _^_, _≤_, _<_};
+ghost use lib.ListN.{length, replicate};
 ghost use Rattle.field.specs.Elements.{times, power};
 ghost use Rattle.field.specs.Fields.{Known};
 ghost use Rattle.polynomial.specs.Xor.{xor};
-ghost use Rattle.tables.specs.Tables.{Powers, Logs};
 ghost use Rattle.element.specs.Exponents.{raise};
-ghost use Rattle.element.specs.Lent.{LogOf, Tables, PowersOf, LogsOf};
+ghost use Rattle.element.specs.Lent.{RootIn, LogIn, Tables, PowersOf, LogsOf};
 ghost use Rattle.element.specs.Operations.{MadeOf, isField, zeroOf, oneOf, alphaOf, refusal, Gives};
 use tables::Chosen;
 use tables::choose;
@@ -54,7 +53,7 @@ pub enum Computed {
 // The power e of alpha.
 pub fn root(powers: &[u16], e: u32) -> u32
     requires { ⌜ e < length (now powers) ⌝ }
-    ensures { λ r. ⌜ ((q : ℕ) → Powers q (take (2 ^ q - 1) (now (powers .entry))) → e < 2 ^ q - 1 → r ≡ power q e) ⌝ }
+    ensures { λ r. ⌜ RootIn (now (powers .entry)) e r ⌝ }
 {
     powers[e as usize] as u32
 }
@@ -62,7 +61,7 @@ pub fn root(powers: &[u16], e: u32) -> u32
 // The exponent of a, an element above 0.
 pub fn log(logs: &[u16], a: u32) -> u32
     requires { ⌜ a < length (now logs) ⌝ }
-    ensures { λ r. ⌜ ((q : ℕ) → Logs q (take (2 ^ q) (now (logs .entry))) → 0 < a → a < 2 ^ q → LogOf q a r) ⌝ }
+    ensures { λ r. ⌜ LogIn (now (logs .entry)) a r ⌝ }
 {
     logs[a as usize] as u32
 }

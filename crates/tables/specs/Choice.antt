@@ -2,10 +2,11 @@
 --   known q       q is 4, 8 or 12
 --   entry q       the table's entry: field polynomial, size 2^q and order 2^q - 1
 --   refusal q     document 01's refusal of q: 1 where no field has it, else 0
---   chosen q      what choosing q answers; chosenNumber is the number of the answer
+--   chosen q      what choosing q answers; chosenNumber and chosenValues are the number and the values of an answer
 use mathlib.Core.Path.{_≡_, refl, sym, ap, _∙_}
 use mathlib.Core.Logic.{inl, inr}
 use mathlib.Core.Bool.{Bool, true, false, _||_, cond}
+use mathlib.Core.List.{List, [], _∷_}
 use Prim.Native.Nat.{ℕ, zero, suc, _-_, _^_}
 use native.Mathlib.Nat as Nat
 use lib.Dec.{eqb}
@@ -35,18 +36,20 @@ abbrev pub chosenNumber : Chosen → ℕ
 chosenNumber (Chosen.Field e) = 0
 chosenNumber Chosen.Unknown = 1
 
+abbrev pub chosenValues : Chosen → List ℕ
+chosenValues (Chosen.Field e) = e .q ∷ e .polynomial ∷ e .size ∷ e .order ∷ []
+chosenValues Chosen.Unknown = []
+
 pub record ChosenFor (q : ℕ) (r : Chosen) : Type 0 where
   pub answers : r ≡ chosen q
   pub number : chosenNumber r ≡ refusal q
+  pub values : chosenValues r ≡ cond (known q) (q ∷ fieldPolynomial q ∷ (2 ^ q) ∷ (2 ^ q - 1) ∷ []) []
 
 -- ---- by the tests of q
 pub chosen-by : (q k : ℕ) (b : Bool) → q ≡ k → known k ≡ b → ChosenFor q (chosenBy (cond b 0 1) (entry k))
 unfolding chosen
-chosen-by q k b e t = rw e (record { answers = sym (ap (λ (b : Bool). chosenBy (cond b 0 1) (entry k)) t); number = rw t (sym (number b)) })
-  where
-    number : (b : Bool) → cond b 0 1 ≡ chosenNumber (chosenBy (cond b 0 1) (entry k))
-    number true = refl
-    number false = refl
+chosen-by q k true e t = rw e (record { answers = rw t refl; number = rw t refl; values = rw t refl })
+chosen-by q k false e t = rw e (record { answers = rw t refl; number = rw t refl; values = rw t refl })
 
 pub unknown : (q : ℕ) → (q ≡ 4 → ⊥) → (q ≡ 8 → ⊥) → (q ≡ 12 → ⊥) → known q ≡ false
 unknown q a b c = simp (ne-eqb q 4 a, ne-eqb q 8 b, ne-eqb q 12 c)

@@ -1,6 +1,6 @@
 use native.Mathlib.Omega.{arith}
 use borrow.Author.Needs.{needs}
-use Rattle.element.specs.Lent.{log-of}
+use Rattle.element.specs.Lent.{log-in}
 use Rattle.element.proofs.log.Statement.{statement}
 use Rattle.element.proofs.log.Tie as tie
 
@@ -14,7 +14,7 @@ cast-result : tie.Need-cast-result
 cast-result c = omega (arith, c .shared-slice-known .given (c .before .args .a))
 
 returns : tie.Need-returns
-returns c = λ q t. log-of q (c .before .args .logs .now) (c .before .args .a) t
+returns c = log-in (c .before .args .logs .now) (c .before .args .a)
 
 pub log-spec : {M : Type 1} → statement M
 log-spec = tie.close (tie.spec mul-result shared-slice-read-result cast-result returns)

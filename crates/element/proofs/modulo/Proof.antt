@@ -6,7 +6,7 @@ use Rattle.element.proofs.modulo.Statement.{statement}
 use Rattle.element.proofs.modulo.Tie as tie
 
 returns : tie.Need-returns
-returns c = sym (mod-eq-of-lt (c .if1 .taken))
+returns c = sym (mod-eq-of-lt (omega arith))
 
 returns-2 : tie.Need-returns-2
 returns-2 c =

@@ -61,7 +61,7 @@ module _ (c : tie.After-order) where
   e = i * k % c .order .result
 
   log-a : LogOf (q d) (s d .args .a) i
-  log-a = c .before .log .ensures (q d) (tables d .logs) (pos-of-ne-zero (d .if2 .left)) (s d .pre .1)
+  log-a = c .before .log .ensures .log (q d) (tables d .logs) (pos-of-ne-zero (d .if2 .left)) (s d .pre .1)
 
   exponent : e ≡ i * k % (2 ^ q d - 1)
   exponent = ap (λ (n : ℕ). i * k % n) (c .order .ensures)
@@ -88,7 +88,7 @@ returns-3 : tie.Need-returns-3
 returns-3 c =
     let b = c .before in
     let f = d b in
-    c .root .ensures (q f) (tables f .powers) (below b)
+    c .root .ensures .root (q f) (tables f .powers) (below b)
     ∙ raise-by (q f) (tables f .field) (s f .args .a) (k b) (i b) (e b) (log-a b) (exponent b)
 
 pub raise-by-spec : {M : Type 1} → statement M

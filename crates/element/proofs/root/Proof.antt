@@ -1,6 +1,6 @@
 use native.Mathlib.Omega.{arith}
 use borrow.Author.Needs.{needs}
-use Rattle.element.specs.Lent.{root-of}
+use Rattle.element.specs.Lent.{root-in}
 use Rattle.element.proofs.root.Statement.{statement}
 use Rattle.element.proofs.root.Tie as tie
 
@@ -14,7 +14,7 @@ cast-result : tie.Need-cast-result
 cast-result c = omega (arith, c .shared-slice-known .given (c .before .args .e))
 
 returns : tie.Need-returns
-returns c = λ q t. root-of q (c .before .args .powers .now) (c .before .args .e) t
+returns c = root-in (c .before .args .powers .now) (c .before .args .e)
 
 pub root-spec : {M : Type 1} → statement M
 root-spec = tie.close (tie.spec mul-result shared-slice-read-result cast-result returns)

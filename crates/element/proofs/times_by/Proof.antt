@@ -47,10 +47,10 @@ module _ (c : tie.After-log2) where
   d = c .before .before
 
   log-a : LogOf (q d) (s d .args .a) (c .before .log .result)
-  log-a = c .before .log .ensures (q d) (tables d .logs) (pos-of-ne-zero (d .before .if1 .left)) (s d .pre .1)
+  log-a = c .before .log .ensures .log (q d) (tables d .logs) (pos-of-ne-zero (d .before .if1 .left)) (s d .pre .1)
 
   log-b : LogOf (q d) (s d .args .b) (c .log2 .result)
-  log-b = c .log2 .ensures (q d) (tables d .logs) (pos-of-ne-zero (d .if2 .left)) (s d .pre .2)
+  log-b = c .log2 .ensures .log (q d) (tables d .logs) (pos-of-ne-zero (d .if2 .left)) (s d .pre .2)
 
 add-modulo : tie.Need-add-modulo
 add-modulo c = let e = c .before in omega (arith, log-a e .below, log-b e .below, size-most (q (d e)) (tables (d e) .field))
@@ -76,7 +76,7 @@ returns-3 : tie.Need-returns-3
 returns-3 c =
     let m = c .before in
     let e = d (b m) in
-    c .root .ensures (q e) (tables e .powers) (below m)
+    c .root .ensures .root (q e) (tables e .powers) (below m)
     ∙ times-by (q e) (tables e .field) (s e .args .a) (s e .args .b) (b m .before .log .result) (b m .log2 .result) (m .modulo .result) (log-a (b m)) (log-b (b m)) (exponent m)
 
 pub times-by-spec : {M : Type 1} → statement M

@@ -1,5 +1,5 @@
 use mathlib.Core.Path.{refl}
-use mathlib.Core.Logic.{inl, inr}
+use mathlib.Core.Logic.{inr}
 use Rattle.tables.proofs.Read.{read}
 use Rattle.tables.proofs.Computed.{from, logs-hold}
 use Rattle.tables.proofs.logs12.Statement.{statement}

@@ -1,5 +1,5 @@
 use mathlib.Core.Path.{refl}
-use mathlib.Core.Logic.{inl, inr}
+use mathlib.Core.Logic.{inr}
 use Rattle.tables.proofs.Computed.{from, powers-hold}
 use Rattle.tables.proofs.powers12.Statement.{statement}
 use Rattle.tables.proofs.powers12.Tie as tie

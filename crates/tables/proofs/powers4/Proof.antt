@@ -1,5 +1,5 @@
 use mathlib.Core.Path.{refl}
-use mathlib.Core.Logic.{inl, inr}
+use mathlib.Core.Logic.{inl}
 use Rattle.tables.proofs.Computed.{from, powers-hold}
 use Rattle.tables.proofs.powers4.Statement.{statement}
 use Rattle.tables.proofs.powers4.Tie as tie

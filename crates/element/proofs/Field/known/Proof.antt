@@ -6,13 +6,13 @@ use borrow.Author.Tests.{eq-eqb, ne-eqb}
 use Rattle.tables.specs.Choice.{field-known, field-entry, not-known}
 use Rattle.tables.specs.declared.Entry.{Entry}
 use Rattle.element.specs.declared.Field.{Field}
-use Rattle.element.specs.Operations.{isField, isField-known, isField-unknown}
+use Rattle.element.specs.Operations.{isField, agrees, isField-by}
 use Rattle.element.proofs.Field.known.Statement.{statement}
 use Rattle.element.proofs.Field.known.Tie as tie
 
 -- by the three comparisons with the entry of q
-compared : (f : Field) (e : Entry) (x y : Bool) → isField f ≡ eqb (f .polynomial) (e .polynomial) && eqb (f .size) (e .size) && eqb (f .order) (e .order)
-    → eqb (f .polynomial) (e .polynomial) ≡ x → eqb (f .size) (e .size) ≡ y → x && y && eqb (f .order) (e .order) ≡ isField f
+compared : (f : Field) (e : Entry) (x y : Bool) → isField f ≡ agrees f e → eqb (f .polynomial) (e .polynomial) ≡ x → eqb (f .size) (e .size) ≡ y
+    → x && y && eqb (f .order) (e .order) ≡ isField f
 compared f e x y h a b = sym (h ∙ rw (a, b))
 
 choose-requires : tie.Need-choose-requires
@@ -25,7 +25,7 @@ enum-told : tie.Need-enum-told
 enum-told c = search needs
 
 returns : tie.Need-returns
-returns c = sym (isField-unknown _ (not-known _ _ (c .before .before .choose .ensures) (c .enum-told .given .1)))
+returns c = sym (isField-by _ false (not-known _ _ (c .before .before .choose .ensures) (c .enum-told .given .1)))
 
 module _ (c : tie.After-e) where
   abbrev f : Field
@@ -34,11 +34,11 @@ module _ (c : tie.After-e) where
   abbrev e : Entry
   e = c .e .given .0 .0
 
-  tested : isField f ≡ eqb (f .polynomial) (e .polynomial) && eqb (f .size) (e .size) && eqb (f .order) (e .order)
+  tested : isField f ≡ agrees f e
   tested =
       let h = c .before .before .choose .ensures in
-      isField-known f (field-known _ _ h _ (c .e .given .1))
-      ∙ ap (λ (x : Entry). eqb (f .polynomial) (x .polynomial) && eqb (f .size) (x .size) && eqb (f .order) (x .order)) (sym (field-entry _ _ h _ (c .e .given .1)))
+      let w = c .e .given .1 in
+      isField-by f true (field-known _ _ h _ w) ∙ ap (agrees f) (sym (field-entry _ _ h _ w))
 
 returns-2 : tie.Need-returns-2
 returns-2 c = let d = c .before .before .before .before in compared (f d) (e d) false _ (tested d) (ne-eqb _ _ (c .if1 .taken)) refl

@@ -2,7 +2,7 @@ use mathlib.Core.Path.{_≡_, sym, _∙_}
 use native.Mathlib.Omega.{arith}
 use borrow.Author.Needs.{needs}
 use Rattle.element.specs.Exponents.{raise-lt}
-use Rattle.element.specs.Lent.{Tables, size-most}
+use Rattle.element.specs.Lent.{Tables, tables-of, size-most}
 use Rattle.element.specs.Operations.{Clear, clear, refusal, gives-refused, gives-element}
 use Rattle.element.proofs.Field.power.Statement.{statement}
 use Rattle.element.proofs.Field.power.Tie as tie
@@ -37,7 +37,7 @@ module _ (c : tie.After-logs) where
   ok = clear (s .args .self) (s .args .a .0) 0 none
 
   tables : Tables (s .args .self .q) (c .before .powers .result) (c .logs .result)
-  tables = record { field = ok .known; powers = c .before .powers .ensures .table (ok .known); logs = c .logs .ensures .table (ok .known) }
+  tables = tables-of (s .args .self .q) (c .before .powers .result) (c .logs .result) (ok .known) (c .before .powers .ensures) (c .logs .ensures)
 
 cast-raise-by : tie.Need-cast-raise-by
 cast-raise-by c = search needs
