@@ -1,9 +1,4 @@
-<<<<<<< HEAD
 // The constant tables: from q to its field, and each field's powers of alpha, their logs, and the factors of its generators.
-ghost use mathlib.Core.Path.{_≡_};
-=======
-// The constant tables: from q to its field, and each field's powers of alpha and their logs.
->>>>>>> tables
 ghost use Rattle.tables.specs.Choice.{ChosenFor};
 ghost use Rattle.tables.specs.Factors.{Factors};
 ghost use Rattle.tables.specs.Tables.{Powers, Logs};
