@@ -2,6 +2,7 @@
 use native.Mathlib.Omega.{arith}
 use borrow.Author.Needs.{needs}
 use Rattle.words.specs.Add.{add-word-law}
+use Rattle.words.specs.Value.{Bounded}
 use Rattle.words.proofs.bytes.add_word.Statement.{statement}
 use Rattle.words.proofs.bytes.add_word.Tie as tie
 
@@ -16,8 +17,10 @@ same-length c = search needs
 
 returns : tie.Need-returns
 returns c =
-    let a = c .before .before .before .before .before .before .before .args in
-    add-word-law (a .acc .now) _ (a .at) (a .v) _ (λ k. c .before .before .before .before .before .before .slice-known .given k .fits) (omega arith) (c .before .before .put-word .kept .0) (c .before .before .before .before .before .before .before .fits .v .fits) (c .before .before .before .before .word-in .ensures) (c .before .before .put-word .ensures)
+    let s = c .before .before .before .before .before .before .before in
+    let b : Bounded 8 (s .args .acc .now) = λ k. c .before .before .before .before .before .before .slice-known .given k .fits in
+    let q = c .before .before .put-word in
+    add-word-law (s .args .acc .now) _ (s .args .at) (s .args .v) _ b (omega arith) (q .kept .0) (s .fits .v .fits) (c .before .before .before .before .word-in .ensures) (q .ensures)
 
 pub add-word-spec : {M : Type 1} → statement M
 add-word-spec = tie.close (tie.spec word-in-requires put-word-requires same-length returns)

@@ -14,15 +14,18 @@ clear-from-requires c κs = search needs
 
 add-bytes-requires : tie.Need-add-bytes-requires
 add-bytes-requires c κs =
+    let s = c .before .before .before .before .before .before .before .before in
     let k = c .before .before .before .clear-from .kept .0 in
-    (omega arith, top-lt (c .before .before .before .before .before .before .before .before .args .n) (value 8 (c .before .before .before .before .before .before .before .before .args .acc .now)) _ _ (c .before .before .before .before .before .before .before .before .pre .4) (omega (arith, k)) (c .before .before .before .before .before .bits .ensures))
+    (omega arith, top-lt (s .args .n) (value 8 (s .args .acc .now)) _ _ (s .pre .4) (omega (arith, k)) (c .before .before .before .before .before .bits .ensures))
 
 same-length : tie.Need-same-length
 same-length c = search needs
 
 returns : tie.Need-returns
 returns c =
-    fold-law (c .before .before .before .before .before .before .before .before .before .before .before .args .n) (value 8 (c .before .before .before .before .before .before .before .before .before .before .before .args .acc .now)) _ (c .before .before .before .before .before .before .before .before .bits .result) _ (omega arith) (c .before .before .before .before .before .before .before .before .before .before .before .pre .3) (c .before .before .before .before .before .before .before .before .before .before .before .pre .4) (c .before .before .before .before .before .before .clear-from .ensures) (c .before .before .before .before .before .before .before .before .bits .ensures) (c .before .before .add-bytes .ensures)
+    let s = c .before .before .before .before .before .before .before .before .before .before .before in
+    let q = c .before .before .before .before .before .before .before .before .bits in
+    fold-law (s .args .n) (value 8 (s .args .acc .now)) _ (q .result) _ (omega arith) (s .pre .3) (s .pre .4) (c .before .before .before .before .before .before .clear-from .ensures) (q .ensures) (c .before .before .add-bytes .ensures)
 
 pub fold-cyclic-spec : {M : Type 1} → statement M
 fold-cyclic-spec =

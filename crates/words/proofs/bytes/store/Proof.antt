@@ -40,10 +40,13 @@ loop-less c = search needs
 loop-again : tie.Need-loop-again Inv-loop μ-loop
 loop-again c =
     let l = c .before .before .before .before .before .before .loop in
+    let r = c .before .before .before .before .before .before .before .before .before .args .r .now in
+    let b : Bounded 64 r = λ k. c .before .before .before .before .before .before .before .shared-slice-known .given k .fits in
+    let q = c .before .before .put-word in
     let e : 8 * l .k + 8 ≡ 8 * (l .k + 1) = omega arith in (
       omega arith,
       (λ k. c .slice-known2 .given k .fits),
-      rw e at (written-word _ (l .dst) _ _ (8 * l .k) _ (omega arith) (c .before .before .put-word .kept .0) (c .before .before .put-word .ensures) (word-digit (c .before .before .before .before .before .before .before .before .before .args .r .now) (λ k. c .before .before .before .before .before .before .before .shared-slice-known .given k .fits) (l .k)) (l .inv .2)),
+      rw e at (written-word _ (l .dst) _ _ (8 * l .k) _ (omega arith) (q .kept .0) (q .ensures) (word-digit r b (l .k)) (l .inv .2)),
     )
 
 same-length : tie.Need-same-length Inv-loop μ-loop

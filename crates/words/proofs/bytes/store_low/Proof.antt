@@ -6,6 +6,7 @@ use borrow.Author.Needs.{needs}
 use Rattle.polynomial.specs.Digits.{value}
 use Rattle.words.specs.Add.{Added, added-start, added-word, added-next}
 use Rattle.words.specs.Store.{word-digit, last-lt, under}
+use Rattle.words.specs.Value.{Bounded}
 use Rattle.words.proofs.bytes.store_low.Statement.{statement}
 use Rattle.words.proofs.bytes.store_low.Tie as tie
 
@@ -39,10 +40,11 @@ loop-less c = search needs
 loop-again : tie.Need-loop-again Inv-loop μ-loop
 loop-again c =
     let l = c .before .before .before .before .before .before .loop in
-    let e : 8 * l .k + 8 ≡ 8 * (l .k + 1) = omega arith in (
-      omega arith,
-      rw e at (added-word _ (l .dst) _ _ (8 * l .k) _ (c .before .before .add-word .ensures) (omega arith) (c .before .before .add-word .kept .0) (word-digit (c .before .before .before .before .before .before .before .before .before .args .r .now) (λ k. c .before .before .before .before .before .before .before .shared-slice-known .given k .fits) (l .k)) (l .inv .1)),
-    )
+    let r = c .before .before .before .before .before .before .before .before .before .args .r .now in
+    let b : Bounded 64 r = λ k. c .before .before .before .before .before .before .before .shared-slice-known .given k .fits in
+    let q = c .before .before .add-word in
+    let e : 8 * l .k + 8 ≡ 8 * (l .k + 1) = omega arith in
+    (omega arith, rw e at (added-word _ (l .dst) _ _ (8 * l .k) _ (q .ensures) (omega arith) (q .kept .0) (word-digit r b (l .k)) (l .inv .1)))
 
 mul-add-bytes : tie.Need-mul-add-bytes Inv-loop μ-loop
 mul-add-bytes c = search needs
@@ -55,29 +57,35 @@ shared-slice-read-add-bytes c = search needs
 
 add-bytes-requires : tie.Need-add-bytes-requires Inv-loop μ-loop
 add-bytes-requires c κs =
+    let s = c .before .before .before .before .before .before .before in
     let l = c .before .before .before .before .loop in
-    let a = c .before .before .before .before .before .before .before .args in
-    (omega arith, last-lt (a .r .now) (λ k. c .before .before .before .before .before .shared-slice-known .given k .fits) (a .w) (a .w / 64) _ (c .before .before .before .before .before .before .before .pre .2) refl (omega arith))
+    let r = s .args .r .now in
+    let b : Bounded 64 r = λ k. c .before .before .before .before .before .shared-slice-known .given k .fits in
+    (omega arith, last-lt r b (s .args .w) (s .args .w / 64) _ (s .pre .2) refl (omega arith))
 
 same-length : tie.Need-same-length Inv-loop μ-loop
 same-length c = search needs
 
 returns : tie.Need-returns Inv-loop μ-loop
 returns c =
+    let s = c .before .before .before .before .before .before .before .before .before .before in
     let l = c .before .before .before .before .before .before .before .loop in
-    let a = c .before .before .before .before .before .before .before .before .before .before .args in
-    let e : l .k ≡ a .w / 64 = omega arith in
-    under (value 8 (a .dst .now)) (value 64 (a .r .now)) (a .w) (64 + 8 * (8 * (a .w / 64))) _ (c .before .before .before .before .before .before .before .before .before .before .pre .3) (c .before .before .before .before .before .before .before .before .before .before .pre .2) (omega arith)
-    (added-next _ (l .dst) _ _ (8 * (a .w / 64)) _ (c .before .before .add-bytes .ensures) 64 (word-digit (a .r .now) (λ k. c .before .before .before .before .before .before .before .before .shared-slice-known .given k .fits) (a .w / 64)) (rw e at (l .inv .1)))
+    let r = s .args .r .now in
+    let w = s .args .w in
+    let n = w / 64 in
+    let b : Bounded 64 r = λ k. c .before .before .before .before .before .before .before .before .shared-slice-known .given k .fits in
+    let e : l .k ≡ n = omega arith in
+    under (value 8 (s .args .dst .now)) (value 64 r) w (64 + 8 * (8 * n)) _ (s .pre .3) (s .pre .2) (omega arith)
+    (added-next _ (l .dst) _ _ (8 * n) _ (c .before .before .add-bytes .ensures) 64 (word-digit r b n) (rw e at (l .inv .1)))
 
 same-length-2 : tie.Need-same-length-2 Inv-loop μ-loop
 same-length-2 c = search needs
 
 returns-2 : tie.Need-returns-2 Inv-loop μ-loop
 returns-2 c =
+    let s = c .before .before .before .before .before in
     let l = c .before .before .loop in
-    let a = c .before .before .before .before .before .args in
-    under (value 8 (a .dst .now)) (value 64 (a .r .now)) (a .w) (8 * (8 * l .k)) _ (c .before .before .before .before .before .pre .3) (c .before .before .before .before .before .pre .2) (omega arith) (l .inv .1 .done)
+    under (value 8 (s .args .dst .now)) (value 64 (s .args .r .now)) (s .args .w) (8 * (8 * l .k)) _ (s .pre .3) (s .pre .2) (omega arith) (l .inv .1 .done)
 
 pub store-low-spec : {M : Type 1} → statement M
 store-low-spec =

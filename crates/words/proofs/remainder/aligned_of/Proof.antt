@@ -13,8 +13,9 @@ clear-requires c κs = search needs
 
 feed-requires : tie.Need-feed-requires
 feed-requires c κs =
-    let k = c .before .before .before .clear .kept .0 in
-    (k ∙ c .before .before .before .before .before .before .before .before .pre .0, c .before .before .before .before .before .before .before .before .pre .1, c .before .before .before .before .before .before .before .before .pre .2, c .before .before .before .before .before .before .before .before .pre .3, c .before .before .before .before .before .before .before .before .pre .4, rw (c .before .before .before .clear .ensures) (pow-pos D), c .before .before .before .before .before .before .before .before .pre .5)
+    let s = c .before .before .before .before .before .before .before .before in
+    let q = c .before .before .before .clear in
+    (q .kept .0 ∙ s .pre .0, s .pre .1, s .pre .2, s .pre .3, s .pre .4, rw (q .ensures) (pow-pos D), s .pre .5)
 
 same-length : tie.Need-same-length
 same-length c = search needs
@@ -22,7 +23,8 @@ same-length c = search needs
 returns : tie.Need-returns
 returns c =
     let a = c .before .before .before .before .before .before .before .before .before .before .before .args in
-    fed-zero (a .t .now) (value 64 (c .before .before .before .before .before .before .clear .last .0)) (value 8 (a .s .now)) (a .p) (a .n) _ (c .before .before .before .before .before .before .clear .ensures) (c .before .before .feed .ensures)
+    let q = c .before .before .before .before .before .before .clear in
+    fed-zero (a .t .now) (value 64 (q .last .0)) (value 8 (a .s .now)) (a .p) (a .n) _ (q .ensures) (c .before .before .feed .ensures)
 
 pub aligned-of-spec : {M : Type 1} → statement M
 aligned-of-spec = tie.close (tie.spec clear-requires feed-requires same-length returns)

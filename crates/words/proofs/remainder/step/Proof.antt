@@ -8,7 +8,9 @@ use Rattle.words.proofs.remainder.step.Statement.{statement}
 use Rattle.words.proofs.remainder.step.Tie as tie
 
 shift-requires : tie.Need-shift-requires
-shift-requires c κs = (c .before .before .before .pre .0, c .before .before .before .pre .2, c .before .before .before .pre .3, top-zero (c .before .before .before .args .r .now) (λ k. c .before .before .slice-known .given k .fits) (c .before .before .before .pre .0) (c .before .before .before .pre .5))
+shift-requires c κs =
+    let s = c .before .before .before in
+    (s .pre .0, s .pre .2, s .pre .3, top-zero (s .args .r .now) (λ k. c .before .before .slice-known .given k .fits) (s .pre .0) (s .pre .5))
 
 insert-requires : tie.Need-insert-requires
 insert-requires c κs = search needs
@@ -21,7 +23,8 @@ same-length c = search needs
 
 returns : tie.Need-returns
 returns c =
-    let e = c .before .before .before .before .before .before .insert .ensures ∙ ap (λ (x : ℕ). xor x (c .before .before .before .before .before .before .before .before .before .before .before .before .before .before .args .u * 2 ^ c .before .before .before .before .before .before .before .before .before .before .before .before .before .before .args .p)) (c .before .before .before .before .before .before .before .before .before .before .shift .ensures) in
+    let a = c .before .before .before .before .before .before .before .before .before .before .before .before .before .before .args in
+    let e = c .before .before .before .before .before .before .insert .ensures ∙ ap (λ (x : ℕ). xor x (a .u * 2 ^ a .p)) (c .before .before .before .before .before .before .before .before .before .before .shift .ensures) in
     rw (← e) (c .before .before .reduce .ensures)
 
 pub step-spec : {M : Type 1} → statement M

@@ -46,13 +46,14 @@ loop-less c = search needs
 loop-again : tie.Need-loop-again Inv-loop μ-loop
 loop-again c =
     let l = c .before .before .before .loop in
-    let a = c .before .before .before .before .before .args in (
+    let a = c .before .before .before .before .before .args in
+    let b : Bounded 64 (a .r .now) = λ k. c .before .before .before .before .slice-known .given k .fits in
+    let q = c .window in (
       omega arith,
       drop-next (l .r) (a .r .now) (l .i) _ (l .inv .1),
-      bounded-set 64 (l .r) (l .inv .2) (l .i) _ (rw (c .window .ensures) (mod-lt _ (pow-pos 64))),
+      bounded-set 64 (l .r) (l .inv .2) (l .i) _ (rw (q .ensures) (mod-lt _ (pow-pos 64))),
       written-digit 64 _ (l .r) _ (l .i) _ (omega arith)
-          (c .window .ensures ∙ ap (λ (n : ℕ). n % 2 ^ 64) (lower-word (a .r .now) (l .r) (a .s) (l .i) (λ k. c .before .before .before .before .slice-known .given k .fits) (l .inv .2) (l .inv .1)))
-          (l .inv .3),
+          (q .ensures ∙ ap (λ (n : ℕ). n % 2 ^ 64) (lower-word (a .r .now) (l .r) (a .s) (l .i) b (l .inv .2) (l .inv .1))) (l .inv .3),
     )
 
 same-length : tie.Need-same-length Inv-loop μ-loop

@@ -26,7 +26,12 @@ clear-row-requires c κs = search needs
 loop-holds : tie.Need-loop-holds Inv-loop μ-loop
 loop-holds c =
     let s = c .before .before .before .before .before .before .before in
-    (omega arith, c .before .before .clear-row .kept .0 ∙ s .pre .0, s .pre .1, block-start (value 64 (s .args .g .now)) (s .pre .4) (s .args .t .now) (c .before .before .clear-row .last .0) (s .args .k) (value 64 (s .args .e .now)) (c .before .before .clear-row .ensures) (s .pre .5))
+    let q = c .before .before .clear-row in (
+      omega arith,
+      q .kept .0 ∙ s .pre .0,
+      s .pre .1,
+      block-start (value 64 (s .args .g .now)) (s .pre .4) (s .args .t .now) (q .last .0) (s .args .k) (value 64 (s .args .e .now)) (q .ensures) (s .pre .5),
+    )
 
 mul-fill : tie.Need-mul-fill Inv-loop μ-loop
 mul-fill c = search needs
@@ -59,12 +64,14 @@ loop-less c = search needs
 loop-again : tie.Need-loop-again Inv-loop μ-loop
 loop-again c =
     let s = c .before .before .before .before .before .before .before .before .before .before .before .before .before .before .before .before .before .before in
-    let l = c .before .before .before .before .before .before .before .before .before .before .loop in (
+    let l = c .before .before .before .before .before .before .before .before .before .before .loop in
+    let q = c .before .before .before .before .before .before .fill in
+    let x = c .before .before .times-x in (
       omega arith,
-      c .before .before .before .before .before .before .fill .kept .0 ∙ l .inv .1,
-      c .before .before .times-x .kept .0 ∙ l .inv .2,
-      block-turn (value 64 (s .args .g .now)) (s .pre .4) (c .before .before .before .before .before .before .before .before .before .before .before .before .before .clear-row .last .0) (l .t) (c .before .before .before .before .before .before .fill .last .0) (s .args .k) (l .s) (l .m) (value 64 (l .e)) (value 64 (c .before .before .times-x .last .0))
-          (l .inv .3) (c .before .before .before .before .before .before .fill .ensures) (c .before .before .times-x .ensures),
+      q .kept .0 ∙ l .inv .1,
+      x .kept .0 ∙ l .inv .2,
+      block-turn (value 64 (s .args .g .now)) (s .pre .4) (c .before .before .before .before .before .before .before .before .before .before .before .before .before .clear-row .last .0) (l .t) (q .last .0) (s .args .k) (l .s) (l .m) (value 64 (l .e)) (value 64 (x .last .0))
+          (l .inv .3) (q .ensures) (x .ensures),
     )
 
 same-length : tie.Need-same-length Inv-loop μ-loop

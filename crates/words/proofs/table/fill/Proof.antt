@@ -7,6 +7,7 @@ use borrow.Author.Needs.{needs}
 use Rattle.polynomial.specs.Digits.{value}
 use Rattle.words.specs.Build.{Filled, fill-start, fill-turn}
 use Rattle.words.specs.Row.{top-zero}
+use Rattle.words.specs.Value.{Bounded}
 use Rattle.words.proofs.table.fill.Statement.{statement}
 use Rattle.words.proofs.table.fill.Tie as tie
 
@@ -35,7 +36,10 @@ mul-put-row-2 : tie.Need-mul-put-row-2 Inv-loop μ-loop
 mul-put-row-2 c = search needs
 
 put-row-requires : tie.Need-put-row-requires Inv-loop μ-loop
-put-row-requires c κs = let s = c .before .before .before .before .before in (c .before .before .loop .inv .1, s .pre .1, top-zero (s .args .e .now) (λ k. c .before .before .before .shared-slice-known .given k .fits) (s .pre .1) (s .pre .2), omega arith, omega arith)
+put-row-requires c κs =
+    let s = c .before .before .before .before .before in
+    let b : Bounded 64 (s .args .e .now) = λ k. c .before .before .before .shared-slice-known .given k .fits in
+    (c .before .before .loop .inv .1, s .pre .1, top-zero (s .args .e .now) b (s .pre .1) (s .pre .2), omega arith, omega arith)
 
 add-b : tie.Need-add-b Inv-loop μ-loop
 add-b c = search needs

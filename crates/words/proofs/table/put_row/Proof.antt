@@ -63,7 +63,10 @@ same-length : tie.Need-same-length Inv-loop μ-loop
 same-length c = search needs
 
 returns : tie.Need-returns Inv-loop μ-loop
-returns c = put-end (c .before .before .args .t .now) (c .before .loop .t) (c .before .before .args .e .now) (c .before .before .args .from) (c .before .before .args .to) (c .before .loop .j) (omega arith) (c .before .before .pre .1) (c .before .before .pre .2) (c .before .loop .inv .2)
+returns c =
+    let s = c .before .before in
+    let l = c .before .loop in
+    put-end (s .args .t .now) (l .t) (s .args .e .now) (s .args .from) (s .args .to) (l .j) (omega arith) (s .pre .1) (s .pre .2) (l .inv .2)
 
 pub put-row-spec : {M : Type 1} → statement M
 put-row-spec =

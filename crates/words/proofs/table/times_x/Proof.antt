@@ -3,8 +3,10 @@ use mathlib.Core.Path.{refl, _∙_}
 use native.Mathlib.Omega.{arith}
 use borrow.Author.Needs.{needs}
 use Rattle.polynomial.specs.Digits.{value}
+use Rattle.polynomial.specs.Lists.{add}
 use Rattle.words.specs.Build.{times-high, times-low}
 use Rattle.words.specs.Row.{top-zero}
+use Rattle.words.specs.Value.{Bounded}
 use Rattle.words.proofs.table.times_x.Statement.{statement}
 use Rattle.words.proofs.table.times_x.Tie as tie
 
@@ -23,8 +25,10 @@ same-length c = search needs
 returns : tie.Need-returns
 returns c =
     let s = c .before .before .before .before .before .before .before .before .before .before .before .before in
-    c .before .before .add .ensures ∙ times-high (value 64 (s .args .g .now)) (s .pre .3) (c .before .before .before .before .before .before .before .before .shift .last .0) (value 64 (s .args .e .now)) (value 64 (s .args .g .now))
-    (λ k. c .before .before .before .before .before .before .slice-known2 .given k .fits) (c .before .before .before .before .before .before .before .before .shift .kept .0 ∙ s .pre .0) (c .before .before .before .before .before .before .before .before .shift .ensures) (s .pre .2) (c .before .before .before .before .if1 .taken) refl
+    let g = value 64 (s .args .g .now) in
+    let q = c .before .before .before .before .before .before .before .before .shift in
+    let b : Bounded 64 (q .last .0) = λ k. c .before .before .before .before .before .before .slice-known2 .given k .fits in
+    c .before .before .add .ensures ∙ times-high g (s .pre .3) (q .last .0) (value 64 (s .args .e .now)) g b (q .kept .0 ∙ s .pre .0) (q .ensures) (s .pre .2) (c .before .before .before .before .if1 .taken) refl
 
 same-length-2 : tie.Need-same-length-2
 same-length-2 c = search needs
@@ -32,7 +36,9 @@ same-length-2 c = search needs
 returns-2 : tie.Need-returns-2
 returns-2 c =
     let s = c .before .before .before .before .before .before .before .before in
-    times-low (value 64 (s .args .g .now)) (s .pre .3) (c .before .before .before .before .shift .last .0) (value 64 (s .args .e .now)) (λ k. c .before .before .slice-known2 .given k .fits) (c .before .before .before .before .shift .kept .0 ∙ s .pre .0) (c .before .before .before .before .shift .ensures) (c .if1 .left)
+    let q = c .before .before .before .before .shift in
+    let b : Bounded 64 (q .last .0) = λ k. c .before .before .slice-known2 .given k .fits in
+    times-low (value 64 (s .args .g .now)) (s .pre .3) (q .last .0) (value 64 (s .args .e .now)) b (q .kept .0 ∙ s .pre .0) (q .ensures) (c .if1 .left)
 
 pub times-x-spec : {M : Type 1} → statement M
 times-x-spec =
