@@ -7,6 +7,7 @@ use mathlib.Core.Logic.{_⊎_, inl, inr}
 use mathlib.Core.List.{List, []}
 use Prim.Native.Nat.{ℕ, zero, suc, _+_, _-_, _*_, _^_, _≤_, _<_}
 use native.Mathlib.Nat as Nat
+use native.Mathlib.Numerals.{add-one}
 use native.Mathlib.Omega.{arith}
 use lib.ListN.{length, getD, set, length-set}
 use lib.Seq.{getD-set-same, getD-set-other}
@@ -52,7 +53,7 @@ module _ (p : Parameters) (A : Accepted p) where
 
   -- a row's bound, for moving it up
   pub row-lt : (a : ℕ) → a ≤ p .v → gen p a < 2 ^ (degree p a + 1)
-  row-lt a h = rw Nat.add-one (lt-of-deg (degree p a) (degree-of a h))
+  row-lt a h = rw add-one (lt-of-deg (degree p a) (degree-of a h))
 
   -- remainders by the table
   pub table-remainder : (a w f r : ℕ) (t : List ℕ) → a ≤ p .v → w ≡ degree p a → Prepared p a t → RemainderBy t (768 - w) f r → r ≡ remainder p a f
