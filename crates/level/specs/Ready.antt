@@ -14,6 +14,7 @@ use lib.Seq.{getD-set-same, getD-set-other}
 use Rattle.polynomial.specs.Digits.{value}
 use Rattle.polynomial.specs.Division.{Deg, deg, deg-is, deg-unique, lt-of-deg}
 use Rattle.polynomial.specs.Multiple.{deg-pos}
+use Rattle.words.specs.Move.{align-deg}
 use Rattle.words.specs.Row.{D, D-is}
 use Rattle.words.specs.Table.{Table, RemainderBy}
 use Rattle.code.specs.declared.Parameters.{Parameters}
@@ -39,6 +40,12 @@ module _ (p : Parameters) (A : Accepted p) where
   pub row-of : (a : ℕ) → a ≤ p .v → RowOf p a (getD (generators p) a [])
   row-of a h = record { words = row-length p R A a h; is = row-back p R A a h }
 
+  pub row-at : (rows : List (List ℕ)) (a : ℕ) → rows ≡ generators p → a ≤ p .v → RowOf p a (getD rows a [])
+  row-at rows a e h = rw e (row-of a h)
+
+  pub level-lt : (a : ℕ) → a ≤ p .v → a < 4
+  level-lt a h = omega (arith, R .v-high)
+
   pub degree-of : (a : ℕ) → a ≤ p .v → Deg (gen p a) (degree p a)
   degree-of a h = lawful p R .degrees a h
 
@@ -51,9 +58,19 @@ module _ (p : Parameters) (A : Accepted p) where
   pub deg-gen : (a : ℕ) → a ≤ p .v → deg (gen p a) ≡ degree p a
   deg-gen a h = deg-unique (gen p a) (deg (gen p a)) (degree p a) (deg-is (gen p a) (gen-pos a h)) (degree-of a h)
 
+  pub row-deg : (g : List ℕ) (a : ℕ) → a ≤ p .v → RowOf p a g → deg (value 64 g) ≡ degree p a
+  row-deg g a h r = ap deg (r .is) ∙ deg-gen a h
+
   -- a row's bound, for moving it up
   pub row-lt : (a : ℕ) → a ≤ p .v → gen p a < 2 ^ (degree p a + 1)
   row-lt a h = rw add-one (lt-of-deg (degree p a) (degree-of a h))
+
+  pub prepared : (g r t : List ℕ) (a w : ℕ) → a ≤ p .v → w ≡ degree p a → RowOf p a g → value 64 r ≡ value 64 g * 2 ^ (768 - w) → length t ≡ 3072 → Table (value 64 r) t → Prepared p a t
+  prepared g r t a w h e G f l T = record { words = l; table = rw (f ∙ ap (λ (y : ℕ). y * 2 ^ (768 - w)) (G .is) ∙ ap (λ (k : ℕ). gen p a * 2 ^ (768 - k)) e) at T }
+
+  pub aligned-deg : (g r : List ℕ) (a w : ℕ) → a ≤ p .v → w ≡ degree p a → RowOf p a g → value 64 r ≡ value 64 g * 2 ^ (768 - w) → Deg (value 64 r) D
+  aligned-deg g r a w h e G f =
+      rw (f ∙ ap (λ (y : ℕ). y * 2 ^ (768 - w)) (G .is) ∙ ap (λ (k : ℕ). gen p a * 2 ^ (768 - k)) e) (align-deg (gen p a) (degree p a) (degree-of a h) (degree-most a h))
 
   -- remainders by the table
   pub table-remainder : (a w f r : ℕ) (t : List ℕ) → a ≤ p .v → w ≡ degree p a → Prepared p a t → RemainderBy t (768 - w) f r → r ≡ remainder p a f

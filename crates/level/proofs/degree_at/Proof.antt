@@ -1,33 +1,36 @@
 use borrow.Author.Needs.{needs}
+use mathlib.Core.Path.{_≡_, sym, _∙_}
+use native.Mathlib.Omega.{arith}
+use Rattle.level.specs.Ready.{RowOf, row-at, row-deg, level-lt, gen-pos, degree-most}
 use Rattle.level.proofs.degree_at.Statement.{statement}
 use Rattle.level.proofs.degree_at.Tie as tie
-use Rattle.level.proofs.degree_at.Reads as reads
-use Rattle.level.proofs.degree_at.Lts as lts
-use Rattle.words.proofs.row.degree_of.Reads as degree-of-reads
 
--- src/lib.rt:17:13
 mul-g : tie.Need-mul-g
 mul-g c = search needs
 
--- src/lib.rt:17:13
 array-copy-out-g : tie.Need-array-copy-out-g
-array-copy-out-g c = search needs
+array-copy-out-g c = level-lt (c .args .p) (c .pre .0) (c .args .a) (c .pre .2)
 
--- src/lib.rt:18:35
 slice-aggregate-degree-of : tie.Need-slice-aggregate-degree-of
-slice-aggregate-degree-of c = search needs
+slice-aggregate-degree-of c = let s = c .before .before in sym (row-at (s .args .p) (s .pre .0) _ (s .args .a) (s .pre .1) (s .pre .2) .words)
 
--- src/lib.rt:18:9
 degree-of-requires : tie.Need-degree-of-requires
-degree-of-requires c κs = search needs
+degree-of-requires c κs =
+    let s = c .before .before in
+    let r = row-at (s .args .p) (s .pre .0) _ (s .args .a) (s .pre .1) (s .pre .2) in
+    (r .words, rw (r .is) (gen-pos (s .args .p) (s .pre .0) (s .args .a) (s .pre .2)))
 
--- src/lib.rt:19:5
 cast-result : tie.Need-cast-result
-cast-result c = search needs
+cast-result c =
+    let s = c .before .before .before in
+    let r = row-at (s .args .p) (s .pre .0) _ (s .args .a) (s .pre .1) (s .pre .2) in
+    omega (arith, c .degree-of .ensures, row-deg (s .args .p) (s .pre .0) _ (s .args .a) (s .pre .2) r, degree-most (s .args .p) (s .pre .0) (s .args .a) (s .pre .2))
 
--- src/lib.rt:13:1
 returns : tie.Need-returns
-returns c = search needs
+returns c =
+    let s = c .before .before .before in
+    let r = row-at (s .args .p) (s .pre .0) _ (s .args .a) (s .pre .1) (s .pre .2) in
+    c .degree-of .ensures ∙ row-deg (s .args .p) (s .pre .0) _ (s .args .a) (s .pre .2) r
 
 pub degree-at-spec : {M : Type 1} → statement M
 degree-at-spec =

@@ -1,46 +1,49 @@
 use borrow.Author.Needs.{needs}
+use mathlib.Core.Path.{_≡_, sym, ap, _∙_}
+use native.Mathlib.Omega.{arith}
+use Prim.Native.Nat.{ℕ, _+_, _^_, _<_}
+use Rattle.level.specs.Ready.{RowOf, row-at, row-lt, level-lt, degree-most, prepared, aligned-deg}
 use Rattle.level.proofs.prepare.Statement.{statement}
 use Rattle.level.proofs.prepare.Tie as tie
-use Rattle.level.proofs.prepare.Reads as reads
-use Rattle.level.proofs.prepare.Lts as lts
-use Rattle.words.proofs.row.align.Reads as align-reads
-use Rattle.words.proofs.table.build.Reads as build-reads
 
--- src/lib.rt:42:13
 mul-g : tie.Need-mul-g
 mul-g c = search needs
 
--- src/lib.rt:42:13
 array-copy-out-g : tie.Need-array-copy-out-g
-array-copy-out-g c = search needs
+array-copy-out-g c = let s = c .before in level-lt (s .args .p) (s .pre .0) (s .args .a) (s .pre .2)
 
--- src/lib.rt:44:23
 slice-aggregate-align : tie.Need-slice-aggregate-align
 slice-aggregate-align c = search needs
 
--- src/lib.rt:44:31
 slice-aggregate-align-2 : tie.Need-slice-aggregate-align-2
-slice-aggregate-align-2 c = search needs
+slice-aggregate-align-2 c = let s = c .before .before .before .before in sym (row-at (s .args .p) (s .pre .0) _ (s .args .a) (s .pre .1) (s .pre .2) .words)
 
--- src/lib.rt:44:5
 align-requires : tie.Need-align-requires
-align-requires c κs = search needs
+align-requires c κs =
+    let s = c .before .before .before .before in
+    let r = row-at (s .args .p) (s .pre .0) _ (s .args .a) (s .pre .1) (s .pre .2) in
+    (search needs, rw (s .pre .3) (degree-most (s .args .p) (s .pre .0) (s .args .a) (s .pre .2)), rw (r .is, s .pre .3) (row-lt (s .args .p) (s .pre .0) (s .args .a) (s .pre .2)))
 
--- src/lib.rt:45:28
 slice-aggregate-build : tie.Need-slice-aggregate-build
 slice-aggregate-build c = search needs
 
--- src/lib.rt:45:5
 build-requires : tie.Need-build-requires
-build-requires c κs = search needs
+build-requires c κs =
+    let al = c .before .before .before in
+    let s = al .before .before .before .before .before in
+    let r = row-at (s .args .p) (s .pre .0) _ (s .args .a) (s .pre .1) (s .pre .2) in
+    (search needs, search needs, aligned-deg (s .args .p) (s .pre .0) _ (al .align .last .0) (s .args .a) (s .args .w) (s .pre .2) (s .pre .3) r (al .align .ensures))
 
--- src/lib.rt:38:1
 same-length : tie.Need-same-length
 same-length c = search needs
 
--- src/lib.rt:38:1
 returns : tie.Need-returns
-returns c = search needs
+returns c =
+    let b = c .before .before in
+    let al = b .before .before .before .before in
+    let s = al .before .before .before .before .before in
+    let r = row-at (s .args .p) (s .pre .0) _ (s .args .a) (s .pre .1) (s .pre .2) in
+    prepared (s .args .p) (s .pre .0) _ (al .align .last .0) (b .build .last .0) (s .args .a) (s .args .w) (s .pre .2) (s .pre .3) r (al .align .ensures) (search needs) (b .build .ensures)
 
 pub prepare-spec : {M : Type 1} → statement M
 prepare-spec =
