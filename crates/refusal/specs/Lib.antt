@@ -1,0 +1,2 @@
+-- Judge's chain, link by link.
+pub mod Judging
