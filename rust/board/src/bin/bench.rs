@@ -1,0 +1,199 @@
+//! Times of the archive's calls, the reference beside them, with memcpy and CRC-32 of 4,096 bytes in the same run.
+//!
+//!     cargo run --release --bin bench [FILE.csv]
+//!
+//! Writes a markdown table to standard output, and the figures to the file. A time is the median of SAMPLES samples, a
+//! sample the mean of as many calls as fill about a millisecond; beside it stand the tenth and the ninetieth percentile.
+//! Samples of all rows take turns, so that a disturbance of the machine falls on all. Buffers are not cleared between
+//! calls, and the data are drawn once. The reference keeps its generators and tables between calls, the archive nothing.
+
+use board::compare::{Call, Name};
+use reference::Parameters;
+use reference::parameters::Sheet;
+use reference::sample::Random;
+use std::hint::black_box;
+use std::time::Instant;
+
+const SAMPLES: usize = 101;
+const SAMPLE_NANOSECONDS: f64 = 1e6;
+const WIDTHS: [u32; 4] = [1, 8, 32, 64];
+const SHEETS: [Parameters; 3] = [
+    Parameters { q: 4, m: 2, v: 1, t: [1, 2, 0, 0] },
+    Parameters { q: 8, m: 4, v: 2, t: [4, 8, 16, 0] },
+    Parameters { q: 12, m: 8, v: 3, t: [28, 32, 39, 58] },
+];
+
+/// Something that is timed, over and over.
+struct Timed {
+    run: Box<dyn FnMut()>,
+    calls_in_sample: usize,
+    nanoseconds: Vec<f64>,
+}
+
+impl Timed {
+    fn new(run: impl FnMut() + 'static) -> Timed {
+        let mut timed = Timed { run: Box::new(run), calls_in_sample: 1, nanoseconds: Vec::new() };
+        timed.sample();
+        while timed.sample() * (timed.calls_in_sample as f64) < SAMPLE_NANOSECONDS {
+            timed.calls_in_sample *= 2;
+        }
+        timed
+    }
+
+    /// The mean time of a call over one sample.
+    fn sample(&mut self) -> f64 {
+        let start = Instant::now();
+        for _ in 0..self.calls_in_sample {
+            (self.run)();
+        }
+        start.elapsed().as_nanos() as f64 / self.calls_in_sample as f64
+    }
+
+    /// The 10th, 50th and 90th percentile of the sorted samples.
+    fn percentiles(&self) -> [f64; 3] {
+        [10, 50, 90].map(|percent| self.nanoseconds[(self.nanoseconds.len() - 1) * percent / 100])
+    }
+}
+
+struct Row {
+    sheet: String,
+    call: &'static str,
+    width: String,
+    /// Bytes of the page, or of the buffer of memcpy and CRC-32.
+    bytes: usize,
+    /// The archive and the reference; for memcpy and CRC-32 that alone.
+    sides: Vec<(&'static str, Timed)>,
+}
+
+fn crc_table() -> [u32; 256] {
+    std::array::from_fn(|byte| (0..8).fold(byte as u32, |c, _| if c & 1 == 1 { c >> 1 ^ 0xEDB8_8320 } else { c >> 1 }))
+}
+
+/// CRC-32, a byte at a time.
+fn crc(table: &[u32; 256], bytes: &[u8]) -> u32 {
+    !bytes.iter().fold(!0, |c, &byte| c >> 8 ^ table[(c as u8 ^ byte) as usize])
+}
+
+fn rows() -> Vec<Row> {
+    let mut random = Random::new(1);
+    let plain = |call, run: Timed| Row {
+        sheet: String::new(),
+        call,
+        width: String::new(),
+        bytes: 4096,
+        sides: vec![("", run)],
+    };
+
+    let (from, mut to) = (random.bytes(4096), vec![0; 4096]);
+    let memcpy = Timed::new(move || black_box(&mut to[..]).copy_from_slice(black_box(&from)));
+    let (table, bytes) = (crc_table(), random.bytes(4096));
+    assert_eq!(crc(&table, b"123456789"), 0xCBF4_3926);
+    let crc = Timed::new(move || {
+        black_box(crc(black_box(&table), black_box(&bytes)));
+    });
+
+    let mut rows = vec![plain("memcpy", memcpy), plain("CRC-32", crc)];
+    rows.extend(SHEETS.into_iter().flat_map(|p| sheet_rows(&mut random, p)));
+    rows
+}
+
+/// Every call on a member of drawn data.
+fn sheet_rows(random: &mut Random, p: Parameters) -> Vec<Row> {
+    let sheet = Sheet::of(&p);
+    let t: Vec<String> = p.t[..=p.v as usize].iter().map(u32::to_string).collect();
+    let title = format!("q {} m {} v {} t {}", p.q, p.m, p.v, t.join(" "));
+    let mut blocks = vec![0; sheet.blocks_bytes()];
+    sheet.put_blocks(&sheet.words_of_blocks(&random.bytes(sheet.blocks_bytes())), &mut blocks);
+    let mut page = vec![0; sheet.page_bytes()];
+    let write = |number| Call { name: Name::Write, p, number, read: blocks.clone(), lent: vec![0; sheet.page_bytes()] };
+    assert_eq!(write(64).by_reference(&blocks, &mut page), 0);
+    let read = |name, lent| Call { name, p, number: 0, read: page.clone(), lent: vec![0; lent] };
+
+    let row = |call: Call| {
+        let (name, width) = match call.name {
+            Name::Write => ("write", call.number.to_string()),
+            Name::ReadOut => ("read out", String::new()),
+            Name::Judge => ("judge", String::new()),
+            Name::Syndromes => ("syndromes", String::new()),
+            Name::NestedSyndromes => ("nested syndromes", String::new()),
+        };
+        let timed = |made: fn(&Call, &[u8], &mut [u8]) -> u32| {
+            let (call, mut lent) = (call.clone(), call.lent.clone());
+            Timed::new(move || assert_eq!(made(black_box(&call), black_box(&call.read), black_box(&mut lent)), 0))
+        };
+        let sides = vec![("archive", timed(Call::by_archive)), ("reference", timed(Call::by_reference))];
+        Row { sheet: title.clone(), call: name, width, bytes: sheet.page_bytes(), sides }
+    };
+    let mut rows: Vec<Row> = WIDTHS.into_iter().map(|width| row(write(width))).collect();
+    rows.push(row(read(Name::ReadOut, blocks.len())));
+    rows.push(row(read(Name::Judge, 0)));
+    rows.push(row(read(Name::Syndromes, 4 * p.t[0] as usize)));
+    rows.push(row(read(Name::NestedSyndromes, 4 * p.t[p.v as usize] as usize)));
+    rows
+}
+
+fn machine() -> String {
+    let text = std::fs::read_to_string("/proc/cpuinfo").unwrap_or_default();
+    let field = |name: &str| {
+        let line = text.lines().find(|line| line.starts_with(name));
+        line.and_then(|line| line.split(':').nth(1)).map_or("unknown", str::trim).to_string()
+    };
+    let processors = text.lines().filter(|line| line.starts_with("processor")).count();
+    let load = std::fs::read_to_string("/proc/loadavg").unwrap_or_default();
+    let load = load.split(' ').next().unwrap_or_default();
+    let (model, clock, cache) = (field("model name"), field("cpu MHz"), field("cache size"));
+    format!("{model}, {clock} MHz, cache {cache}, {processors} processors, load {load}")
+}
+
+/// Nanoseconds or microseconds, three digits.
+fn shown(nanoseconds: f64) -> String {
+    match nanoseconds {
+        n if n < 99.95 => format!("{n:.1} ns"),
+        n if n < 999.5 => format!("{n:.0} ns"),
+        n if n < 99_950.0 => format!("{:.1} µs", n / 1000.0),
+        n => format!("{:.0} µs", n / 1000.0),
+    }
+}
+
+fn main() {
+    let mut rows = rows();
+    for _ in 0..SAMPLES {
+        for (_, timed) in rows.iter_mut().flat_map(|row| &mut row.sides) {
+            let time = timed.sample();
+            timed.nanoseconds.push(time);
+        }
+    }
+    for (_, timed) in rows.iter_mut().flat_map(|row| &mut row.sides) {
+        timed.nanoseconds.sort_by(f64::total_cmp);
+    }
+
+    let with_spread = |timed: &Timed| {
+        let [low, median, high] = timed.percentiles().map(shown);
+        format!("{median} ({low} to {high})")
+    };
+    println!("{}; medians of {SAMPLES} samples (10 % to 90 %)\n", machine());
+    println!("| 4,096 bytes | time |\n|---|---|");
+    for row in rows.iter().filter(|row| row.sides.len() == 1) {
+        println!("| {} | {} |", row.call, with_spread(&row.sides[0].1));
+    }
+    println!("\n| sheet | page bytes | call | width | archive | per byte | reference |\n|---|---|---|---|---|---|---|");
+    for row in rows.iter().filter(|row| row.sides.len() == 2) {
+        let Row { sheet, call, width, bytes, sides } = row;
+        let per_byte = sides[0].1.percentiles()[1] / *bytes as f64;
+        let (archive, reference) = (with_spread(&sides[0].1), with_spread(&sides[1].1));
+        println!("| {sheet} | {bytes} | {call} | {width} | {archive} | {per_byte:.2} ns | {reference} |");
+    }
+
+    if let Some(file) = std::env::args().nth(1) {
+        let mut csv = "sheet,call,width,side,bytes,bits,median_ns,low_ns,high_ns,samples,calls_in_sample\n".to_string();
+        for Row { sheet, call, width, bytes, sides } in &rows {
+            for (side, timed) in sides {
+                let [low, median, high] = timed.percentiles();
+                let (bits, calls) = (8 * bytes, timed.calls_in_sample);
+                let times = format!("{median:.1},{low:.1},{high:.1}");
+                csv += &format!("{sheet},{call},{width},{side},{bytes},{bits},{times},{SAMPLES},{calls}\n");
+            }
+        }
+        std::fs::write(&file, csv).expect("the file can be written");
+    }
+}

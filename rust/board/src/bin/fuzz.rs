@@ -1,0 +1,36 @@
+//! Any calls, archive and reference alike: fuzz CALLS, 100,000 if none is given. The seed is GII_SEED, or 1.
+
+use board::compare::NAMES;
+use board::draw;
+use reference::sample::Random;
+use std::collections::BTreeMap;
+
+fn main() {
+    let calls: u64 = std::env::args().nth(1).map_or(100_000, |text| text.parse().expect("a number of calls"));
+    let seed = draw::seed();
+    println!("fuzz: {calls} calls, seed {seed}");
+    let mut random = Random::new(seed);
+    let mut answers = BTreeMap::new();
+    for count in 1..=calls {
+        let call = draw::any(&mut random);
+        match call.compare(random.from_to(0, 255)) {
+            Ok((number, _)) => *answers.entry((call.name, number)).or_insert(0) += 1,
+            Err(found) => {
+                println!("seed {seed}, call {count}: {found}");
+                std::process::exit(1);
+            }
+        }
+        if count % 1_000_000 == 0 {
+            println!("{count} calls");
+        }
+    }
+    for name in NAMES {
+        let of_name: Vec<String> = answers
+            .iter()
+            .filter(|((of, _), _)| *of == name)
+            .map(|((_, number), times)| format!("{number}: {times}"))
+            .collect();
+        println!("{name:?}  {}", of_name.join(", "));
+    }
+    println!("{calls} calls alike");
+}

@@ -1,0 +1,249 @@
+//! Calls drawn from a seed: exact ones, and ones that are spoiled in a known way or in any way.
+
+use crate::compare::{Call, NAMES, Name};
+use reference::Parameters;
+use reference::layout::{bit, set};
+use reference::parameters::Sheet;
+use reference::sample::Random;
+use std::io::Write;
+
+/// The seed: GII_SEED, or 1.
+pub fn seed() -> u64 {
+    std::env::var("GII_SEED").map_or(1, |text| text.parse().expect("GII_SEED is a number"))
+}
+
+/// A line for the reader, past the capture of the test harness.
+#[allow(clippy::explicit_write)]
+pub fn say(line: &str) {
+    writeln!(std::io::stderr(), "{line}").unwrap();
+}
+
+/// The length of the lent list of syndromes.
+fn list_bytes(p: &Parameters, name: Name, index: u32) -> usize {
+    let t = match name {
+        Name::NestedSyndromes => p.t[(p.v - index) as usize],
+        _ => p.t[0],
+    };
+    4 * t as usize
+}
+
+/// A page of the sheet: a member, or one damaged in some way.
+pub fn page(random: &mut Random, p: &Parameters) -> Vec<u8> {
+    let sheet = Sheet::of(p);
+    let mut page = match random.from_to(0, 9) {
+        0 => vec![0; sheet.page_bytes()],
+        1 => vec![0xFF; sheet.page_bytes()],
+        2 => random.bytes(sheet.page_bytes()),
+        _ => {
+            let blocks = random.blocks(&sheet);
+            let mut page = vec![0; sheet.page_bytes()];
+            assert_eq!(reference::calls::write(p, 1, &blocks, &mut page), 0);
+            page
+        }
+    };
+    page.chunks_mut(sheet.sub_word_bytes()).for_each(|bytes| *bytes.last_mut().unwrap() &= 0x7F);
+    match random.from_to(0, 5) {
+        0 => flip(&mut page, random.place(&sheet)),
+        1 => (0..random.from_to(2, 70)).for_each(|_| flip(&mut page, random.place(&sheet))),
+        2 | 3 => break_nested(random, &sheet, &mut page),
+        _ => {}
+    }
+    page
+}
+
+pub fn flip(page: &mut [u8], place: usize) {
+    page[place / 8] ^= 1 << (place % 8);
+}
+
+/// Adds multiples of g_0 to the first sub-words, so that all sub-words stay right. With one of them nested word 0 changes,
+/// with h and h only nested word 1 and above, with x h, (1 + x) h and h only nested word 2.
+pub fn break_nested(random: &mut Random, sheet: &Sheet, page: &mut [u8]) {
+    let n = sheet.field.n;
+    let g = &sheet.levels[0].generator;
+    let at = random.from_to(0, n - 1);
+    let mut add = |i: usize, shift: usize| {
+        (0..g.len()).filter(|&k| g[k]).for_each(|k| flip(page, i * (n + 1) + (at + shift + k) % n));
+    };
+    let factors: &[(usize, usize)] = match random.from_to(0, sheet.v.min(2)) {
+        0 => &[(0, 0)],
+        1 => &[(0, 0), (1, 0)],
+        _ => &[(0, 1), (1, 0), (1, 1), (2, 0)],
+    };
+    factors.iter().for_each(|&(i, shift)| add(i, shift));
+}
+
+/// A call that is not refused.
+pub fn exact(random: &mut Random, name: Name, p: &Parameters) -> Call {
+    let sheet = Sheet::of(p);
+    let (number, read, lent) = match name {
+        Name::Write => (random.from_to(1, 64), random.blocks(&sheet), sheet.page_bytes()),
+        Name::ReadOut => (0, page(random, p), sheet.blocks_bytes()),
+        Name::Judge => (0, page(random, p), 0),
+        Name::Syndromes => (random.from_to(0, sheet.m - 1), page(random, p), 0),
+        Name::NestedSyndromes => (random.from_to(0, sheet.v - 1), page(random, p), 0),
+    };
+    let number = number as u32;
+    let lent = match name {
+        Name::Syndromes | Name::NestedSyndromes => list_bytes(p, name, number),
+        _ => lent,
+    };
+    Call { name, p: *p, number, read, lent: random.bytes(lent) }
+}
+
+/// The conditions that a call can meet.
+pub fn conditions(name: Name) -> &'static [u32] {
+    match name {
+        Name::Write => &[1, 2, 3, 4, 5, 6, 7, 8],
+        Name::ReadOut => &[1, 2, 3, 4, 6, 7, 8],
+        Name::Judge => &[1, 2, 3, 4, 7, 8],
+        Name::Syndromes | Name::NestedSyndromes => &[1, 2, 3, 4, 7, 8, 9, 10],
+    }
+}
+
+const GREATEST: u32 = u32::MAX;
+
+/// Makes an exact call meet a condition, whatever greater ones it has been made to meet before; false if it cannot be
+/// made to. Greater conditions may come to be met with it.
+pub fn spoil(random: &mut Random, call: &mut Call, condition: u32) -> bool {
+    let sheet = call.p.accepted().then(|| Sheet::of(&call.p));
+    let p = &mut call.p;
+    let v = p.v as usize;
+    match condition {
+        1 => {
+            p.q = any_of(random, &[0, 1, 2, 3, 5, 6, 7, 9, 11, 13, 16, 20, 24, 32, 36, 64, 68, 260, 1 << 31, GREATEST])
+        }
+        2 => {
+            let shapes =
+                [(p.m, 0), (p.m, 4), (p.m, GREATEST), (p.v, p.v), (0, p.v), (1, p.v), (9, p.v), (GREATEST, p.v)];
+            (p.m, p.v) = shapes[random.from_to(0, shapes.len() - 1)];
+        }
+        3 => match random.from_to(0, 6) {
+            0 => p.t[0] = 0,
+            1 => p.t[0] = p.t[1],
+            2 => p.t[0] = GREATEST,
+            3 => p.t[v] = if p.q == 4 { 8 } else { 65 },
+            4 => p.t[v] = any_of(random, &[65, 128, 255, 256, 1 << 31, (1 << 31) + 1, GREATEST - 1, GREATEST]),
+            5 if v < 3 => p.t[random.from_to(v + 1, 3)] = any_of(random, &[1, p.t[v], 64, GREATEST]),
+            5 => p.t[1] = p.t[0],
+            _ if v > 1 => p.t[v - 1] = p.t[v] + 1,
+            _ => p.t[1] = 0,
+        },
+        4 => match p.q {
+            4 => p.m = any_of(random, &[6, 7, 8]),
+            8 => (p.m, p.t[v]) = (any_of(random, &[6, 7, 8]), random.from_to((p.t[v] as usize).max(26), 64) as u32),
+            _ => return false,
+        },
+        5 => call.number = any_of(random, &[0, 65, 66, 128, 256, 257, 1 << 31, GREATEST]),
+        6 => match call.name {
+            Name::Write => cut(random, &mut call.read),
+            _ => cut(random, &mut call.lent),
+        },
+        7 => match call.name {
+            Name::Write => cut(random, &mut call.lent),
+            _ => cut(random, &mut call.read),
+        },
+        8 => {
+            let places = stray_places(&sheet.unwrap(), call.name);
+            if places.is_empty() {
+                return false;
+            }
+            set(&mut call.read, places[random.from_to(0, places.len() - 1)]);
+        }
+        9 => {
+            let end = if call.name == Name::Syndromes { p.m } else { p.v };
+            call.number = any_of(random, &[end, end + 1, end.max(8), 255, 256, 1 << 31, GREATEST]);
+        }
+        _ => cut(random, &mut call.lent),
+    }
+    true
+}
+
+fn any_of(random: &mut Random, numbers: &[u32]) -> u32 {
+    numbers[random.from_to(0, numbers.len() - 1)]
+}
+
+/// Another length: none, one less, one more, half, double, any.
+fn cut(random: &mut Random, bytes: &mut Vec<u8>) {
+    let exact = bytes.len();
+    let any = random.from_to(0, 5000);
+    let lengths = [0, exact - 1, exact + 1, exact / 2, 2 * exact, any, exact + 256];
+    let mut length = lengths[random.from_to(0, lengths.len() - 1)];
+    if length == exact {
+        length += 1;
+    }
+    let fill = random.bytes(length.saturating_sub(exact));
+    bytes.truncate(length);
+    bytes.extend(fill);
+}
+
+/// The bits of the bytes read that must be 0.
+fn stray_places(sheet: &Sheet, name: Name) -> Vec<usize> {
+    match name {
+        Name::Write => {
+            let mut used = vec![0; sheet.blocks_bytes()];
+            for i in 0..sheet.m {
+                (0..sheet.block_bits(i)).for_each(|r| set(&mut used, sheet.block_start(i) + r));
+            }
+            (0..8 * used.len()).filter(|&place| !bit(&used, place)).collect()
+        }
+        _ => (1..=sheet.m).map(|i| i * (sheet.field.n + 1) - 1).collect(),
+    }
+}
+
+/// Any call: mostly near an accepted one, so that every condition is often met alone.
+pub fn any(random: &mut Random) -> Call {
+    let name = NAMES[random.from_to(0, NAMES.len() - 1)];
+    if random.once_in(6) {
+        return wild(random, name);
+    }
+    let q = [4, 4, 4, 4, 4, 4, 4, 8, 8, 12][random.from_to(0, 9)];
+    // One in five of q = 12 is kept: they take longest.
+    let q = if q == 12 && !random.once_in(5) { 4 } else { q };
+    let p = random.parameters(q);
+    let mut call = exact(random, name, &p);
+    if random.once_in(2) {
+        for &condition in conditions(name).iter().rev() {
+            if random.once_in(6) {
+                spoil(random, &mut call, condition);
+            }
+        }
+    }
+    if random.once_in(4) {
+        let number = wild_number(random);
+        match random.from_to(0, 7) {
+            0 => call.p.q = number,
+            1 => call.p.m = number,
+            2 => call.p.v = number,
+            3 => call.number = number,
+            place => call.p.t[place - 4] = number,
+        }
+    }
+    call
+}
+
+/// Small, at an edge, or any.
+fn wild_number(random: &mut Random) -> u32 {
+    match random.from_to(0, 3) {
+        0 | 1 => random.from_to(0, 16) as u32,
+        2 => any_of(
+            random,
+            &[63, 64, 65, 127, 128, 129, 255, 256, 4094, 4095, 4096, 1 << 16, 1 << 31, GREATEST - 1, GREATEST],
+        ),
+        _ => (random.number() >> 32) as u32,
+    }
+}
+
+fn wild(random: &mut Random, name: Name) -> Call {
+    let mut number = || wild_number(random);
+    let p = Parameters { q: number(), m: number(), v: number(), t: [number(), number(), number(), number()] };
+    let number = number();
+    let length = |random: &mut Random| match random.from_to(0, 3) {
+        0 => 0,
+        1 => 4096,
+        2 => random.from_to(0, 40),
+        _ => random.from_to(0, 5000),
+    };
+    let (read, lent) = (length(random), length(random));
+    let lent = if name == Name::Judge { 0 } else { lent };
+    Call { name, p, number, read: random.bytes(read), lent: random.bytes(lent) }
+}

@@ -1,0 +1,121 @@
+//! Refusals: every set of conditions that a call can meet gives its least number, and every byte stays.
+
+use board::compare::{NAMES, Name};
+use board::draw::{conditions, exact, say, seed, spoil};
+use reference::Parameters;
+use reference::sample::{Random, all_parameters};
+use std::collections::BTreeSet;
+
+/// Every set of conditions, met by each call, on the given parameters.
+fn refuse(random: &mut Random, p: &Parameters, met: &mut BTreeSet<(Name, u32)>) -> usize {
+    let mut calls = 0;
+    for name in NAMES {
+        let all = conditions(name);
+        for chosen in 1usize..1 << all.len() {
+            let mut call = exact(random, name, p);
+            // The greatest first: a smaller one may alter what a greater one is measured by.
+            let chosen: Vec<u32> = (0..all.len()).filter(|k| chosen >> k & 1 == 1).map(|k| all[k]).collect();
+            if !chosen.iter().rev().all(|&condition| spoil(random, &mut call, condition)) {
+                continue;
+            }
+            calls += 1;
+            let (number, lent) = call
+                .compare(random.from_to(0, 255))
+                .unwrap_or_else(|found| panic!("seed {}, conditions {chosen:?}: {found}", seed()));
+            assert_eq!(number, chosen[0], "{name:?} {p:?}, conditions {chosen:?}");
+            assert_eq!(lent, call.lent);
+            met.insert((name, number));
+        }
+    }
+    calls
+}
+
+#[test]
+fn least_number_and_untouched_bytes() {
+    let mut random = Random::new(seed());
+    let mut met = BTreeSet::new();
+    let mut calls = 0;
+    for p in all_parameters(4, 8) {
+        calls += refuse(&mut random, &p, &mut met);
+    }
+    for _ in 0..60 {
+        let p = random.parameters(8);
+        calls += refuse(&mut random, &p, &mut met);
+    }
+    for _ in 0..3 {
+        let p = random.parameters(12);
+        calls += refuse(&mut random, &p, &mut met);
+    }
+    say(&format!("refusals: {calls} calls, seed {}", seed()));
+    for name in NAMES {
+        for &condition in conditions(name) {
+            assert!(met.contains(&(name, condition)), "{name:?} never gave {condition}");
+        }
+    }
+}
+
+/// Each number of the parameters over a range, the others right: the edges of every rule.
+#[test]
+fn every_parameter_over_a_range() {
+    let mut random = Random::new(seed() + 1);
+    let mut calls = 0;
+    let mut compare = |random: &mut Random, p: Parameters| {
+        for name in NAMES {
+            // Buffers that fit the parameters where these are accepted, and those of sheet A where not.
+            let exact_for = if p.accepted() { p } else { Parameters { q: 4, m: 2, v: 1, t: [1, 2, 0, 0] } };
+            let call = board::compare::Call { p, ..exact(random, name, &exact_for) };
+            calls += 1;
+            if let Err(found) = call.compare(0) {
+                panic!("seed {}: {found}", seed());
+            }
+        }
+    };
+    let wide =
+        (0..=140).chain([254, 255, 256, 257, 260, 264, 268, 4094, 4095, 1 << 16, 1 << 31, u32::MAX - 1, u32::MAX]);
+    for base in [
+        Parameters { q: 4, m: 3, v: 2, t: [1, 2, 3, 0] },
+        Parameters { q: 8, m: 4, v: 3, t: [4, 8, 16, 42] },
+        Parameters { q: 12, m: 4, v: 1, t: [1, 2, 0, 0] },
+    ] {
+        for number in wide.clone() {
+            compare(&mut random, Parameters { q: number, ..base });
+            compare(&mut random, Parameters { m: number, ..base });
+            compare(&mut random, Parameters { v: number, ..base });
+            for place in 0..4 {
+                let mut t = base.t;
+                t[place] = number;
+                compare(&mut random, Parameters { t, ..base });
+            }
+        }
+    }
+    // Every shape and every pair of strengths of q = 4, accepted or not.
+    for m in 0..=9 {
+        for t0 in 0..=9 {
+            for t1 in 0..=9 {
+                compare(&mut random, Parameters { q: 4, m, v: 1, t: [t0, t1, 0, 0] });
+            }
+        }
+    }
+    say(&format!("parameters: {calls} calls, seed {}", seed()));
+}
+
+#[test]
+fn every_length_near_the_exact_one() {
+    let mut random = Random::new(seed() + 2);
+    for q in [4, 8, 12] {
+        let p = random.parameters(q);
+        for name in NAMES {
+            let call = exact(&mut random, name, &p);
+            for read in (0..call.read.len() + 40).filter(|&length| q == 4 || length + 40 > call.read.len()) {
+                for lent in [0, call.lent.len().saturating_sub(1), call.lent.len(), call.lent.len() + 1] {
+                    let mut call = call.clone();
+                    call.read.resize(read, 0);
+                    call.lent.resize(if name == Name::Judge { 0 } else { lent }, 0xA5);
+                    if let Err(found) = call.compare(0) {
+                        panic!("seed {}: {found}", seed());
+                    }
+                }
+            }
+        }
+    }
+}

@@ -1,0 +1,29 @@
+#!/usr/bin/env bash
+# All that surrounds the archive, in one run: the header in C and C++, the C program, the reference, the comparison, and
+# any calls. The archive is that of GII_ARCHIVE (a path from rust/), or ../target/staticlib/libboard.a; FUZZ sets the
+# number of any calls.
+set -euo pipefail
+cd "$(dirname "$0")"
+archive=${GII_ARCHIVE:-../target/staticlib/libboard.a}
+mkdir -p target
+warnings=(-pedantic -Wall -Wextra -Werror)
+
+echo '#include "gii_bch.h"' > target/header.c
+gcc -std=c99 "${warnings[@]}" -fsyntax-only -I../include target/header.c
+g++ -std=c++11 "${warnings[@]}" -fsyntax-only -I../include -x c++ target/header.c
+gcc -std=c99 "${warnings[@]}" -O2 -I../include ../examples/c/demo.c "$archive" -o target/demo
+target/demo > target/demo.out || { cat target/demo.out; exit 1; }
+tail -n 1 target/demo.out
+if command -v valgrind > /dev/null; then
+    valgrind --quiet --error-exitcode=9 target/demo > target/demo.out
+fi
+
+# The stand-in is built with Rust's own library and exports more.
+if [ -z "${GII_ARCHIVE:-}" ]; then
+    exported=$(nm -g --defined-only "$archive" | awk 'NF == 3 { print $3 }' | sort | xargs)
+    [ "$exported" = "gii_judge gii_nested_syndromes gii_read_out gii_syndromes gii_write" ] || { echo "the archive exports $exported"; exit 1; }
+fi
+
+cargo test --offline --quiet --release
+cargo build --offline --quiet --release -p board
+target/release/fuzz "${FUZZ:-200000}"

@@ -1,0 +1,24 @@
+//! Another encoder for the pages of document 01, to compare the proved library with.
+//!
+//! It is written from the definitions and takes none of the library's ways:
+//!
+//! - a generator is the least common multiple of the minimal polynomials of α^1 to α^2t, a minimal polynomial the first
+//!   that vanishes when all are tried;
+//! - a page is found from values at the roots: for each root a small linear system over GF(2^q) gives the values of the
+//!   sub-words, and check bits are had back from values by an inverted matrix (`encode`); a second encoder solves all
+//!   linear conditions of the code at once, every check bit an unknown (`elimination`);
+//! - a word is judged by its values at the roots, a nested word is formed by turning, refusals are a list of conditions.
+//!
+//! `calls` has the five C calls by these means. `sample` draws inputs from a seed.
+
+pub mod calls;
+pub mod elimination;
+pub mod encode;
+pub mod field;
+pub mod generator;
+pub mod layout;
+pub mod linear;
+pub mod parameters;
+pub mod sample;
+
+pub use parameters::Parameters;

@@ -1,0 +1,110 @@
+//! Document 01's cases ('On the counter'), the starred ones and those that a C call or the reference can show.
+
+use reference::calls::{judge, nested_syndromes, read_out, syndromes, write};
+use reference::field::Field;
+use reference::generator::Level;
+use reference::parameters::Sheet;
+use reference::{Parameters, sample};
+
+const A: Parameters = Parameters { q: 4, m: 2, v: 1, t: [1, 2, 0, 0] };
+const B: Parameters = Parameters { q: 4, m: 3, v: 2, t: [1, 2, 3, 0] };
+const LARGE: Parameters = Parameters { q: 12, m: 8, v: 3, t: [28, 32, 39, 58] };
+
+fn number(generator: &[bool]) -> u64 {
+    generator.iter().rev().fold(0, |number, &bit| 2 * number + u64::from(bit))
+}
+
+#[test]
+fn generators() {
+    for (t, expected) in [(1, 0x13), (2, 0x1D1), (3, 0x537), (4, 0x7FFF), (7, 0x7FFF)] {
+        assert_eq!(number(&Level::of(Field::of(4), t).generator), expected, "t = {t}");
+    }
+}
+
+#[test]
+fn pages() {
+    for (p, blocks, expected) in [
+        (A, &[0x00, 0x01, 0x00][..], &[0x13, 0x00, 0x13, 0x00][..]),
+        (A, &[0x01, 0x01, 0x00], &[0xC2, 0x01, 0x13, 0x00]),
+        (B, &[0x00, 0x00, 0x01, 0x00], &[0x26, 0x00, 0x35, 0x00, 0x13, 0x00]),
+        // x^(li) is not reduced by the field polynomial.
+        (
+            Parameters { q: 4, m: 5, v: 2, t: [1, 2, 2, 0] },
+            &[0x00, 0x00, 0x00, 0x00, 0x00, 0x00, 0x01, 0x00],
+            &[0xF2, 0x00, 0xE1, 0x00, 0x00, 0x00, 0x00, 0x00, 0x13, 0x00],
+        ),
+    ] {
+        let mut page = vec![0xA5; expected.len()];
+        assert_eq!(write(&p, 8, blocks, &mut page), 0);
+        assert_eq!(page, expected);
+        let mut out = vec![0xA5; blocks.len()];
+        assert_eq!(read_out(&p, &page, &mut out), 0);
+        assert_eq!(out, blocks);
+    }
+}
+
+#[test]
+fn verdicts() {
+    assert_eq!(judge(&A, &[0xFF, 0x7F, 0xFF, 0x7F]), 0);
+    assert_eq!(judge(&A, &[0x01, 0x00, 0x00, 0x00]), 32);
+    assert_eq!(judge(&A, &[0x13, 0x00, 0x00, 0x00]), 64);
+    // By the definition nested word 1 fails, though nested word 0 does too and is named.
+    assert_eq!(judge(&B, &[0x13, 0x00, 0x00, 0x00, 0x00, 0x00]), 64);
+}
+
+#[test]
+fn syndromes_of_a_word() {
+    let p = Parameters { t: [2, 3, 0, 0], ..A };
+    let mut list = [0xA5; 8];
+    assert_eq!(syndromes(&p, &[0x02, 0x00, 0x00, 0x00], 0, &mut list), 0);
+    assert_eq!(list, [2, 0, 4, 0, 8, 0, 3, 0]);
+    let mut list = [0xA5; 8];
+    assert_eq!(nested_syndromes(&A, &[0x02, 0x00, 0x00, 0x00], 0, &mut list), 0);
+    assert_eq!(list, [2, 0, 4, 0, 8, 0, 3, 0]);
+}
+
+#[test]
+fn parameters() {
+    for (p, expected) in [
+        (Parameters { q: 4, m: 4, v: 2, t: [1, 2, 3, 0] }, 4),
+        (Parameters { q: 4, m: 4, v: 2, t: [1, 2, 2, 0] }, 0),
+        (Parameters { q: 8, m: 4, v: 1, t: [1, 42, 0, 0] }, 0),
+        (Parameters { q: 8, m: 4, v: 1, t: [1, 43, 0, 0] }, 4),
+        (LARGE, 0),
+    ] {
+        assert_eq!(p.refusal(), expected, "{p:?}");
+    }
+    assert_eq!(sample::all_parameters(4, 8).len(), 104);
+}
+
+#[test]
+fn large_sheet() {
+    let sheet = Sheet::of(&LARGE);
+    assert_eq!(sheet.levels.iter().map(|level| level.degree()).collect::<Vec<_>>(), [336, 384, 462, 690]);
+    assert_eq!(sheet.blocks_bytes(), 3695);
+    assert_eq!(sheet.page_bytes(), 4096);
+}
+
+#[test]
+fn widths_and_lengths() {
+    let blocks = [0x01, 0x01, 0x00];
+    for (width, expected) in [(0, 5), (1, 0), (64, 0), (65, 5)] {
+        assert_eq!(write(&A, width, &blocks, &mut [0; 4]), expected);
+    }
+    for length in [3, 5] {
+        assert_eq!(write(&A, 8, &blocks, &mut vec![0; length]), 7);
+        assert_eq!(judge(&A, &vec![0; length]), 7);
+    }
+}
+
+/// Input 04 02 01 08 01 02 01 01 00 of the writer program gives 00 C2 01 13 00; empty input, all numbers 0, gives 01.
+#[test]
+fn writer() {
+    let input = [0x04, 0x02, 0x01, 0x08, 0x01, 0x02, 0x01, 0x01, 0x00];
+    let numbers = input.map(u32::from);
+    let p = Parameters { q: numbers[0], m: numbers[1], v: numbers[2], t: [numbers[4], numbers[5], 0, 0] };
+    let mut page = [0; 4];
+    assert_eq!(write(&p, numbers[3], &input[6..], &mut page), 0);
+    assert_eq!(page, [0xC2, 0x01, 0x13, 0x00]);
+    assert_eq!(write(&Parameters { q: 0, m: 0, v: 0, t: [0; 4] }, 0, &[], &mut []), 1);
+}

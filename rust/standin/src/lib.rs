@@ -1,0 +1,300 @@
+//! The reference behind the C functions: something for the tests to be tried on that can be wrong in a known way.
+//!
+//! GII_FAULT names the fault; unset, there is none. `faults.sh` has the list and asks that the tests find each.
+
+use reference::layout::{bit, set};
+use reference::parameters::Sheet;
+use reference::{Parameters, calls, generator, linear};
+use std::slice::{from_raw_parts, from_raw_parts_mut};
+use std::sync::OnceLock;
+
+fn fault(name: &str) -> bool {
+    static FAULT: OnceLock<String> = OnceLock::new();
+    FAULT.get_or_init(|| std::env::var("GII_FAULT").unwrap_or_default()) == name
+}
+
+/// What every call does with its lent bytes when its number is a refusal.
+fn leave(number: u32, lent: &mut [u8]) -> u32 {
+    if fault("refusal-clears") && (1..=12).contains(&number) {
+        lent.fill(0);
+    }
+    number
+}
+
+/// A page with sub-word i turned up by `places(i)` more places, which turns a wrong power of x into the right one.
+fn turned(p: &Parameters, page: &[u8], places: impl Fn(usize) -> usize) -> Vec<u8> {
+    let n = Sheet::of(p).field.n;
+    let mut turned = vec![0; page.len()];
+    for i in 0..p.m as usize {
+        for k in (0..n).filter(|k| bit(page, i * (n + 1) + k)) {
+            set(&mut turned, i * (n + 1) + (k + places(i)) % n);
+        }
+    }
+    turned
+}
+
+/// What nested word l is taken from: the page, altered where the nested word is wrong.
+fn page_for_nested(p: &Parameters, page: &[u8], l: usize) -> Vec<u8> {
+    let sheet = Sheet::of(p);
+    let n = sheet.field.n;
+    if fault("nested-power") {
+        // x^(l(i + 1)) in place of x^(li).
+        return turned(p, page, |_| l);
+    }
+    if fault("nested-sum-of-powers") && l > 0 {
+        // x^(l + i).
+        return turned(p, page, |i| n + l + i - l * i);
+    }
+    if fault("nested-not-turned") {
+        // The top l × i coefficients are dropped.
+        let mut words = sheet.words_of(page);
+        for (i, word) in words.iter_mut().enumerate() {
+            (n - l * i..n).for_each(|k| linear::put(word, k, false));
+        }
+        let mut kept = vec![0; page.len()];
+        sheet.put_page(&words, &mut kept);
+        return kept;
+    }
+    page.to_vec()
+}
+
+fn nested(p: &Parameters, page: &[u8], index: u32, list: &mut [u8]) -> u32 {
+    match calls::nested_syndromes(p, page, index, list) {
+        0 => calls::nested_syndromes(p, &page_for_nested(p, page, index as usize), index, list),
+        number => number,
+    }
+}
+
+fn judge(p: &Parameters, page: &[u8]) -> u32 {
+    let number = calls::judge(p, page);
+    if number != 0 && number < 64 {
+        return number;
+    }
+    if fault("judge-names-nested-0") && number != 0 {
+        return 64;
+    }
+    if fault("judge-names-last-nested") && number != 0 {
+        return 63 + p.v;
+    }
+    let fails = |l: &u32| {
+        let mut list = vec![0; 4 * p.t[(p.v - l) as usize] as usize];
+        nested(p, page, *l, &mut list);
+        list.iter().any(|&byte| byte != 0)
+    };
+    (0..p.v).find(fails).map_or(0, |l| 64 + l)
+}
+
+/// The blocks, each bit one place higher, the highest dropped.
+fn higher(p: &Parameters, blocks: &[u8]) -> Vec<u8> {
+    let sheet = Sheet::of(p);
+    let mut moved = vec![0; blocks.len()];
+    for i in 0..sheet.m {
+        let start = sheet.block_start(i);
+        (1..sheet.block_bits(i)).filter(|r| bit(blocks, start + r - 1)).for_each(|r| set(&mut moved, start + r));
+    }
+    moved
+}
+
+/// Every sub-word a multiple of g_0 and the last as it should be; no nested word is.
+fn level_0_only(p: &Parameters, blocks: &[u8], page: &mut [u8]) {
+    let sheet = Sheet::of(p);
+    let mut words = sheet.words_of_blocks(blocks);
+    for word in &mut words {
+        let coefficients: Vec<bool> = (0..sheet.field.n).map(|k| linear::get(word, k)).collect();
+        let rest = generator::divide(&coefficients, &sheet.levels[0].generator).1;
+        rest.iter().enumerate().for_each(|(k, &bit)| linear::put(word, k, bit));
+    }
+    sheet.put_page(&words, page);
+}
+
+/// # Safety
+/// As the header says.
+#[unsafe(no_mangle)]
+#[allow(clippy::too_many_arguments)]
+pub unsafe extern "C" fn gii_write(
+    q: u32,
+    m: u32,
+    v: u32,
+    t0: u32,
+    t1: u32,
+    t2: u32,
+    t3: u32,
+    width: u32,
+    blocks: *const u8,
+    blocks_len: usize,
+    page: *mut u8,
+    page_len: usize,
+) -> u32 {
+    let p = &Parameters { q, m, v, t: [t0, t1, t2, t3] };
+    let given = unsafe { from_raw_parts(blocks, blocks_len) };
+    let lent = unsafe { from_raw_parts_mut(page, page_len) };
+    if fault("refuse-all") {
+        return 4;
+    }
+    if fault("page-before-blocks") && p.accepted() && page_len != Sheet::of(p).page_bytes() {
+        return 7;
+    }
+    let old = lent.to_vec();
+    let number = calls::write(p, width, given, lent);
+    if number != 0 {
+        if fault("half-written-refusal") && number == 8 {
+            lent[0] = 0;
+        }
+        return leave(number, lent);
+    }
+    if fault("write-touches-nothing") {
+        lent.copy_from_slice(&old);
+    }
+    if fault("zero-page") {
+        lent.fill(0);
+    }
+    if fault("level-0-only") {
+        level_0_only(p, given, lent);
+    }
+    if fault("data-high") {
+        calls::write(p, width, &higher(p, given), lent);
+    }
+    if fault("width-37") && width == 37 {
+        lent[0] ^= 1;
+    }
+    if fault("one-strength") && p.t[p.v as usize] == 64 {
+        lent[page_len - 2] ^= 0x40;
+    }
+    if fault("last-byte-left") {
+        lent[page_len - 1] = old[page_len - 1];
+    }
+    if fault("overrun") {
+        unsafe { *page.add(page_len) = 0 };
+    }
+    if fault("alters-blocks") {
+        unsafe { *blocks.cast_mut() = 0 };
+    }
+    number
+}
+
+/// # Safety
+/// As the header says.
+#[unsafe(no_mangle)]
+#[allow(clippy::too_many_arguments)]
+pub unsafe extern "C" fn gii_read_out(
+    q: u32,
+    m: u32,
+    v: u32,
+    t0: u32,
+    t1: u32,
+    t2: u32,
+    t3: u32,
+    page: *const u8,
+    page_len: usize,
+    blocks: *mut u8,
+    blocks_len: usize,
+) -> u32 {
+    let p = &Parameters { q, m, v, t: [t0, t1, t2, t3] };
+    let given = unsafe { from_raw_parts(page, page_len) };
+    let lent = unsafe { from_raw_parts_mut(blocks, blocks_len) };
+    let old = lent.to_vec();
+    let number = match calls::read_out(p, given, lent) {
+        refused @ 1..=12 => return leave(refused, lent),
+        _ => judge(p, given),
+    };
+    if fault("read-out-of-members-only") && number != 0 {
+        lent.copy_from_slice(&old);
+    }
+    if fault("unused-bits-left") {
+        let last = blocks_len - 1;
+        let sheet = Sheet::of(p);
+        let used = (1u32 << ((sheet.block_bits(sheet.m - 1) - 1) % 8 + 1)) - 1;
+        lent[last] |= old[last] & !(used as u8);
+    }
+    if fault("read-out-answers-done") {
+        return 0;
+    }
+    number
+}
+
+/// # Safety
+/// As the header says.
+#[unsafe(no_mangle)]
+#[allow(clippy::too_many_arguments)]
+pub unsafe extern "C" fn gii_judge(
+    q: u32,
+    m: u32,
+    v: u32,
+    t0: u32,
+    t1: u32,
+    t2: u32,
+    t3: u32,
+    page: *const u8,
+    page_len: usize,
+) -> u32 {
+    let p = &Parameters { q, m, v, t: [t0, t1, t2, t3] };
+    let given = unsafe { from_raw_parts(page, page_len) };
+    if fault("stray-missed") && p.accepted() && page_len == Sheet::of(p).page_bytes() {
+        let mut cleared = given.to_vec();
+        cleared.chunks_mut(Sheet::of(p).sub_word_bytes()).for_each(|bytes| *bytes.last_mut().unwrap() &= 0x7F);
+        return judge(p, &cleared);
+    }
+    if fault("clash-missed") && p.refusal() == 4 {
+        return 7;
+    }
+    judge(p, given)
+}
+
+/// # Safety
+/// As the header says.
+#[unsafe(no_mangle)]
+#[allow(clippy::too_many_arguments)]
+pub unsafe extern "C" fn gii_syndromes(
+    q: u32,
+    m: u32,
+    v: u32,
+    t0: u32,
+    t1: u32,
+    t2: u32,
+    t3: u32,
+    page: *const u8,
+    page_len: usize,
+    index: u32,
+    list: *mut u8,
+    list_len: usize,
+) -> u32 {
+    let p = &Parameters { q, m, v, t: [t0, t1, t2, t3] };
+    let given = unsafe { from_raw_parts(page, page_len) };
+    let lent = unsafe { from_raw_parts_mut(list, list_len) };
+    if fault("index-before-stray") && p.accepted() && page_len == Sheet::of(p).page_bytes() && index >= m {
+        return 9;
+    }
+    let old = lent.to_vec();
+    let number = calls::syndromes(p, given, index, lent);
+    if number == 0 && fault("high-byte-first") {
+        lent.chunks_mut(2).for_each(|pair| pair.swap(0, 1));
+    }
+    if number == 0 && fault("last-syndrome-left") {
+        lent[list_len - 2..].copy_from_slice(&old[list_len - 2..]);
+    }
+    leave(number, lent)
+}
+
+/// # Safety
+/// As the header says.
+#[unsafe(no_mangle)]
+#[allow(clippy::too_many_arguments)]
+pub unsafe extern "C" fn gii_nested_syndromes(
+    q: u32,
+    m: u32,
+    v: u32,
+    t0: u32,
+    t1: u32,
+    t2: u32,
+    t3: u32,
+    page: *const u8,
+    page_len: usize,
+    index: u32,
+    list: *mut u8,
+    list_len: usize,
+) -> u32 {
+    let p = &Parameters { q, m, v, t: [t0, t1, t2, t3] };
+    let given = unsafe { from_raw_parts(page, page_len) };
+    let lent = unsafe { from_raw_parts_mut(list, list_len) };
+    leave(nested(p, given, index, lent), lent)
+}
