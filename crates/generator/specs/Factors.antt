@@ -1,5 +1,6 @@
 -- The generators' factors: generator t + 1 is generator t times factor t.
---   factor B t    the minimal polynomial of α^(2t + 1) where 2t + 1 leads its coset, else 1
+--   factor B t          the minimal polynomial of α^(2t + 1) where 2t + 1 leads its coset, else 1
+--   IsFactor b q j m    m is known as the factor of j = 2t + 1 by numbers: b says that j leads its coset, and then m has its degree and its root
 use mathlib.Core.Path.{_≡_, refl, sym, ap, ap₂, _∙_}
 use mathlib.Core.Bool.{Bool, true, false}
 use Prim.Native.Nat.{ℕ, suc, _-_, _*_, _^_, _<_}
@@ -33,7 +34,7 @@ generator-factor B t h = generator-next B t h ∙ by (leader (B .n) (B .q) (suc 
     by true = refl
     by false = sym (clmul-one-r (generator B t))
 
--- ---- a factor known by numbers: by its degree and by its root, n = 2^q - 1
+-- ---- a factor known by numbers, n = 2^q - 1
 abbrev pub IsFactor : Bool → ℕ → ℕ → ℕ → Type 0
 IsFactor true q j m = Deg m (length (coset (2 ^ q - 1) q j)) × (syndrome q m j ≡ 0)
 IsFactor false q j m = m ≡ 1

@@ -1,15 +1,14 @@
 -- The rows of a sheet's generators, level by level.
-use mathlib.Core.Path.{_≡_, refl, sym, ap, ap₂, _∙_}
+use mathlib.Core.Path.{_≡_, refl, sym, ap, _∙_}
 use mathlib.Core.Logic.{_≢_, inl, inr}
 use mathlib.Core.List.{List, [], _∷_, map}
 use Prim.Native.Nat.{ℕ, zero, suc, _≤_, _<_}
 use native.Mathlib.Nat as Nat
 use native.Mathlib.Omega.{arith}
-use lib.ListN.{length, replicate}
+use lib.ListN.{length, getD, replicate, getD-replicate}
 use borrow.Author.Tests.{le-leb, lt-leb}
-use Rattle.polynomial.specs.Digits.{digits}
+use Rattle.polynomial.specs.Digits.{digits, length-digits}
 use Rattle.field.specs.Fields.{Known, fieldOf}
-use Rattle.generator.specs.Generator.{generator}
 use Rattle.generator.specs.Next.{generator-zero}
 use Rattle.code.specs.declared.Parameters.{Parameters}
 use Rattle.code.specs.declared.Tested.{Tested}
@@ -21,6 +20,19 @@ use Rattle.code.specs.Parameters.{Accepted, strength, sheetRefusal, tested, tes
 use Rattle.code.specs.Steps.{gen-eq}
 use Rattle.tables.specs.Factors.{Factors}
 use Rattle.generators.specs.Rows.{row, row-zero, Raised}
+
+-- ---- the defining equations
+range-four : range 0 4 ≡ 0 ∷ 1 ∷ 2 ∷ 3 ∷ []
+unfolding range
+range-four = refl
+
+generators-eq : (p : Parameters) → generators p ≡ rowsBy (sheetRefusal p) (map (generatorRow p) (range 0 4))
+unfolding generators
+generators-eq p = refl
+
+tested-eq : (p : Parameters) → tested p ≡ testedOf p (sheetRefusal p)
+unfolding tested
+tested-eq p = refl
 
 -- the row of 1, as it is made
 row-one : 1 ∷ replicate 12 0 ≡ row 1
@@ -37,6 +49,9 @@ module _ (p : Parameters) (A : Accepted p) where
   -- ---- the strengths are within the table
   pub strength-rises : (a : ℕ) → a < p .v → strength p a ≤ strength p (suc a)
   strength-rises a h = rules .rises a h
+
+  pub strength-high : (a : ℕ) → a ≤ p .v → strength p a ≤ 64
+  strength-high a h = omega (arith, rules .high, rising p rules a (p .v) h (Nat.le-refl (p .v)))
 
   pub strength-within : (f : List ℕ) → Factors (p .q) f → (a : ℕ) → a ≤ p .v → strength p a ≤ length f
   strength-within f F a h = omega (arith, F .count, rules .high, rules .short, rising p rules a (p .v) h (Nat.le-refl (p .v)))
@@ -56,8 +71,7 @@ module _ (p : Parameters) (A : Accepted p) where
   row-past a h = sym row-zero ∙ simp (lt-leb a (p .v) h)
 
   pub rows-are : (r0 r1 r2 r3 : List ℕ) → r0 ≡ generatorRow p 0 → r1 ≡ generatorRow p 1 → r2 ≡ generatorRow p 2 → r3 ≡ generatorRow p 3 → r0 ∷ r1 ∷ r2 ∷ r3 ∷ [] ≡ generators p
-  unfolding generators range
-  rows-are r0 r1 r2 r3 e0 e1 e2 e3 = rw (e0, e1, e2, e3) (sym (ap (λ (k : ℕ). rowsBy k (map (generatorRow p) (range 0 4))) A))
+  rows-are r0 r1 r2 r3 e0 e1 e2 e3 = rw (e0, e1, e2, e3) (sym (generators-eq p ∙ rw (A, range-four) refl))
 
 -- ---- the table of p's field
 pub factors-of : (f : List ℕ) (q k : ℕ) → q ≡ k → Factors k f → Factors q f
@@ -72,17 +86,21 @@ q-last p A a b = go (accepted p A .known)
     go (inr (inr e)) = e
 
 -- ---- any parameters, by what their test answers
-tested-eq : (p : Parameters) → tested p ≡ testedOf p (sheetRefusal p)
-unfolding tested
-tested-eq p = refl
-
-generators-eq : (p : Parameters) → generators p ≡ rowsBy (sheetRefusal p) (map (generatorRow p) (range 0 4))
-unfolding generators
-generators-eq p = refl
-
 pub rows-refused : (p : Parameters) (k : ℕ) → Tests p (Tested.Refused k) → replicate 4 (replicate 13 0) ≡ generators p
 rows-refused p k t = sym (generators-eq p ∙ go (sheetRefusal p) (t .answers ∙ tested-eq p))
   where
     go : (r : ℕ) → Tested.Refused k ≡ testedOf p r → rowsBy r (map (generatorRow p) (range 0 4)) ≡ replicate 4 (replicate 13 0)
     go zero e = let z : _≡_ {A = ℕ} 0 1 = cc in absurd (omega arith)
     go (suc r) e = refl
+
+-- ---- each row has 13 words
+pub row-length : (p : Parameters) (a : ℕ) → a < 4 → length (getD (generators p) a []) ≡ 13
+row-length p a h = ap (λ (l : List (List ℕ)). length (getD l a [])) (generators-eq p) ∙ go (sheetRefusal p) a h
+  where
+    go : (r a : ℕ) → a < 4 → length (getD (rowsBy r (map (generatorRow p) (range 0 4))) a []) ≡ 13
+    go zero zero h = rw range-four (length-digits 64 13 _)
+    go zero (suc zero) h = rw range-four (length-digits 64 13 _)
+    go zero (suc (suc zero)) h = rw range-four (length-digits 64 13 _)
+    go zero (suc (suc (suc zero))) h = rw range-four (length-digits 64 13 _)
+    go zero (suc (suc (suc (suc a)))) h = absurd (Nat.not-suc-le-zero {n = 0} (omega arith))
+    go (suc r) a h = ap length (getD-replicate 4 a (replicate 13 0) [] h)

@@ -1,5 +1,5 @@
 -- A word of a + g x^k, of the words of a and g: g's word moved up by k, and what passes into it from the word below.
-use mathlib.Core.Path.{_≡_, refl, sym, ap, ap₂, _∙_}
+use mathlib.Core.Path.{_≡_, sym, ap, ap₂, _∙_}
 use Prim.Native.Nat.{ℕ, suc, _+_, _-_, _*_, _/_, _%_, _^_, _<_}
 use native.Mathlib.Nat as Nat
 use native.Mathlib.Omega.{arith}
@@ -38,8 +38,8 @@ xor-mod : (a b w : ℕ) → xor a b % 2 ^ w ≡ bitXor (a % 2 ^ w) (b % 2 ^ w)
 xor-mod a b w = ap (λ (z : ℕ). z % 2 ^ w) (sym (xor-is a b)) ∙ Bits.xor-mod a b w
 
 -- ---- the lowest word, and the one above word i
-pub low-word : (a g k : ℕ) → xor a (g * 2 ^ k) % 2 ^ 64 ≡ bitXor (a % 2 ^ 64) (g % 2 ^ 64 * 2 ^ k % 2 ^ 64)
-low-word a g k = xor-mod a (g * 2 ^ k) 64 ∙ ap (bitXor (a % 2 ^ 64)) (sym (mod-mul-l g (2 ^ k) (2 ^ 64)))
+pub first-word : (a g k : ℕ) → xor a (g * 2 ^ k) % 2 ^ 64 ≡ bitXor (a % 2 ^ 64) (g % 2 ^ 64 * 2 ^ k % 2 ^ 64)
+first-word a g k = xor-mod a (g * 2 ^ k) 64 ∙ ap (bitXor (a % 2 ^ 64)) (sym (mod-mul-l g (2 ^ k) (2 ^ 64)))
 
 pub next-word : (a g k i : ℕ) → k < 64
     → xor a (g * 2 ^ k) / 2 ^ (64 * suc i) % 2 ^ 64

@@ -1,6 +1,6 @@
 // A sheet's generators, level 0 to level v, worked out together from the constant tables of their factors.
 ghost use mathlib.Core.Path.{_≡_};
-ghost use Prim.Native.Nat.{ℕ, _<_, _≤_};
+ghost use Prim.Native.Nat.{_<_, _≤_};
 ghost use lib.ListN.{length};
 ghost use Rattle.code.specs.Calls.{generators};
 ghost use Rattle.code.specs.Parameters.{Accepted, sheetRefusal};
@@ -9,38 +9,38 @@ ghost use Rattle.generators.specs.Rows.{Added, Multiplied, Raised};
 use code::Parameters;
 use code::Tested;
 
-// g times x^k is added into a.
-fn add_shifted(a: &mut [u64], g: &[u64], k: u32)
-    requires { ⌜ (length (now a) ≡ 13) × (length (now g) ≡ 13) × (k < 64) ⌝ }
-    ensures { λ r. ⌜ Added (now (a .entry)) (now (g .entry)) k (now (a .exit)) ⌝ }
+// g times x^k is added into the n lowest words of a. The move down goes in two steps, since k may be 0.
+fn add_shifted(a: &mut [u64], g: &[u64], n: usize, k: u32)
+    requires { ⌜ (length (now a) ≡ 13) × (length (now g) ≡ 13) × (1 ≤ n) × (n ≤ 13) × (k < 64) ⌝ }
+    ensures { λ r. ⌜ Added (now (a .entry)) (now (g .entry)) n k (now (a .exit)) ⌝ }
 {
     a[0] = a[0] ^ (g[0] << k);
     let mut i: usize = 1;
-    while i < 13 {
+    while i < n {
         a[i] = a[i] ^ (g[i] << k) ^ ((g[i - 1] >> 1) >> (63 - k));
         i += 1;
     }
 }
 
-// The product of a row and a factor.
-fn product(g: [u64; 13], m: u16) -> [u64; 13]
-    requires { ⌜ length g ≡ 13 ⌝ }
-    ensures { λ r. ⌜ (length r ≡ 13) × Multiplied g m r ⌝ }
+// The product of a row and a factor, its n lowest words.
+fn product(g: [u64; 13], m: u16, n: usize) -> [u64; 13]
+    requires { ⌜ (length g ≡ 13) × (1 ≤ n) × (n ≤ 13) ⌝ }
+    ensures { λ r. ⌜ (length r ≡ 13) × Multiplied g m n r ⌝ }
 {
     let mut a = [0u64; 13];
     let mut k: u32 = 0;
     while k < 16 {
         if (m >> k) % 2 == 1 {
-            add_shifted(&mut a, &g, k);
+            add_shifted(&mut a, &g, n, k);
         }
         k += 1;
     }
     a
 }
 
-// The generator of strength t from that of strength s; a factor 1 is passed over.
+// The generator of strength t from that of strength s; a factor 1 is passed over. Generator k + 1 has at most 12 (k + 1) + 1 bits.
 fn raised(g: [u64; 13], factors: &[u16], s: usize, t: usize) -> [u64; 13]
-    requires { ⌜ (length g ≡ 13) × (s ≤ t) × (t ≤ length (now factors)) ⌝ }
+    requires { ⌜ (length g ≡ 13) × (s ≤ t) × (t ≤ 64) × (t ≤ length (now factors)) ⌝ }
     ensures { λ r. ⌜ (length r ≡ 13) × Raised (now (factors .entry)) s t g r ⌝ }
 {
     let mut a = g;
@@ -48,7 +48,8 @@ fn raised(g: [u64; 13], factors: &[u16], s: usize, t: usize) -> [u64; 13]
     while k < t {
         let m = factors[k];
         if m != 1 {
-            let b = product(a, m);
+            let n = 12 * (k + 1) / 64 + 1;
+            let b = product(a, m, n);
             a = b;
         }
         k += 1;
@@ -65,9 +66,9 @@ fn rows_by(p: Parameters, factors: &[u16]) -> [[u64; 13]; 4]
     let mut one = [0u64; 13];
     one[0] = 1;
     let t0 = p.t0 as usize;
+    let t1 = p.t1 as usize;
     let a = raised(one, factors, 0, t0);
     out[0] = a;
-    let t1 = p.t1 as usize;
     let b = raised(a, factors, t0, t1);
     out[1] = b;
     if p.v < 2 {

@@ -1,7 +1,8 @@
 -- What antt computes over a whole table of factors, and what that gives: one law over q.
 --   entryPasses b q j x m    the test of an entry m: b says that j leads its coset, and x is α^j
+--   walk q k x t             the entries of t, which are those from k on, pass; x is α^(2k + 1)
 --   factored q t             the test of the table: as many entries as strengths, and each of them passes
-use mathlib.Core.Path.{_≡_, refl, sym, ap, _∙_}
+use mathlib.Core.Path.{_≡_, sym, ap, _∙_}
 use mathlib.Core.Bool.{Bool, true, false, _&&_}
 use mathlib.Core.List.{List, [], _∷_}
 use Prim.Native.Nat.{ℕ, zero, suc, _+_, _-_, _*_, _/_, _^_, _<_}
@@ -23,7 +24,6 @@ abbrev entryPasses : Bool → ℕ → ℕ → ℕ → ℕ → Bool
 entryPasses true q j x m = eqb (m / 2 ^ length (coset (2 ^ q - 1) q j)) 1 && eqb (evaluate q m x) 0
 entryPasses false q j x m = eqb m 1
 
--- the entries from k on; x is α^(2k + 1)
 unfoldable pub walk : ℕ → ℕ → ℕ → List ℕ → Bool
 unfolding leader coset evaluate double
 walk q k x [] = true

@@ -1,7 +1,7 @@
 use mathlib.Core.Path.{_≡_}
 use mathlib.Core.List.{List}
 use Prim.Native.Nat.{ℕ, _≤_, _-_}
-use lib.ListN.{length, length-set}
+use lib.ListN.{length}
 use native.Mathlib.Omega.{arith}
 use borrow.Author.Needs.{needs}
 use Rattle.generators.specs.Rows.{Adding, adding-start, adding-turn, adding-done}
@@ -9,10 +9,10 @@ use Rattle.generators.proofs.add_shifted.Statement.{statement}
 use Rattle.generators.proofs.add_shifted.Tie as tie
 
 abbrev Inv-loop : tie.InvT-loop
-Inv-loop a₀ g k i₀ a i = (1 ≤ i) × (i ≤ 13) × (length a ≡ 13) × ((b : List ℕ) → Adding b g k a₀ 1 → Adding b g k a i)
+Inv-loop a₀ g n k i₀ a i = (1 ≤ i) × (i ≤ n) × (length a ≡ 13) × ((b : List ℕ) → Adding b g n k a₀ 1 → Adding b g n k a i)
 
 abbrev μ-loop : tie.MeasureT-loop
-μ-loop a₀ g k i₀ a i = 13 - i
+μ-loop a₀ g n k i₀ a i = n - i
 
 slice-read-a : tie.Need-slice-read-a Inv-loop μ-loop
 slice-read-a c = search needs
@@ -78,7 +78,7 @@ loop-again : tie.Need-loop-again Inv-loop μ-loop
 loop-again c =
     let l = c .before .before .before .before .loop in
     let s = c .before .before .before .before .before .before .before in
-    (omega arith, omega arith, search needs, λ b t. adding-turn b _ (s .args .k) (l .a) (l .i) (s .pre .2) (l .inv .0) (c .before .before .before .loop-test .taken) (l .inv .3 b t))
+    (omega arith, omega arith, search needs, λ b t. adding-turn b _ _ (s .args .k) (s .pre .3) (l .a) (l .i) (s .pre .4) (l .inv .0) (c .before .before .before .loop-test .taken) (l .inv .3 b t))
 
 same-length : tie.Need-same-length Inv-loop μ-loop
 same-length c = search needs
@@ -87,7 +87,7 @@ returns : tie.Need-returns Inv-loop μ-loop
 returns c =
     let l = c .before .loop in
     let s = c .before .before .before .before in
-    adding-done _ _ _ (l .a) (l .i) (omega arith) (l .inv .3 _ (adding-start _ _ _ (s .pre .0)))
+    adding-done _ _ _ _ (s .pre .3) (l .a) (l .i) (omega arith) (l .inv .3 _ (adding-start _ _ _ _ (s .pre .3) (s .pre .0) (s .pre .2)))
 
 pub add-shifted-spec : {M : Type 1} → statement M
 add-shifted-spec =

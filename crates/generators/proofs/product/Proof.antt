@@ -9,13 +9,13 @@ use Rattle.generators.proofs.product.Statement.{statement}
 use Rattle.generators.proofs.product.Tie as tie
 
 abbrev Inv-loop : tie.InvT-loop
-Inv-loop m g a₀ k₀ a k = (k ≤ 16) × (length g ≡ 13) × (length a ≡ 13) × Multiplying g m a k
+Inv-loop m n g a₀ k₀ a k = (k ≤ 16) × (length g ≡ 13) × (length a ≡ 13) × Multiplying g m n a k
 
 abbrev μ-loop : tie.MeasureT-loop
-μ-loop m g a₀ k₀ a k = 16 - k
+μ-loop m n g a₀ k₀ a k = 16 - k
 
 loop-holds : tie.Need-loop-holds Inv-loop μ-loop
-loop-holds c = (omega arith, c .pre, search needs, multiplying-start _ _)
+loop-holds c = (omega arith, c .pre .0, search needs, multiplying-start _ _ _ (c .pre .2))
 
 cast-if1 : tie.Need-cast-if1 Inv-loop μ-loop
 cast-if1 c = search needs
@@ -44,14 +44,14 @@ loop-again c =
       omega arith,
       l .inv .1,
       ⊎-elim (λ w. ap length (w .5) ∙ w .3 .kept .0 ∙ l .inv .2) (λ w. ap length (w .1) ∙ l .inv .2) (c .if1 .came),
-      ⊎-elim (λ w. rw (w .5) (multiplying-one _ _ (l .a) _ (l .k) (w .0 .taken) (l .inv .3) (w .3 .ensures))) (λ w. rw (w .1) (multiplying-none _ _ (l .a) (l .k) (w .0 .left) (l .inv .3))) (c .if1 .came),
+      ⊎-elim (λ w. rw (w .5) (multiplying-one _ _ _ (l .a) _ (l .k) (w .0 .taken) (l .inv .3) (w .3 .ensures))) (λ w. rw (w .1) (multiplying-none _ _ _ (l .a) (l .k) (w .0 .left) (l .inv .3))) (c .if1 .came),
     )
 
 returns : tie.Need-returns Inv-loop μ-loop
 returns c =
     let l = c .before .loop in
     let e : l .k ≡ 16 = omega arith in
-    (l .inv .2, multiplying-done _ _ (l .a) 16 (c .before .before .fits .m .fits) (rw e at (l .inv .3)))
+    (l .inv .2, multiplying-done _ _ _ (l .a) 16 (c .before .before .fits .m .fits) (rw e at (l .inv .3)))
 
 pub product-spec : {M : Type 1} → statement M
 product-spec =

@@ -24,6 +24,15 @@ mul-m c = search needs
 shared-slice-read-m : tie.Need-shared-slice-read-m Inv-loop μ-loop
 shared-slice-read-m c = search needs
 
+add-n : tie.Need-add-n Inv-loop μ-loop
+add-n c = search needs
+
+mul-n : tie.Need-mul-n Inv-loop μ-loop
+mul-n c = search needs
+
+add-n-2 : tie.Need-add-n-2 Inv-loop μ-loop
+add-n-2 c = search needs
+
 product-requires : tie.Need-product-requires Inv-loop μ-loop
 product-requires c κs = search needs
 
@@ -38,7 +47,7 @@ loop-again c =
     let l = c .before .before .before .loop in (
       omega arith,
       ⊎-elim (λ w. ap length (w .2) ∙ w .1 .ensures .0) (λ w. ap length (w .1) ∙ l .inv .1) (c .if1 .came),
-      ⊎-elim (λ w. rw (w .2) (raised-times _ _ _ (l .a) _ (l .k) (omega arith) (l .inv .2) (w .1 .ensures .1))) (λ w. rw (w .1) (raised-same _ _ _ (l .a) (l .k) (omega arith) (w .0 .left) (l .inv .2))) (c .if1 .came),
+      ⊎-elim (λ w. rw (w .2) (raised-times _ _ _ (l .a) _ (l .k) (omega arith) (omega arith) (l .inv .2) (w .1 .ensures .1))) (λ w. rw (w .1) (raised-same _ _ _ (l .a) (l .k) (omega arith) (w .0 .left) (l .inv .2))) (c .if1 .came),
     )
 
 returns : tie.Need-returns Inv-loop μ-loop
@@ -56,6 +65,9 @@ raised-spec =
     loop-holds
     mul-m
     shared-slice-read-m
+    add-n
+    mul-n
+    add-n-2
     product-requires
     add-k
     loop-less

@@ -1,7 +1,7 @@
 use mathlib.Core.Path.{refl}
 use native.Mathlib.Omega.{arith}
 use borrow.Author.Needs.{needs}
-use Rattle.generators.specs.Levels.{v-pos, strength-rises, strength-within, level-first, level-next, row-level, row-past, rows-are}
+use Rattle.generators.specs.Levels.{v-pos, strength-rises, strength-high, strength-within, level-first, level-next, row-level, row-past, rows-are}
 use Rattle.generators.proofs.rows_by.Statement.{statement}
 use Rattle.generators.proofs.rows_by.Tie as tie
 
@@ -11,22 +11,26 @@ array-write-one c = search needs
 cast-t0 : tie.Need-cast-t0
 cast-t0 c = search needs
 
+cast-t1 : tie.Need-cast-t1
+cast-t1 c = search needs
+
 raised-requires : tie.Need-raised-requires
 raised-requires c κs =
-    let s = c .before .before in
-    (refl, omega arith, strength-within _ (s .pre .0) _ (s .pre .1) 0 (omega arith))
+    let s = c .before .before .before in
+    let A = s .pre .0 in
+    let v = v-pos _ A in
+    let u = strength-rises _ A 0 v in
+    (refl, omega arith, omega (arith, strength-high _ A 1 v), omega (arith, strength-within _ A _ (s .pre .1) 1 v))
 
 array-set-from-out : tie.Need-array-set-from-out
 array-set-from-out c = search needs
 
-cast-t1 : tie.Need-cast-t1
-cast-t1 c = search needs
-
 raised-requires-2 : tie.Need-raised-requires-2
 raised-requires-2 c κs =
     let s = c .before .before .before .before in
-    let v = v-pos _ (s .pre .0) in
-    (c .before .raised .ensures .0, strength-rises _ (s .pre .0) 0 v, strength-within _ (s .pre .0) _ (s .pre .1) 1 v)
+    let A = s .pre .0 in
+    let v = v-pos _ A in
+    (c .raised .ensures .0, strength-rises _ A 0 v, strength-high _ A 1 v, strength-within _ A _ (s .pre .1) 1 v)
 
 array-set-from-out-2 : tie.Need-array-set-from-out-2
 array-set-from-out-2 c = search needs
@@ -36,7 +40,7 @@ returns c =
     let r = c .before .before in
     let s = r .before .before .before .before .before in
     let A = s .pre .0 in
-    let a = level-first _ A _ _ (s .pre .1) (r .before .before .raised .ensures .1) in
+    let a = level-first _ A _ _ (s .pre .1) (r .before .raised .ensures .1) in
     let b = level-next _ A _ _ _ (s .pre .1) 0 a (r .raised2 .ensures .1) in
     rows-are _ A _ _ _ _ (row-level _ A 0 _ (omega arith) a) (row-level _ A 1 _ (v-pos _ A) b) (row-past _ A 2 (c .if1 .taken)) (row-past _ A 3 (omega arith))
 
@@ -48,7 +52,7 @@ raised-requires-3 c κs =
     let r = c .before .before .before in
     let s = r .before .before .before .before .before in
     let v = c .before .if1 .left in
-    (r .raised2 .ensures .0, strength-rises _ (s .pre .0) 1 v, strength-within _ (s .pre .0) _ (s .pre .1) 2 v)
+    (r .raised2 .ensures .0, strength-rises _ (s .pre .0) 1 v, strength-high _ (s .pre .0) 2 v, strength-within _ (s .pre .0) _ (s .pre .1) 2 v)
 
 array-set-from-out-3 : tie.Need-array-set-from-out-3
 array-set-from-out-3 c = search needs
@@ -59,7 +63,7 @@ returns-2 c =
     let r = z .before .before .before .before in
     let s = r .before .before .before .before .before in
     let A = s .pre .0 in
-    let a = level-first _ A _ _ (s .pre .1) (r .before .before .raised .ensures .1) in
+    let a = level-first _ A _ _ (s .pre .1) (r .before .raised .ensures .1) in
     let b = level-next _ A _ _ _ (s .pre .1) 0 a (r .raised2 .ensures .1) in
     let d = level-next _ A _ _ _ (s .pre .1) 1 b (z .raised3 .ensures .1) in
     rows-are _ A _ _ _ _ (row-level _ A 0 _ (omega arith) a) (row-level _ A 1 _ (v-pos _ A) b) (row-level _ A 2 _ (z .before .before .if1 .left) d) (row-past _ A 3 (c .if2 .taken))
@@ -72,7 +76,7 @@ raised-requires-4 c κs =
     let z = c .before .before .before in
     let s = z .before .before .before .before .before .before .before .before .before in
     let v = c .before .if2 .left in
-    (z .raised3 .ensures .0, strength-rises _ (s .pre .0) 2 v, strength-within _ (s .pre .0) _ (s .pre .1) 3 v)
+    (z .raised3 .ensures .0, strength-rises _ (s .pre .0) 2 v, strength-high _ (s .pre .0) 3 v, strength-within _ (s .pre .0) _ (s .pre .1) 3 v)
 
 array-set-from-out-4 : tie.Need-array-set-from-out-4
 array-set-from-out-4 c = search needs
@@ -83,7 +87,7 @@ returns-3 c =
     let r = z .before .before .before .before in
     let s = r .before .before .before .before .before in
     let A = s .pre .0 in
-    let a = level-first _ A _ _ (s .pre .1) (r .before .before .raised .ensures .1) in
+    let a = level-first _ A _ _ (s .pre .1) (r .before .raised .ensures .1) in
     let b = level-next _ A _ _ _ (s .pre .1) 0 a (r .raised2 .ensures .1) in
     let d = level-next _ A _ _ _ (s .pre .1) 1 b (z .raised3 .ensures .1) in
     let e = level-next _ A _ _ _ (s .pre .1) 2 d (c .raised4 .ensures .1) in
@@ -95,9 +99,9 @@ rows-by-spec =
     (tie.spec
     array-write-one
     cast-t0
+    cast-t1
     raised-requires
     array-set-from-out
-    cast-t1
     raised-requires-2
     array-set-from-out-2
     returns

@@ -1,5 +1,5 @@
 use mathlib.Core.Path.{refl}
-use mathlib.Core.Logic.{inl, inr}
+use mathlib.Core.Logic.{inl}
 use Rattle.tables.proofs.Factored.{walk, factors-hold}
 use Rattle.tables.proofs.factors4.Statement.{statement}
 use Rattle.tables.proofs.factors4.Tie as tie
