@@ -76,14 +76,14 @@ high-coefficient : (c w r : ℕ) → coefficient c (w + r) ≡ coefficient (c / 
 high-coefficient c w r = ap (λ (y : ℕ). y % 2) (sym (shr-shr c w r))
 
 -- the data of word j + i, for any i: past the end both are 0
-data-at : (p : Parameters) (j i : ℕ) (cs : List ℕ) → getD (dataFrom p j cs) i 0 ≡ getD cs i 0 / 2 ^ checkBits p (j + i)
+pub data-at : (p : Parameters) (j i : ℕ) (cs : List ℕ) → getD (dataFrom p j cs) i 0 ≡ getD cs i 0 / 2 ^ checkBits p (j + i)
 data-at p j i [] = ap (λ (l : List ℕ). getD l i 0) (data-nil p j) ∙ sym (Nat.zero-div (2 ^ checkBits p (j + i)))
 data-at p j zero (c ∷ cs) = ap (λ (l : List ℕ). getD l 0 0) (data-cons p j c cs) ∙ ap (λ (k : ℕ). c / 2 ^ checkBits p k) (sym (Nat.add-zero j))
 data-at p j (suc i) (c ∷ cs) =
     ap (λ (l : List ℕ). getD l (suc i) 0) (data-cons p j c cs) ∙ data-at p (suc j) i cs ∙ ap (λ (k : ℕ). getD cs i 0 / 2 ^ checkBits p k) (Nat.suc-add j i ∙ sym (Nat.add-suc j i))
 
 -- the word j + i that encoding makes, from its data and the later words
-encode-at : (p : Parameters) (j i : ℕ) (ds : List ℕ) → i < length ds
+pub encode-at : (p : Parameters) (j i : ℕ) (ds : List ℕ) → i < length ds
     → getD (encodeFrom p j ds) i 0
     ≡ checked p (level p (j + i)) (getD ds i 0 * 2 ^ checkBits p (j + i)) (carried (level p (j + i)) (j + i) (drop (suc i) (encodeFrom p j ds)))
 encode-at p j i [] h = absurd (Nat.not-suc-le-zero h)

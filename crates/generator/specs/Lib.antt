@@ -7,4 +7,3 @@ pub mod Generator
 pub mod Leaders
 pub mod Next
 pub mod Factors
-pub mod Turns

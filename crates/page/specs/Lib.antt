@@ -1,0 +1,3 @@
+-- Pages and blocks part by part.
+pub mod Replaced
+pub mod Taken
