@@ -1,0 +1,206 @@
+// Runs the calls on records from standard input and writes what they give.
+//   record   32 bytes: call, q, m, v, t0 to t3, index, second index, width, 0, page length, buffer length (two bytes each, low first), u, count (eight bytes each);
+//            then the page's bytes, or for a feeding the register's 96
+//   answer   the refusal's number or 0, then what the call gives, and the lent buffer whole
+use code::Nesting;
+use code::Outcome;
+use code::Parameters;
+use code::Tested;
+use element::Computed;
+use element::Element;
+use element::Field;
+use element::Made;
+use libc::STDOUT_FILENO;
+
+// ---- numbers, low byte first
+
+fn pair(low: u8, high: u8) -> usize {
+    low as usize + 256 * high as usize
+}
+
+fn number(b: &[u8]) -> u64 {
+    let mut n: u64 = 0;
+    let mut k: usize = b.len();
+    while k > 0 {
+        k -= 1;
+        n = n << 8 | b[k] as u64;
+    }
+    n
+}
+
+fn put(n: u8) {
+    let out = [n];
+    io::write_all(STDOUT_FILENO, &out);
+}
+
+fn put_number(n: u64) {
+    let mut rest = n;
+    let mut k: u32 = 0;
+    while k < 8 {
+        put((rest % 256) as u8);
+        rest = rest / 256;
+        k += 1;
+    }
+}
+
+fn put_numbers(r: &[u64]) {
+    let mut k: usize = 0;
+    while k < r.len() {
+        put_number(r[k]);
+        k += 1;
+    }
+}
+
+fn put_outcome(r: Outcome) {
+    if let Outcome::Refused(k) = r {
+        put(k);
+        return;
+    }
+    put(0);
+}
+
+// ---- the calls
+
+fn test(p: Parameters) {
+    let tested = sheet::test(p);
+    let Tested::Accepted {
+        q,
+        m,
+        v,
+        t0,
+        t1,
+        t2,
+        t3,
+    } = tested
+    else {
+        if let Tested::Refused(k) = tested {
+            put(k);
+        }
+        return;
+    };
+    put(0);
+    let r = [
+        q as u64, m as u64, v as u64, t0 as u64, t1 as u64, t2 as u64, t3 as u64,
+    ];
+    put_numbers(&r);
+}
+
+fn nesting(i: usize, l: usize) {
+    let n = sheet::nesting_coefficient(i, l);
+    let Nesting::Coefficient(c) = n else {
+        if let Nesting::Refused(k) = n {
+            put(k);
+        }
+        return;
+    };
+    put(0);
+    put_number(c);
+}
+
+fn generator_rows(p: Parameters) {
+    let mut refusal: u8 = 0;
+    let rows = generators::generators_of(p, &mut refusal);
+    put(refusal);
+    let mut k: usize = 0;
+    while k < 4 {
+        let r = rows[k];
+        put_numbers(&r);
+        k += 1;
+    }
+}
+
+fn put_computed(r: Computed) {
+    let Computed::Element(e) = r else {
+        if let Computed::Refused(k) = r {
+            put(k);
+        }
+        return;
+    };
+    put(0);
+    put_number(e.0 as u64);
+}
+
+fn elements(q: u32, a: u16, b: u16, k: u32) {
+    let made = Field::make(q);
+    let Made::Field(f) = made else {
+        if let Made::Refused(n) = made {
+            put(n);
+        }
+        return;
+    };
+    put_computed(f.sum(Element(a), Element(b)));
+    put_computed(f.product(Element(a), Element(b)));
+    put_computed(f.power(Element(a), k));
+    put_computed(f.alpha_power(k));
+}
+
+// Byte k of a record, 0 past its end.
+fn byte(h: &[u8], k: usize) -> u32 {
+    if k < h.len() {
+        return h[k] as u32;
+    }
+    0
+}
+
+fn run(h: &[u8], page: &[u8], size: usize) {
+    if h.len() < 32 {
+        return;
+    }
+    let p = Parameters {
+        q: byte(h, 1),
+        m: byte(h, 2),
+        v: byte(h, 3),
+        t0: byte(h, 4),
+        t1: byte(h, 5),
+        t2: byte(h, 6),
+        t3: byte(h, 7),
+    };
+    let i = byte(h, 8) as usize;
+    let l = byte(h, 9) as usize;
+    let width = byte(h, 10);
+    let u = number(&h[16..24]);
+    let count = number(&h[24..32]);
+    let call = h[0];
+    if call == 0 {
+        test(p);
+    }
+    if call == 1 {
+        nesting(i, l);
+    }
+    if call == 2 {
+        generator_rows(p);
+    }
+    if call == 3 {
+        elements(p.q, (u % 65536) as u16, (count % 65536) as u16, width);
+    }
+}
+
+// The page of a record is read, and its call is made.
+fn rest(head: &[u8], page: &mut [u8], size: usize) {
+    io::read_full(0, page);
+    run(head, page, size);
+}
+
+// One record; is there another?
+fn record() -> bool {
+    let mut head = [0u8; 32];
+    let got = io::read_full(0, &mut head);
+    if got < 32 {
+        return false;
+    }
+    let mut room = [0u8; 8192];
+    let k = pair(head[12], head[13]);
+    let size = pair(head[14], head[15]);
+    if k > 8192 {
+        return false;
+    }
+    rest(&head, &mut room[..k], size);
+    true
+}
+
+fn main() {
+    let mut turns: u64 = u64::MAX;
+    while turns > 0 && record() {
+        turns -= 1;
+    }
+}

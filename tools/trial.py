@@ -1,0 +1,190 @@
+#!/usr/bin/env python3
+"""The input of crates/trial, and what it must write.
+
+    python3 tools/trial.py crates/trial
+
+writes stdin and stdout there. The answers come from tools/cases.py, another encoder written from document 01; the
+generators of the large fields here, by the product of x + alpha^s over the roots. Nothing is drawn at random but from
+its fixed sequence.
+"""
+import sys
+from functools import lru_cache
+from pathlib import Path
+
+import cases
+from cases import FIELD, below, bits, bytes_of_bits, nesting, number, refusal, some_bytes, strength
+
+TEST, NESTING, GENERATORS, ELEMENTS, OPEN, FEED, REMAINDER, SHORT, NESTED, SYNDROMES, NESTED_SYNDROMES = range(11)
+WIDTHS = (1, 7, 8, 63, 64)
+
+A = (4, 2, 1, 1, 2, 0, 0)
+B = (4, 3, 2, 1, 2, 3, 0)
+BYTE = (8, 4, 2, 3, 5, 9, 0)
+FULL = (8, 5, 3, 2, 4, 6, 7)
+LARGE = (12, 8, 3, 28, 32, 39, 58)
+SHEETS = (A, B, BYTE, FULL, LARGE)
+REFUSED = ((5, 2, 1, 1, 2, 0, 0), (0, 0, 0, 0, 0, 0, 0), (4, 2, 0, 1, 2, 0, 0), (8, 9, 1, 1, 2, 0, 0), (12, 3, 3, 1, 2, 3, 4),
+           (4, 2, 1, 2, 2, 0, 0), (4, 2, 1, 0, 2, 0, 0), (12, 8, 3, 28, 32, 39, 65), (4, 2, 1, 1, 2, 1, 0), (4, 6, 1, 1, 2, 0, 0))
+
+
+# ---- the field by shifts, generators by their roots
+
+def product(q, a, b):
+    out = 0
+    while b:
+        if b & 1:
+            out ^= a
+        a <<= 1
+        if a >> q:
+            a ^= FIELD[q]
+        b >>= 1
+    return out
+
+
+def power(q, a, k):
+    out = 1
+    for _ in range(k):
+        out = product(q, out, a)
+    return out
+
+
+@lru_cache(None)
+def generator(q, t):
+    n = 2 ** q - 1
+    roots = {j * 2 ** k % n for j in range(1, 2 * t + 1) for k in range(q)}
+    out = [1]
+    for s in sorted(roots):
+        root = power(q, 2, s)
+        out = [(out[k - 1] if k else 0) ^ (product(q, root, out[k]) if k < len(out) else 0) for k in range(len(out) + 1)]
+    assert set(out) <= {0, 1}
+    return out
+
+
+small = cases.generator
+for q, t in ((4, 1), (4, 2), (4, 3), (8, 1), (8, 2)):
+    assert generator(q, t) == small(q, t)
+cases.generator = generator
+
+
+# ---- records
+
+given, expected = bytearray(), bytearray()
+
+
+def le(x, size=8):
+    return x.to_bytes(size, 'little')
+
+
+def record(call, sheet, answer, i=0, l=0, width=0, page=(), size=0, u=0, count=0):
+    given.extend(bytes([call, *sheet, i, l, width, 0]) + le(len(page), 2) + le(size, 2) + le(u) + le(count) + bytes(page))
+    expected.extend(answer)
+
+
+def words(xs):
+    return b''.join(le(x) for x in xs)
+
+
+def tests():
+    for s in SHEETS + REFUSED:
+        code = refusal(s)
+        record(TEST, s, le(code, 1) + (words(s) if code == 0 else b''))
+        rows = [number(cases.gen(s, a)) if code == 0 and a <= s[2] else 0 for a in range(4)]
+        record(GENERATORS, s, le(code, 1) + b''.join(le(g, 104) for g in rows))
+
+
+def nestings():
+    for i in range(10):
+        for l in range(10):
+            record(NESTING, A, le(9, 1) if max(i, l) > 7 else b'\0' + le(number(nesting(i, l))), i=i, l=l)
+    for i, l in ((255, 0), (0, 255), (255, 255)):
+        record(NESTING, A, le(9, 1), i=i, l=l)
+
+
+def elements():
+    for q in (0, 3, 5, 16, 255):
+        record(ELEMENTS, (q, 0, 0, 0, 0, 0, 0), le(1, 1), u=1, count=1)
+    for q in (4, 8, 12):
+        size = 2 ** q
+        pairs = [(0, 0), (1, size - 1), (size - 1, size - 1), (0, 7), (size, 1), (1, size), (65535, 65535)]
+        for a, b in pairs + [(below(size), below(size)) for _ in range(12)]:
+            for k in (0, 1, below(256)):
+                made = lambda ok, x: b'\0' + le(x) if ok else le(8, 1)
+                both = a < size and b < size
+                record(ELEMENTS, (q, 0, 0, 0, 0, 0, 0),
+                       made(both, a ^ b) + made(both, both and product(q, a, b)) + made(a < size, a < size and power(q, a, k)) + made(True, power(q, 2, k)),
+                       width=k, u=a, count=b)
+
+
+def shown(code, register):
+    level, count, rest = register
+    return le(code, 1) + le(level) + le(count) + le(rest, 96)
+
+
+def registers():
+    for s in SHEETS + REFUSED:
+        for level in (0, 1, 2, 3, 4, 255):
+            record(OPEN, s, shown(*cases.opened(s, level)), i=level)
+    def feed(s, width, register, u):
+        step = cases.fed(s, width, register, u)
+        record(FEED, s, shown(*step), i=register[0], width=width, page=le(register[2], 96), u=u, count=register[1])
+        return step[1]
+    for s in SHEETS:
+        n = 2 ** s[0] - 1
+        for width in WIDTHS:
+            for level in range(s[2] + 1):
+                register = (level, 0, 0)
+                for _ in range(min(n // width, 14) + 1):
+                    register = feed(s, width, register, below(2 ** 32) * 2 ** 32 % 2 ** width | below(2 ** min(width, 32)))
+        w = cases.degree(s, 0)
+        top = 2 ** w - 1
+        for width, register, u in ((0, (0, 0, 0), 0), (65, (0, 0, 0), 0), (255, (9, 2 ** 64 - 1, 0), 1), (1, (0, 0, 0), 2), (7, (0, 0, 0), 128), (63, (0, 0, 0), 2 ** 63), (64, (0, 2 ** 64 - 1, 0), 2 ** 64 - 1),
+                                   (1, (0, n, 0), 1), (1, (0, n - 1, top), 1), (8, (0, n - 8, top), 255), (8, (0, n - 7, top), 255), (1, (s[2] + 1, 0, 0), 1), (1, (0, 0, 2 * top + 1), 1), (1, (0, 0, 2 ** w), 0),
+                                   (4, (s[2], 0, 2 ** cases.degree(s, s[2]) - 1), 15), (1, (255, 0, 2 ** 768 - 1), 1), (1, (0, n, 2 ** 768 - 1), 1), (1, (0, 2 ** 64 - 1, 0), 0)):
+            feed(s, width, register, u)
+    for s in REFUSED:
+        feed(s, 0, (255, 2 ** 64 - 1, 2 ** 768 - 1), 1)
+        feed(s, 1, (0, 0, 0), 1)
+
+
+def one_word():
+    calls = ((REMAINDER, 'sub_word', lambda s, l: 96, cases.remainder_bytes, 1), (SHORT, 'nested_word', lambda s, l: 96, cases.short_bytes, 1),
+             (NESTED, 'nested_word', lambda s, l: cases.word_bytes(s), cases.nested_bytes, 1), (SYNDROMES, 'sub_word', lambda s, l: 2 * strength(s, 0), cases.syndrome_list, 2),
+             (NESTED_SYNDROMES, 'nested_word', lambda s, l: 2 * strength(s, s[2] - l), cases.nested_syndrome_list, 2))
+
+    def each(s, page, i, wrong):
+        for call, part, room, answer, unit in calls:
+            known = refusal(s) == 0
+            size = (room(s, i) if known and not (part == 'nested_word' and i >= s[2]) else 2) + wrong
+            code = refusal(s, page=page, room=(size, lambda: room(s, i)), **{part: i})
+            out = answer(s, page, i) if code == 0 else [(165, 42405)[unit - 1]] * size
+            record(call, s, le(code, 1) + b''.join(le(x, unit) for x in out), i=i, page=page, size=size)
+
+    for s in SHEETS:
+        size = cases.word_bytes(s)
+        page = some_bytes(s[1] * size)
+        for i in range(s[1]):
+            page[(i + 1) * size - 1] &= 127
+        for i in (0, 1, s[2] - 1, s[2], s[1] - 1, s[1], 255):
+            each(s, page, i, 0)
+        each(s, page, 0, 1)
+        each(s, page, 0, -1)
+        each(s, page[:-1], 0, 0)
+        each(s, page + [0], 255, 1)
+        for i in range(s[1]):
+            spoiled = list(page)
+            spoiled[(i + 1) * size - 1] |= 128
+            each(s, spoiled, 0, 0)
+        each(s, [0] * (s[1] * size), 0, 0)
+    for s in REFUSED:
+        each(s, [255], 255, 5)
+
+
+if __name__ == '__main__':
+    tests()
+    nestings()
+    elements()
+    # registers()
+    # one_word()
+    room = Path(sys.argv[1])
+    (room / 'stdin').write_bytes(given)
+    (room / 'stdout').write_bytes(expected)
