@@ -49,7 +49,15 @@ pub fn syndrome_at(powers: &[u16], logs: &[u16], q: u32, r: &[u64], w: usize, j:
 }
 
 // S_j, for an even j from the list of those before it: it is the square of S_(j / 2).
-fn next_syndrome(list: &[u16], powers: &[u16], logs: &[u16], q: u32, r: &[u64], w: usize, i: usize) -> u32
+fn next_syndrome(
+    list: &[u16],
+    powers: &[u16],
+    logs: &[u16],
+    q: u32,
+    r: &[u64],
+    w: usize,
+    i: usize,
+) -> u32
     requires { ⌜ Tables q (now powers) (now logs) × (w ≤ 64 * length (now r)) × (value 64 (now r) < 2 ^ w) × (i + 1 < 2 ^ q - 1) × (i ≤ length (now list)) × Begun q (value 64 (now r)) i (now list) ⌝ }
     ensures { λ x. ⌜ x ≡ syndrome q (value 64 (now (r .entry))) (i + 1) ⌝ }
 {

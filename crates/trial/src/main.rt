@@ -80,7 +80,13 @@ fn test(p: Parameters) {
     };
     put(0);
     let r = [
-        q as u64, m as u64, v as u64, t0 as u64, t1 as u64, t2 as u64, t3 as u64,
+        q as u64,
+        m as u64,
+        v as u64,
+        t0 as u64,
+        t1 as u64,
+        t2 as u64,
+        t3 as u64,
     ];
     put_numbers(&r);
 }

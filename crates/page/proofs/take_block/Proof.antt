@@ -74,8 +74,7 @@ copy-down-requires c κs =
     let s = z .before .before .before .before .before .before in
     let a = s .args in
     let l = part-length (a .blocks .now) (z .before .block-offset .result) (z .block-size .result)
-        (omega (arith, s .pre .4, z .before .block-offset .ensures, z .block-size .ensures, block-room (a .p) (a .i) (s .pre .5))) in
-    (
+    (omega (arith, s .pre .4, z .before .block-offset .ensures, z .block-size .ensures, block-room (a .p) (a .i) (s .pre .5))) in (
       omega (arith, c .before .before .check-bits .ensures, check-below (a .p) (s .pre .0) (a .i), stored-high (a .p) (s .pre .0)),
       omega (arith, l, z .block-size .ensures, data-high (a .p) (s .pre .0) (a .i)),
     )
@@ -97,10 +96,10 @@ returns c =
     let l = back ∙ part-length (a .blocks .now) (z .before .block-offset .result) (z .block-size .result) room in
     let e = part-word (a .p) (s .pre .0) (a .page .now) (a .i) (b .sub-word-bytes .result) (b .sub-word-bytes .ensures) (s .pre .5) in
     let y = moved-down (a .p) (s .pre .0) (d .copy-down .last .0) (getD (wordsOf (a .p) (a .page .now)) (a .i) 0) (k .check-bits .result) (a .i) (z .block-size .result)
-        (middle-bytes (take (z .before .block-offset .result) (a .blocks .now)) (d .copy-down .last .0) (drop ((z .before .block-offset .result) + (z .block-size .result) - (z .before .block-offset .result)) (drop (z .before .block-offset .result) (a .blocks .now))) (λ i. c .slice-known2 .given i .fits))
-        (rw e at (part-lt (a .p) (s .pre .0) (a .page .now) h (a .i) (b .sub-word-bytes .result) (b .sub-word-bytes .ensures) (s .pre .5)))
-        (k .check-bits .ensures) (z .block-size .ensures) l
-        (rw (e, part-length (a .blocks .now) (z .before .block-offset .result) (z .block-size .result) room) at (d .copy-down .ensures)) in
+    (middle-bytes (take (z .before .block-offset .result) (a .blocks .now)) (d .copy-down .last .0) (drop ((z .before .block-offset .result) + (z .block-size .result) - (z .before .block-offset .result)) (drop (z .before .block-offset .result) (a .blocks .now))) (λ i. c .slice-known2 .given i .fits))
+    (rw e at (part-lt (a .p) (s .pre .0) (a .page .now) h (a .i) (b .sub-word-bytes .result) (b .sub-word-bytes .ensures) (s .pre .5)))
+    (k .check-bits .ensures) (z .block-size .ensures) l
+    (rw (e, part-length (a .blocks .now) (z .before .block-offset .result) (z .block-size .result) room) at (d .copy-down .ensures)) in
     put-is (a .blocks .now) (d .copy-down .last .0) _ (z .before .block-offset .result) (z .block-size .result) _ (z .before .block-offset .ensures) y (length-digits 8 (sizeOf (a .p) (a .i)) _ ∙ sym (z .block-size .ensures))
 
 pub take-block-spec : {M : Type 1} → statement M

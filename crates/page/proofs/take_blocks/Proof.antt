@@ -44,8 +44,8 @@ loop-again c =
     let l = t .before in
     let a = l .before .before .before .before .before .args in
     rw (k .take-block .ensures) (taken-next (a .p) (a .page .now) (l .loop .blocks)
-        (digits 8 (sizeOf (a .p) (l .loop .i)) (getD (wordsOf (a .p) (a .page .now)) (l .loop .i) 0 / 2 ^ checkBits (a .p) (l .loop .i)))
-        (l .loop .i) (l .loop .inv) (t .loop-test .taken) refl)
+    (digits 8 (sizeOf (a .p) (l .loop .i)) (getD (wordsOf (a .p) (a .page .now)) (l .loop .i) 0 / 2 ^ checkBits (a .p) (l .loop .i)))
+    (l .loop .i) (l .loop .inv) (t .loop-test .taken) refl)
 
 same-length : tie.Need-same-length Inv-loop μ-loop
 same-length c = let l = c .before in let s = l .before .before .before .before .before in l .loop .inv .exact ∙ sym (s .pre .4)
@@ -57,8 +57,8 @@ returns c =
     let s = k .before .before in
     let a = s .args in
     taken-all (a .p) (s .pre .0) (a .page .now) (l .loop .blocks) (l .loop .i)
-      (is-page (a .p) (a .page .now) (λ i. k .shared-slice-known2 .given i .fits) (s .pre .2) (s .pre .3))
-      (l .loop .inv) (c .loop-test .left)
+    (is-page (a .p) (a .page .now) (λ i. k .shared-slice-known2 .given i .fits) (s .pre .2) (s .pre .3))
+    (l .loop .inv) (c .loop-test .left)
 
 pub take-blocks-spec : {M : Type 1} → statement M
 take-blocks-spec =

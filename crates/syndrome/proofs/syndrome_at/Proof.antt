@@ -38,8 +38,7 @@ sum-modulo-requires c κs =
     let l = c .before .before .before in
     let s = l .before .before .before .before .before in
     let a = s .args in
-    let n = l .before .order .ensures in
-    (
+    let n = l .before .order .ensures in (
       rw n (exponent-lt (a .q) (a .j) (l .loop .k) (l .loop .e) (s .pre .0 .field) (l .loop .inv .0 .place)),
       rw n (s .pre .3),
       omega (arith, n, size-most (a .q) (s .pre .0 .field)),
@@ -55,8 +54,7 @@ loop-again : tie.Need-loop-again Inv-loop μ-loop
 loop-again c =
     let l = c .before .before .before .before in
     let s = l .before .before .before .before .before in
-    let a = s .args in
-    (
+    let a = s .args in (
       rw (c .before .term .ensures) (sum-next (a .q) (a .powers .now) (a .logs .now) (s .pre .0) (value 64 (a .r .now)) (a .j) (l .loop .k) (l .loop .e) (l .loop .x) (c .before .before .coefficient-at .result) (c .sum-modulo .result)
           (l .loop .inv .0) (exponent-lt (a .q) (a .j) (l .loop .k) (l .loop .e) (s .pre .0 .field) (l .loop .inv .0 .place)) (c .before .before .coefficient-at .ensures .0)
           (c .sum-modulo .ensures .0 ∙ ap (λ (n : ℕ). (l .loop .e + a .j) % n) (l .before .order .ensures))),

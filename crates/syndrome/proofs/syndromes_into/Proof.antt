@@ -48,8 +48,7 @@ loop-less c = simp length-set (omega arith)
 loop-again : tie.Need-loop-again Inv-loop μ-loop
 loop-again c =
     let l = c .before .before .before in
-    let s = l .before .before .before .before .before in
-    (
+    let s = l .before .before .before .before .before in (
       simp length-set (l .loop .inv .0),
       simp length-set (omega arith),
       begun-next (s .args .q) (value 64 (s .args .r .now)) (l .loop .i) (c .next-syndrome .result) (l .loop .list) (c .before .before .loop-test .taken) (l .loop .inv .2) (c .next-syndrome .ensures),

@@ -23,8 +23,7 @@ sub-remainder-of c =
 
 remainder-of-requires : tie.Need-remainder-of-requires
 remainder-of-requires c κs =
-    let s = c .before .before .before .before in
-    (
+    let s = c .before .before .before .before in (
       search needs,
       s .pre .3 .words,
       omega arith,
