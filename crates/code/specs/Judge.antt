@@ -135,6 +135,20 @@ verdict-eq : (p : Parameters) (cs : List ℕ) → verdict p cs ≡ judged (ltb (
 unfolding verdict
 verdict-eq p cs = refl
 
+-- by the two searches
+pub answer-sub : (p : Parameters) (cs : List ℕ) (i : ℕ) → i ≡ failing p cs → i < p .m → SubWord i ≡ verdict p cs
+answer-sub p cs i e h =
+    ap SubWord e ∙ sym (verdict-eq p cs ∙ to-sub (ltb (failing p cs) (p .m)) (ltb (failingNested p cs) (p .v)) (failing p cs) (failingNested p cs) (lt→ltb (failing p cs) (p .m) (rw (← e) h)))
+
+pub answer-nested : (p : Parameters) (cs : List ℕ) (i l : ℕ) → i ≡ failing p cs → p .m ≤ i → l ≡ failingNested p cs → l < p .v → NestedWord l ≡ verdict p cs
+answer-nested p cs i l e h f k =
+    ap NestedWord f
+    ∙ sym (verdict-eq p cs ∙ to-nested (ltb (failing p cs) (p .m)) (ltb (failingNested p cs) (p .v)) (failing p cs) (failingNested p cs) (ltb-no (failing p cs) (p .m) (rw (← e) h)) (lt→ltb (failingNested p cs) (p .v) (rw (← f) k)))
+
+pub answer-member : (p : Parameters) (cs : List ℕ) (i l : ℕ) → i ≡ failing p cs → p .m ≤ i → l ≡ failingNested p cs → p .v ≤ l → Member ≡ verdict p cs
+answer-member p cs i l e h f k =
+    sym (verdict-eq p cs ∙ to-member (ltb (failing p cs) (p .m)) (ltb (failingNested p cs) (p .v)) (failing p cs) (failingNested p cs) (ltb-no (failing p cs) (p .m) (rw (← e) h)) (ltb-no (failingNested p cs) (p .v) (rw (← f) k)))
+
 module _ (p : Parameters) (R : Rules p) where
   -- a word is a multiple of g_a exactly when its remainder is 0
   pub multiple-iff : (a : ℕ) → a ≤ p .v → (c : ℕ) → (remainder p a c ≡ 0) ↔ Multiple (gen p a) c

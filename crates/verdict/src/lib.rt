@@ -1,13 +1,13 @@
 // Which word of a page fails: the lowest sub-word that is no multiple of g_0 or, if all are, the lowest nested word that fails.
 ghost use mathlib.Core.Path.{_≡_};
-ghost use Prim.Native.Nat.{ℕ, _<_, _≤_, _^_};
+ghost use Prim.Native.Nat.{ℕ, _+_, _-_, _<_, _≤_, _^_};
 ghost use lib.Dec.{T, eqb};
 ghost use lib.ListN.{length, getD};
 ghost use Rattle.polynomial.specs.Digits.{value};
 ghost use Rattle.code.specs.Calls.{generators};
-ghost use Rattle.code.specs.Code.{degree, remainder, failing, failingNested, verdict};
+ghost use Rattle.code.specs.Code.{degree, remainder, nested, failing, failingNested, verdict};
 ghost use Rattle.code.specs.Layout.{pageBytes, pageClear, wordsOf};
-ghost use Rattle.code.specs.Parameters.{Accepted, stored};
+ghost use Rattle.code.specs.Parameters.{Accepted, nestedBytes, stored};
 ghost use Rattle.level.specs.Ready.{Prepared};
 use code::Parameters;
 use code::Verdict;
@@ -49,4 +49,54 @@ fn first_failing(p: Parameters, page: &[u8], t: &[u64], w: usize) -> usize
         i += 1;
     }
     m
+}
+
+// Is nested word l a multiple of g_(v−l)? The lent table and bytes are room to work in.
+fn nested_passes(p: Parameters, page: &[u8], rows: [[u64; 13]; 4], l: usize, t: &mut [u64], acc: &mut [u8]) -> bool
+    requires { ⌜ Accepted p × (rows ≡ generators p) × (length (now page) ≡ pageBytes p) × (l < p .v) × (length (now t) ≡ 3072) × (length (now acc) ≡ nestedBytes p + 8) ⌝ }
+    ensures { λ r. ⌜ r ≡ eqb (remainder p (p .v - l) (nested p l (wordsOf p (now (page .entry))))) 0 ⌝ }
+{
+    let a = p.v as usize - l;
+    let w = level::degree_at(p, rows, a) as usize;
+    level::prepare(t, p, rows, a, w);
+    nested::nested_into(acc, p, page, l);
+    passes(t, acc, p, a, w)
+}
+
+// The lowest nested word that is no multiple of its generator; v if there is none.
+fn first_failing_nested(p: Parameters, page: &[u8], rows: [[u64; 13]; 4], t: &mut [u64], acc: &mut [u8]) -> usize
+    requires { ⌜ Accepted p × (rows ≡ generators p) × (length (now page) ≡ pageBytes p) × (length (now t) ≡ 3072) × (length (now acc) ≡ nestedBytes p + 8) ⌝ }
+    ensures { λ r. ⌜ r ≡ failingNested p (wordsOf p (now (page .entry))) ⌝ }
+{
+    let v = p.v as usize;
+    let mut l: usize = 0;
+    while l < v {
+        if !nested_passes(p, page, rows, l, t, acc) {
+            return l;
+        }
+        l += 1;
+    }
+    v
+}
+
+// Judge's answer on a page.
+pub fn verdict_of(p: Parameters, page: &[u8]) -> Verdict
+    requires { ⌜ Accepted p × (length (now page) ≡ pageBytes p) × T (pageClear p (now page)) ⌝ }
+    ensures { λ r. ⌜ r ≡ verdict p (wordsOf p (now (page .entry))) ⌝ }
+{
+    let rows = generators::rows(p);
+    let w = level::degree_at(p, rows, 0) as usize;
+    let mut t = [0u64; 3072];
+    level::prepare(&mut t, p, rows, 0, w);
+    let i = first_failing(p, page, &t, w);
+    if i < p.m as usize {
+        return Verdict::SubWord(i);
+    }
+    let mut room = [0u8; 520];
+    let k = layout::sub_word_bytes(p) + 8;
+    let l = first_failing_nested(p, page, rows, &mut t, &mut room[..k]);
+    if l < p.v as usize {
+        return Verdict::NestedWord(l);
+    }
+    Verdict::Member
 }
