@@ -1,3 +1,4 @@
 -- Pages and blocks part by part.
+pub mod Answers
 pub mod Replaced
 pub mod Taken

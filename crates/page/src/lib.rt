@@ -4,6 +4,7 @@ ghost use Prim.Native.Nat.{ℕ, _<_, _≤_, _/_, _^_};
 ghost use lib.Dec.{T};
 ghost use lib.ListN.{length, getD};
 ghost use Rattle.polynomial.specs.Digits.{digits};
+ghost use Rattle.code.specs.Calls.{Judged};
 ghost use Rattle.code.specs.Code.{checkBits};
 ghost use Rattle.code.specs.Layout.{blockOffset, dataBytes, dataOf, pageBytes, pageClear, wordsOf};
 ghost use Rattle.code.specs.Parameters.{Accepted};
@@ -11,6 +12,7 @@ ghost use Rattle.layout.specs.Sizes.{Degrees};
 ghost use Rattle.page.specs.Replaced.{replaced};
 ghost use Rattle.page.specs.Taken.{sizeOf};
 use code::Parameters;
+use code::Verdict;
 
 // Block i of the page is put in its place among the blocks.
 fn take_block(p: Parameters, w: &[u32], page: &[u8], blocks: &mut [u8], i: usize)
@@ -39,4 +41,15 @@ fn take_blocks(p: Parameters, w: &[u32], page: &[u8], blocks: &mut [u8])
         take_block(p, w, page, blocks, i);
         i += 1;
     }
+}
+
+// Is the page a member, and if not, which word fails first?
+pub fn judge(p: Parameters, page: &[u8]) -> Verdict
+    ensures { λ r. ⌜ Judged p (now (page .entry)) r ⌝ }
+{
+    let k = refusal::judge_refusal(p, page);
+    if k != 0 {
+        return Verdict::Refused(k);
+    }
+    verdict::verdict_of(p, page)
 }
