@@ -1,4 +1,5 @@
 -- Pages and blocks part by part.
 pub mod Answers
+pub mod Reading
 pub mod Replaced
 pub mod Taken

@@ -4,7 +4,7 @@ ghost use Prim.Native.Nat.{ℕ, _<_, _≤_, _/_, _^_};
 ghost use lib.Dec.{T};
 ghost use lib.ListN.{length, getD};
 ghost use Rattle.polynomial.specs.Digits.{digits};
-ghost use Rattle.code.specs.Calls.{Judged};
+ghost use Rattle.code.specs.Calls.{Judged, ReadOut};
 ghost use Rattle.code.specs.Code.{checkBits};
 ghost use Rattle.code.specs.Layout.{blockOffset, dataBytes, dataOf, pageBytes, pageClear, wordsOf};
 ghost use Rattle.code.specs.Parameters.{Accepted};
@@ -12,6 +12,7 @@ ghost use Rattle.layout.specs.Sizes.{Degrees};
 ghost use Rattle.page.specs.Replaced.{replaced};
 ghost use Rattle.page.specs.Taken.{sizeOf};
 use code::Parameters;
+use code::Tested;
 use code::Verdict;
 
 // Block i of the page is put in its place among the blocks.
@@ -52,4 +53,33 @@ pub fn judge(p: Parameters, page: &[u8]) -> Verdict
         return Verdict::Refused(k);
     }
     verdict::verdict_of(p, page)
+}
+
+// Read out, for accepted parameters.
+fn read_by(p: Parameters, page: &[u8], blocks: &mut [u8]) -> Verdict
+    requires { ⌜ Accepted p ⌝ }
+    ensures { λ r. ⌜ ReadOut p (now (page .entry)) (now (blocks .entry)) (now (blocks .exit)) r ⌝ }
+{
+    let rows = generators::rows(p);
+    let w = level::degrees(p, rows);
+    let k = layout::read_lengths(p, &w, page.len(), blocks.len());
+    if k != 0 {
+        return Verdict::Refused(k);
+    }
+    if !layout::page_clear(p, page) {
+        return Verdict::Refused(8);
+    }
+    take_blocks(p, &w, page, blocks);
+    verdict::verdict_of(p, page)
+}
+
+// The blocks of the page, member or not, and judge's answer.
+pub fn read_out(p: Parameters, page: &[u8], blocks: &mut [u8]) -> Verdict
+    ensures { λ r. ⌜ ReadOut p (now (page .entry)) (now (blocks .entry)) (now (blocks .exit)) r ⌝ }
+{
+    let tested = sheet::test(p);
+    let Tested::Refused(k) = tested else {
+        return read_by(p, page, blocks);
+    };
+    Verdict::Refused(k)
 }

@@ -52,7 +52,14 @@ fn first_failing(p: Parameters, page: &[u8], t: &[u64], w: usize) -> usize
 }
 
 // Is nested word l a multiple of g_(v−l)? The lent table and bytes are room to work in.
-fn nested_passes(p: Parameters, page: &[u8], rows: [[u64; 13]; 4], l: usize, t: &mut [u64], acc: &mut [u8]) -> bool
+fn nested_passes(
+    p: Parameters,
+    page: &[u8],
+    rows: [[u64; 13]; 4],
+    l: usize,
+    t: &mut [u64],
+    acc: &mut [u8],
+) -> bool
     requires { ⌜ Accepted p × (rows ≡ generators p) × (length (now page) ≡ pageBytes p) × (l < p .v) × (length (now t) ≡ 3072) × (length (now acc) ≡ nestedBytes p + 8) ⌝ }
     ensures { λ r. ⌜ r ≡ eqb (remainder p (p .v - l) (nested p l (wordsOf p (now (page .entry))))) 0 ⌝ }
 {
@@ -64,7 +71,13 @@ fn nested_passes(p: Parameters, page: &[u8], rows: [[u64; 13]; 4], l: usize, t: 
 }
 
 // The lowest nested word that is no multiple of its generator; v if there is none.
-fn first_failing_nested(p: Parameters, page: &[u8], rows: [[u64; 13]; 4], t: &mut [u64], acc: &mut [u8]) -> usize
+fn first_failing_nested(
+    p: Parameters,
+    page: &[u8],
+    rows: [[u64; 13]; 4],
+    t: &mut [u64],
+    acc: &mut [u8],
+) -> usize
     requires { ⌜ Accepted p × (rows ≡ generators p) × (length (now page) ≡ pageBytes p) × (length (now t) ≡ 3072) × (length (now acc) ≡ nestedBytes p + 8) ⌝ }
     ensures { λ r. ⌜ r ≡ failingNested p (wordsOf p (now (page .entry))) ⌝ }
 {

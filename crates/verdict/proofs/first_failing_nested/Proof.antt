@@ -65,8 +65,7 @@ loop-again c =
     let k = c .before .before .before .before .before in
     let n = k .before .before .before in
     let l = n .before in
-    let a = l .before .before .before .before .before .args in
-    (
+    let a = l .before .before .before .before .before .args in (
       seek-next (nestedFailsAt (a .p) (wordsOf (a .p) (a .page .now))) (a .p .v) (l .loop .l) (l .loop .inv .0) (n .loop-test .taken) (ap not (sym (k .nested-passes .ensures)) ∙ c .if1 .left),
       c .before .before .before .before .t .given ∙ l .loop .inv .1,
       c .before .before .acc .given ∙ l .loop .inv .2,
