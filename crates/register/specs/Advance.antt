@@ -5,11 +5,12 @@ use Prim.Native.Nat.{ℕ, _+_, _-_, _*_, _/_, _%_, _^_, _≤_, _<_}
 use native.Mathlib.Nat as Nat
 use native.Mathlib.Omega.{arith}
 use lib.ListN.{length, getD, take}
-use lib.Seq.{ext-getD, getD-take, length-take-le}
+use lib.Seq.{ext-getD, getD-take, length-take-le, take-all}
 use Rattle.polynomial.specs.Digits.{value, value-at, digits, digits-at, length-digits}
 use Rattle.polynomial.specs.Xor.{xor}
 use Rattle.words.specs.Row.{D}
 use Rattle.words.specs.Shift.{xor-shl}
+use Rattle.words.specs.Sum.{Copied}
 use Rattle.words.specs.Table.{Reduced, lowered}
 use Rattle.words.specs.Value.{Bounded, bounded-all}
 use Rattle.code.specs.declared.Parameters.{Parameters}
@@ -26,6 +27,10 @@ take-digits w k l b h =
     let e : length (take k l) ≡ k = length-take-le k l h in
     ext-getD 0 (take k l) (digits w k (value w l)) (e ∙ sym (length-digits w k (value w l)))
     (λ i s. getD-take k l i 0 (rw e at s) ∙ sym (digits-at w k (value w l) i (rw e at s) ∙ value-at w l (bounded-all w l b) i))
+
+-- 12 words, copied from 13
+pub copied-digits : (low₀ low r : List ℕ) (i : ℕ) → length low ≡ 12 → length r ≡ 13 → i ≡ 12 → Copied low₀ low r i → Bounded 64 r → low ≡ digits 64 12 (value 64 r)
+copied-digits low₀ low r i n m e c b = sym (take-all 12 low (Nat.le-of-eq n)) ∙ rw e at (c .done) ∙ take-digits 64 12 r b (omega arith)
 
 -- all moved up by s
 moved : (f u l s : ℕ) → xor (f * 2 ^ s * 2 ^ l) (u * 2 ^ s) ≡ xor (f * 2 ^ l) u * 2 ^ s

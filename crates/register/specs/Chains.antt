@@ -65,15 +65,15 @@ module _ (p : Parameters) (level : ℕ) where
 width-is : (L : ℕ) → T (not (badWidth L)) → Width L
 width-is L t = let n = neither (eqb L 0) (ltb 64 L) t in record { low = nonzero L (n .0); high = nltb→le 64 L (n .1) }
 
+pub width-of : (L : ℕ) → true ≡ not (badWidth L) → Width L
+width-of L e = width-is L (rw (← e) tt)
+
 module _ (p : Parameters) (L k u : ℕ) where
   pub part-width : false ≡ not (badWidth L) → 5 ≡ partRefusal p L k u
   unfolding partRefusal
   part-width e = simp (not-false (badWidth L) (sym e))
 
   module _ (e : true ≡ not (badWidth L)) where
-    pub width-of : Width L
-    width-of = width-is L (rw (← e) tt)
-
     pub part-stray : false ≡ ltb u (2 ^ L) → 8 ≡ partRefusal p L k u
     unfolding partRefusal
     part-stray f = simp (not-true (badWidth L) (sym e), le-leb (2 ^ L) u (ltb-false u (2 ^ L) (sym f)))

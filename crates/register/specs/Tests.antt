@@ -6,8 +6,9 @@ use Prim.Native.Nat.{ℕ, zero, suc, _+_, _-_, _*_, _/_, _%_, _^_, _≤_, _<_, z
 use native.Mathlib.Nat as Nat
 use native.Mathlib.Omega.{arith}
 use lib.Dec.{eqb, leb, ltb}
-use lib.ListN.{length, getD, drop}
+use lib.ListN.{length, getD, take, drop, length-drop}
 use lib.Pow.{pow-pos, pow-lt, pow-mono, shr-shr, shr-mono, high}
+use lib.Seq.{take-all}
 use borrow.Author.Tests.{lt-ltb, le-ltb, le-leb, lt-leb, eq-eqb, ne-eqb, ltb-true, ltb-false, leb-true, eqb-true, not-true}
 use Rattle.polynomial.specs.Digits.{value}
 use Rattle.polynomial.specs.Division.{lt-of-shr}
@@ -83,7 +84,8 @@ module _ (l : List ℕ) (b : Bounded 64 l) (w : ℕ) where
   words-bit n =
       never (ltb (value 64 l) (2 ^ w)) (λ t. n (Nat.le-antisymm (rw (above-zero t) at (shr-mono {a = word} {b = rest * 2 ^ 64 + word} (w % 64) (Nat.le-add-left word (rest * 2 ^ 64)))) zero-le))
 
-  pub words-rest : word / 2 ^ (w % 64) ≡ 0 → eqb rest 0 ≡ ltb (value 64 l) (2 ^ w)
+  pub words-rest : word / 2 ^ (w % 64) ≡ 0 → eqb (value 64 (take (length l - (w / 64 + 1)) (drop (w / 64 + 1) l))) 0 ≡ ltb (value 64 l) (2 ^ w)
   words-rest z =
-      same (eqb rest 0) (ltb (value 64 l) (2 ^ w)) (λ t. lt-ltb (value 64 l) (2 ^ w) (lt-of-shr w (above ∙ rw (eqb-true rest 0 t, Nat.zero-mul, Nat.zero-add) z)))
+      ap (λ (x : List ℕ). eqb (value 64 x) 0) (take-all (length l - (w / 64 + 1)) (drop (w / 64 + 1) l) (Nat.le-of-eq (length-drop (w / 64 + 1) l)))
+      ∙ same (eqb rest 0) (ltb (value 64 l) (2 ^ w)) (λ t. lt-ltb (value 64 l) (2 ^ w) (lt-of-shr w (above ∙ rw (eqb-true rest 0 t, Nat.zero-mul, Nat.zero-add) z)))
       (λ t. eq-eqb rest 0 (sym (high rest 64 (b (w / 64))) ∙ Nat.div-eq-of-lt (Nat.lt-of-lt-of-le (lt-of-shr (w % 64) (above-zero t)) (pow-mono {i = w % 64} {j = 64} (omega arith)))))

@@ -1,33 +1,30 @@
 use borrow.Author.Needs.{needs}
+use mathlib.Core.Path.{_≡_, sym}
+use Rattle.register.specs.Chains.{open-sheet, open-above, open-none}
 use Rattle.register.proofs.open_refusal.Statement.{statement}
 use Rattle.register.proofs.open_refusal.Tie as tie
-use Rattle.register.proofs.open_refusal.Reads as reads
-use Rattle.register.proofs.open_refusal.Lts as lts
-use Rattle.sheet.proofs.test.Reads as test-reads
 
--- src/lib.rt:90:9
 test-requires : tie.Need-test-requires
 test-requires c κs = search needs
 
--- src/lib.rt:91:25
 enum-known-tested : tie.Need-enum-known-tested
 enum-known-tested c = search needs
 
--- src/lib.rt:92:12
 enum-told : tie.Need-enum-told
 enum-told c = search needs
 
--- src/lib.rt:93:13
 returns : tie.Need-returns
-returns c = search needs
+returns c =
+    let e = c .before .before in
+    open-above _ _ (sym ((rw (e .enum-told .given .1) at (e .before .before .test .ensures)) .number)) (c .if1 .taken)
 
--- src/lib.rt:95:9
 returns-2 : tie.Need-returns-2
-returns-2 c = search needs
+returns-2 c =
+    let e = c .before .before in
+    open-none _ _ (sym ((rw (e .enum-told .given .1) at (e .before .before .test .ensures)) .number)) (c .if1 .left)
 
--- src/lib.rt:87:1
 returns-3 : tie.Need-returns-3
-returns-3 c = search needs
+returns-3 c = open-sheet _ _ _ (rw (c .before .tested .given .1) at (c .before .before .before .test .ensures))
 
 pub open-refusal-spec : {M : Type 1} → statement M
 open-refusal-spec =

@@ -1,44 +1,45 @@
 use borrow.Author.Needs.{needs}
+use borrow.Author.Tests.{not-true, not-false}
+use mathlib.Core.Path.{_≡_, sym, _∙_}
+use Rattle.register.specs.Chains.{width-of, part-width, part-stray, part-full, part-none}
 use Rattle.register.proofs.part_refusal.Statement.{statement}
 use Rattle.register.proofs.part_refusal.Tie as tie
-use Rattle.register.proofs.part_refusal.Reads as reads
-use Rattle.register.proofs.part_refusal.Lts as lts
-use Rattle.register.proofs.full_count.Reads as full-count-reads
-use Rattle.register.proofs.number_fits.Reads as number-fits-reads
-use Rattle.register.proofs.room.Reads as room-reads
-use Rattle.register.proofs.width_good.Reads as width-good-reads
 
--- src/lib.rt:105:9
 width-good-requires : tie.Need-width-good-requires
 width-good-requires c κs = search needs
 
--- src/lib.rt:106:9
 returns : tie.Need-returns
-returns c = search needs
+returns c = part-width _ _ _ _ (sym (not-true _ (c .if1 .taken)) ∙ c .before .width-good .ensures)
 
--- src/lib.rt:108:9
 number-fits-requires : tie.Need-number-fits-requires
-number-fits-requires c κs = search needs
+number-fits-requires c κs = let w = width-of _ (sym (not-false _ (c .if1 .left)) ∙ c .before .width-good .ensures) in (w .low, w .high)
 
--- src/lib.rt:109:9
 returns-2 : tie.Need-returns-2
-returns-2 c = search needs
+returns-2 c =
+    let a = c .before .before in
+    part-stray _ _ _ _ (sym (not-false _ (a .if1 .left)) ∙ a .before .width-good .ensures) (sym (not-true _ (c .if2 .taken)) ∙ c .before .number-fits .ensures)
 
--- src/lib.rt:111:9
 full-count-requires : tie.Need-full-count-requires
 full-count-requires c κs = search needs
 
--- src/lib.rt:112:9
 room-requires : tie.Need-room-requires
 room-requires c κs = search needs
 
--- src/lib.rt:113:9
 returns-3 : tie.Need-returns-3
-returns-3 c = search needs
+returns-3 c =
+    let f = c .before .before in
+    let b = f .before in
+    let a = b .before .before in
+    part-full _ _ _ _ (sym (not-false _ (a .if1 .left)) ∙ a .before .width-good .ensures) (sym (not-false _ (b .if2 .left)) ∙ b .before .number-fits .ensures)
+    (f .full-count .result) (f .full-count .ensures) (sym (not-true _ (c .if3 .taken)) ∙ c .before .room .ensures)
 
--- src/lib.rt:101:1
 returns-4 : tie.Need-returns-4
-returns-4 c = search needs
+returns-4 c =
+    let f = c .before .before in
+    let b = f .before in
+    let a = b .before .before in
+    part-none _ _ _ _ (sym (not-false _ (a .if1 .left)) ∙ a .before .width-good .ensures) (sym (not-false _ (b .if2 .left)) ∙ b .before .number-fits .ensures)
+    (f .full-count .result) (f .full-count .ensures) (sym (not-false _ (c .if3 .left)) ∙ c .before .room .ensures)
 
 pub part-refusal-spec : {M : Type 1} → statement M
 part-refusal-spec =

@@ -1,16 +1,12 @@
-use borrow.Author.Needs.{needs}
+use Rattle.register.specs.Tests.{width-zero, width-above}
 use Rattle.register.proofs.width_good.Statement.{statement}
 use Rattle.register.proofs.width_good.Tie as tie
-use Rattle.register.proofs.width_good.Reads as reads
-use Rattle.register.proofs.width_good.Lts as lts
 
--- src/lib.rt:39:9
 returns : tie.Need-returns
-returns c = search needs
+returns c = width-zero (c .before .args .width) (c .if1 .taken)
 
--- src/lib.rt:35:1
 returns-2 : tie.Need-returns-2
-returns-2 c = search needs
+returns-2 c = width-above (c .before .args .width) (c .if1 .left)
 
 pub width-good-spec : {M : Type 1} → statement M
 width-good-spec = tie.close (tie.spec returns returns-2)

@@ -1,31 +1,28 @@
 use borrow.Author.Needs.{needs}
+use Rattle.register.specs.Register.{opened-refused, opened-done}
 use Rattle.register.proofs.Register.open.Statement.{statement}
 use Rattle.register.proofs.Register.open.Tie as tie
-use Rattle.register.proofs.Register.open.Reads as reads
-use Rattle.register.proofs.Register.open.Lts as lts
-use Rattle.register.proofs.Register.empty.Reads as empty-reads
-use Rattle.register.proofs.open_refusal.Reads as open-refusal-reads
 
--- src/lib.rt:164:13
 open-refusal-requires : tie.Need-open-refusal-requires
 open-refusal-requires c κs = search needs
 
--- src/lib.rt:166:17
 empty-requires : tie.Need-empty-requires
 empty-requires c κs = search needs
 
--- src/lib.rt:167:13
 returns : tie.Need-returns
-returns c = search needs
+returns c =
+    let t = c .before in
+    opened-refused _ _ (t .before .open-refusal .result) (c .empty .result) (t .before .open-refusal .ensures) (t .if1 .taken) (c .empty .ensures)
 
--- src/lib.rt:172:13
 empty-requires-2 : tie.Need-empty-requires-2
 empty-requires-2 c κs = search needs
 
--- src/lib.rt:161:5
 returns-2 : tie.Need-returns-2
-returns-2 c = search needs
+returns-2 c =
+    let t = c .before in
+    opened-done _ _ (t .before .open-refusal .result) (c .empty2 .result) (t .before .open-refusal .ensures) (t .if1 .left) (c .empty2 .ensures)
 
 pub open-spec : {M : Type 1} → statement M
 open-spec =
-    tie.close (tie.spec open-refusal-requires empty-requires returns empty-requires-2 returns-2)
+    tie.close
+    (tie.spec open-refusal-requires empty-requires returns empty-requires-2 returns-2)
