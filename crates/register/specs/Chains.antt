@@ -34,10 +34,15 @@ or-assoc zero s t = refl
 or-assoc (suc r) s t = refl
 
 -- ---- a refused sheet refuses the call
-refused-first : (p : Parameters) (k s : ℕ) → Tests p (Tested.Refused k) → k ≡ (sheetRefusal p orElse s)
+pub sheet-refused : (p : Parameters) (k : ℕ) → Tests p (Tested.Refused k) → k ≡ 0 → ⊥
 unfolding tested
-refused-first p k s t =
-    t .number ∙ sym (or-first (sheetRefusal p) s (Nat.pos-of-ne-zero (λ z. let e : Tested.Refused k ≡ testedOf p 0 = t .answers ∙ ap (testedOf p) z in let o : _≡_ {A = ℕ} 0 1 = cc in absurd (omega arith))))
+sheet-refused p k t z =
+    let e : Tested.Refused k ≡ testedOf p 0 = t .answers ∙ ap (testedOf p) (sym (t .number) ∙ z) in
+    let o : _≡_ {A = ℕ} 0 1 = cc in
+    omega arith
+
+refused-first : (p : Parameters) (k s : ℕ) → Tests p (Tested.Refused k) → k ≡ (sheetRefusal p orElse s)
+refused-first p k s t = sym (ap (λ (n : ℕ). n orElse s) (sym (t .number)) ∙ or-first k s (Nat.pos-of-ne-zero (sheet-refused p k t)))
 
 -- ---- opening
 module _ (p : Parameters) (level : ℕ) where

@@ -3,12 +3,16 @@
 --   OpenedAs p level f    f is what opening at a level hands back
 --   FedAs p L r u f       f is what feeding u as L coefficients to r hands back
 use mathlib.Core.Path.{_≡_, refl, sym, ap, _∙_}
-use Prim.Native.Nat.{ℕ, zero, suc, _≤_}
+use mathlib.Core.List.{List}
+use Prim.Native.Nat.{ℕ, _+_, _*_, _^_, _≤_}
 use native.Mathlib.Nat as Nat
+use Rattle.polynomial.specs.Digits.{digits, value}
+use Rattle.polynomial.specs.Xor.{xor}
 use Rattle.code.specs.declared.Outcome.{Outcome}
 use Rattle.code.specs.declared.Parameters.{Parameters}
 use Rattle.code.specs.Answers.{fed-refused}
 use Rattle.code.specs.Calls.{advanced, empty, fed, fedBy, opened, outcomeNumber}
+use Rattle.code.specs.Code.{remainder}
 use Rattle.code.specs.Refusals.{feedRefusal, openRefusal}
 use Rattle.code.specs.Register as Value
 use Rattle.register.specs.Chains.{feed-le, open-le}
@@ -41,6 +45,11 @@ fed-eq : (p : Parameters) (L : ℕ) (r : Value.Register) (u : ℕ) → fed p L r
 unfolding fed
 fed-eq p L r u = refl
 
+advanced-eq : (p : Parameters) (L : ℕ) (r : Value.Register) (u : ℕ)
+    → advanced p L r u ≡ record { level = r .level; count = r .count + L; remainder = digits 64 12 (remainder p (r .level) (xor (value 64 (r .remainder) * 2 ^ L) u)) }
+unfolding advanced
+advanced-eq p L r u = refl
+
 -- ---- beside a refusal k, and beside none
 module _ (k : ℕ) (next old : Value.Register) (refusal : ℕ) (e : k ≡ refusal) where
   by-refused : (k ≡ 0 → ⊥) → record { outcome = Outcome.Refused k; register = old } ≡ fedBy refusal next old
@@ -72,11 +81,15 @@ module _ (p : Parameters) (L : ℕ) (r : Register) (u k : ℕ) (e : k ≡ feedRe
     small = feed-le p L (valueOf r) u;
   }
 
-  pub feeding-done : (next : Register) → k ≡ 0 → valueOf next ≡ advanced p L (valueOf r) u → FedAs p L r u (record { outcome = Outcome.Done; register = next })
-  feeding-done next z f = record {
+  pub feeding-done : (g : List ℕ) → k ≡ 0 → g ≡ digits 64 12 (remainder p (r .level) (xor (value 64 (r .remainder) * 2 ^ L) u))
+      → FedAs p L r u (record { outcome = Outcome.Done; register = record { level = r .level; count = r .count + L; remainder = g } })
+  feeding-done g z f = record {
     answers =
-        ap (λ (x : Value.Register). record { outcome = Outcome.Done; register = x }) f
+        ap (λ (x : Value.Register). record { outcome = Outcome.Done; register = x }) (next-is f)
         ∙ by-done k (advanced p L (valueOf r) u) (valueOf r) (feedRefusal p L (valueOf r) u) e z ∙ sym (fed-eq p L (valueOf r) u);
     number = sym z ∙ e;
     small = feed-le p L (valueOf r) u;
   }
+    where
+      next-is : g ≡ digits 64 12 (remainder p (r .level) (xor (value 64 (r .remainder) * 2 ^ L) u)) → record { level = r .level; count = r .count + L; remainder = g } ≡ advanced p L (valueOf r) u
+      next-is f = ap (λ (x : List ℕ). record { level = r .level; count = r .count + L; remainder = x }) f ∙ sym (advanced-eq p L (valueOf r) u)

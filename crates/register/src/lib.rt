@@ -1,7 +1,7 @@
 // The register: opened empty at a level, then fed coefficients, highest power first. Each feeding hands back the register that the next one takes.
 ghost use mathlib.Core.Path.{_≡_};
 ghost use mathlib.Core.Bool.{not};
-ghost use Prim.Native.Nat.{ℕ, _+_, _*_, _^_, _≤_, _<_};
+ghost use Prim.Native.Nat.{_+_, _*_, _^_, _≤_, _<_};
 ghost use lib.Dec.{leb, ltb};
 ghost use lib.ListN.{length};
 ghost use Rattle.polynomial.specs.Digits.{value, digits};
@@ -132,7 +132,15 @@ fn low_words(r: &[u64]) -> [u64; 12]
 }
 
 // The remainder of f x^l + u by level a's generator, of degree w; f lies below x^w.
-fn advance(p: Parameters, rows: [[u64; 13]; 4], a: usize, w: usize, f: [u64; 12], u: u64, l: usize) -> [u64; 12]
+fn advance(
+    p: Parameters,
+    rows: [[u64; 13]; 4],
+    a: usize,
+    w: usize,
+    f: [u64; 12],
+    u: u64,
+    l: usize,
+) -> [u64; 12]
     requires { ⌜ Accepted p × (rows ≡ generators p) × (a ≤ p .v) × (w ≡ degree p a) × (value 64 f < 2 ^ w) × (1 ≤ l) × (l ≤ 64) ⌝ }
     ensures { λ r. ⌜ r ≡ digits 64 12 (remainder p a (xor (value 64 f * 2 ^ l) u)) ⌝ }
 {

@@ -1,5 +1,5 @@
 use borrow.Author.Needs.{needs}
-use mathlib.Core.Path.{_≡_, sym}
+use mathlib.Core.Path.{sym}
 use Rattle.register.specs.Chains.{open-sheet, open-above, open-none}
 use Rattle.register.proofs.open_refusal.Statement.{statement}
 use Rattle.register.proofs.open_refusal.Tie as tie

@@ -1,6 +1,6 @@
 use borrow.Author.Needs.{needs}
 use borrow.Author.Tests.{not-true, not-false}
-use mathlib.Core.Path.{_≡_, sym, _∙_}
+use mathlib.Core.Path.{sym, _∙_}
 use Rattle.register.specs.Chains.{width-of, part-width, part-stray, part-full, part-none}
 use Rattle.register.proofs.part_refusal.Statement.{statement}
 use Rattle.register.proofs.part_refusal.Tie as tie

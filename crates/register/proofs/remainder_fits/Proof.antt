@@ -1,5 +1,5 @@
 use borrow.Author.Needs.{needs}
-use mathlib.Core.Path.{_≡_, _∙_}
+use mathlib.Core.Path.{_∙_}
 use Rattle.register.specs.Tests.{words-short, words-bit, words-rest}
 use Rattle.register.proofs.remainder_fits.Statement.{statement}
 use Rattle.register.proofs.remainder_fits.Tie as tie
