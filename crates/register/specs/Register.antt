@@ -1,5 +1,6 @@
 -- The declared register as the definitions' value, and what opening and feeding promise.
 --   valueOf r             the register r, field by field; fedOf f likewise what a call hands back
+--   refusedWith k r       the register r beside the refusal k
 --   OpenedAs p level f    f is what opening at a level hands back
 --   FedAs p L r u f       f is what feeding u as L coefficients to r hands back
 use mathlib.Core.Path.{_≡_, refl, sym, ap, _∙_}
@@ -24,6 +25,9 @@ valueOf r = record { level = r .level; count = r .count; remainder = r .remainde
 
 abbrev pub fedOf : Fed → Value.Fed
 fedOf f = record { outcome = f .outcome; register = valueOf (f .register) }
+
+abbrev pub refusedWith : ℕ → Register → Fed
+refusedWith k r = record { outcome = Outcome.Refused k; register = r }
 
 -- a refusal's number is 1 to 12
 pub record OpenedAs (p : Parameters) (level : ℕ) (f : Fed) : Type 0 where
@@ -59,37 +63,37 @@ module _ (k : ℕ) (next old : Value.Register) (refusal : ℕ) (e : k ≡ refusa
   by-done z = sym (ap (λ (n : ℕ). fedBy n next old) (sym e ∙ z))
 
 module _ (p : Parameters) (level k : ℕ) (r : Register) (e : k ≡ openRefusal p level) where
-  pub opened-refused : (k ≡ 0 → ⊥) → valueOf r ≡ empty 0 → OpenedAs p level (record { outcome = Outcome.Refused k; register = r })
-  opened-refused h f = record {
-    answers = ap (λ (x : Value.Register). record { outcome = Outcome.Refused k; register = x }) f ∙ by-refused k (empty level) (empty 0) (openRefusal p level) e h ∙ sym (opened-eq p level);
-    number = e;
-    small = open-le p level;
-  }
+  pub opened-refused : (f : Fed) → f ≡ refusedWith k r → (k ≡ 0 → ⊥) → valueOf r ≡ empty 0 → OpenedAs p level f
+  opened-refused f is h i =
+      rw is (record {
+        answers = ap (λ (x : Value.Register). record { outcome = Outcome.Refused k; register = x }) i ∙ by-refused k (empty level) (empty 0) (openRefusal p level) e h ∙ sym (opened-eq p level);
+        number = e;
+        small = open-le p level;
+      })
 
   pub opened-done : k ≡ 0 → valueOf r ≡ empty level → OpenedAs p level (record { outcome = Outcome.Done; register = r })
-  opened-done z f = record {
-    answers = ap (λ (x : Value.Register). record { outcome = Outcome.Done; register = x }) f ∙ by-done k (empty level) (empty 0) (openRefusal p level) e z ∙ sym (opened-eq p level);
+  opened-done z i = record {
+    answers = ap (λ (x : Value.Register). record { outcome = Outcome.Done; register = x }) i ∙ by-done k (empty level) (empty 0) (openRefusal p level) e z ∙ sym (opened-eq p level);
     number = sym z ∙ e;
     small = open-le p level;
   }
 
 module _ (p : Parameters) (L : ℕ) (r : Register) (u k : ℕ) (e : k ≡ feedRefusal p L (valueOf r) u) where
-  pub feeding-refused : (k ≡ 0 → ⊥) → FedAs p L r u (record { outcome = Outcome.Refused k; register = r })
-  feeding-refused h = record {
-    answers = by-refused k (advanced p L (valueOf r) u) (valueOf r) (feedRefusal p L (valueOf r) u) e h ∙ sym (fed-eq p L (valueOf r) u);
-    number = e;
-    small = feed-le p L (valueOf r) u;
-  }
+  pub feeding-refused : (f : Fed) → f ≡ refusedWith k r → (k ≡ 0 → ⊥) → FedAs p L r u f
+  feeding-refused f is h =
+      rw is (record {
+        answers = by-refused k (advanced p L (valueOf r) u) (valueOf r) (feedRefusal p L (valueOf r) u) e h ∙ sym (fed-eq p L (valueOf r) u);
+        number = e;
+        small = feed-le p L (valueOf r) u;
+      })
 
   pub feeding-done : (g : List ℕ) → k ≡ 0 → g ≡ digits 64 12 (remainder p (r .level) (xor (value 64 (r .remainder) * 2 ^ L) u))
       → FedAs p L r u (record { outcome = Outcome.Done; register = record { level = r .level; count = r .count + L; remainder = g } })
-  feeding-done g z f = record {
+  feeding-done g z i = record {
     answers =
-        ap (λ (x : Value.Register). record { outcome = Outcome.Done; register = x }) (next-is f)
+        ap (λ (x : List ℕ). record { outcome = Outcome.Done; register = record { level = r .level; count = r .count + L; remainder = x } }) i
+        ∙ ap (λ (x : Value.Register). record { outcome = Outcome.Done; register = x }) (sym (advanced-eq p L (valueOf r) u))
         ∙ by-done k (advanced p L (valueOf r) u) (valueOf r) (feedRefusal p L (valueOf r) u) e z ∙ sym (fed-eq p L (valueOf r) u);
     number = sym z ∙ e;
     small = feed-le p L (valueOf r) u;
   }
-    where
-      next-is : g ≡ digits 64 12 (remainder p (r .level) (xor (value 64 (r .remainder) * 2 ^ L) u)) → record { level = r .level; count = r .count + L; remainder = g } ≡ advanced p L (valueOf r) u
-      next-is f = ap (λ (x : List ℕ). record { level = r .level; count = r .count + L; remainder = x }) f ∙ sym (advanced-eq p L (valueOf r) u)

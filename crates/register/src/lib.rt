@@ -10,8 +10,8 @@ ghost use Rattle.code.specs.Calls.{empty, generators};
 ghost use Rattle.code.specs.Code.{degree, remainder};
 ghost use Rattle.code.specs.Parameters.{Accepted, full};
 ghost use Rattle.code.specs.Refusals.{badWidth, openRefusal};
-ghost use Rattle.register.specs.Chains.{partRefusal};
-ghost use Rattle.register.specs.Register.{valueOf, OpenedAs, FedAs};
+ghost use Rattle.register.specs.Chains.{numbersRefusal};
+ghost use Rattle.register.specs.Register.{valueOf, refusedWith, OpenedAs, FedAs};
 use code::Outcome;
 use code::Parameters;
 use code::Tested;
@@ -57,7 +57,7 @@ fn full_count(p: Parameters) -> u64
     (1 << p.q) - 1
 }
 
-// `width` more after `count` are not above n.
+// count + width is not above n. The sum of any two numbers may not fit, so n - count is compared.
 fn room(count: u64, width: u64, n: u64) -> bool
     ensures { λ r. ⌜ r ≡ leb (count + width) n ⌝ }
 {
@@ -97,10 +97,10 @@ fn open_refusal(p: Parameters, level: u32) -> u8
     k
 }
 
-// For accepted parameters, u as `width` coefficients after `count`: 5, 8, 11, or 0.
-fn part_refusal(p: Parameters, width: u32, count: u64, u: u64) -> u8
+// For accepted parameters, u as `width` coefficients after `count` at a level: 5, 8, 11, 12 for the level, or 0.
+fn numbers_refusal(p: Parameters, width: u32, level: u32, count: u64, u: u64) -> u8
     requires { ⌜ Accepted p ⌝ }
-    ensures { λ r. ⌜ r ≡ partRefusal p width count u ⌝ }
+    ensures { λ r. ⌜ r ≡ numbersRefusal p width level count u ⌝ }
 {
     if !width_good(width) {
         return 5;
@@ -111,6 +111,9 @@ fn part_refusal(p: Parameters, width: u32, count: u64, u: u64) -> u8
     let n = full_count(p);
     if !room(count, width as u64, n) {
         return 11;
+    }
+    if p.v < level {
+        return 12;
     }
     0
 }
@@ -165,22 +168,27 @@ impl Register {
         }
     }
 
+    // The register as it is, beside a refusal.
+    fn refused(self, k: u8) -> Fed
+        ensures { λ r. ⌜ r ≡ refusedWith k self ⌝ }
+    {
+        Fed {
+            outcome: Outcome::Refused(k),
+            register: self,
+        }
+    }
+
     // The empty register of a level; beside a refusal that of level 0.
     pub fn open(p: Parameters, level: u32) -> Fed
         ensures { λ r. ⌜ OpenedAs p level r ⌝ }
     {
         let k = open_refusal(p, level);
         if k != 0 {
-            let none = Register::empty(0);
-            return Fed {
-                outcome: Outcome::Refused(k),
-                register: none,
-            };
+            return Register::empty(0).refused(k);
         }
-        let opened = Register::empty(level);
         Fed {
             outcome: Outcome::Done,
-            register: opened,
+            register: Register::empty(level),
         }
     }
 
@@ -189,20 +197,11 @@ impl Register {
         requires { ⌜ Accepted p ⌝ }
         ensures { λ r. ⌜ FedAs p width self u r ⌝ }
     {
-        let count = self.count;
-        let k = part_refusal(p, width, count, u);
-        if k != 0 {
-            return Fed {
-                outcome: Outcome::Refused(k),
-                register: self,
-            };
-        }
         let level = self.level;
-        if p.v < level {
-            return Fed {
-                outcome: Outcome::Refused(12),
-                register: self,
-            };
+        let count = self.count;
+        let k = numbers_refusal(p, width, level, count, u);
+        if k != 0 {
+            return self.refused(k);
         }
         let a = level as usize;
         let rows = generators::rows(p);
@@ -211,10 +210,7 @@ impl Register {
         let mut next = self;
         next.count = count + width as u64;
         if !remainder_fits(&f, w) {
-            return Fed {
-                outcome: Outcome::Refused(12),
-                register: self,
-            };
+            return self.refused(12);
         }
         let g = advance(p, rows, a, w, f, u, width as usize);
         next.remainder = g;
@@ -232,9 +228,6 @@ impl Register {
         let Tested::Refused(k) = tested else {
             return self.feed_by(p, width, u);
         };
-        Fed {
-            outcome: Outcome::Refused(k),
-            register: self,
-        }
+        self.refused(k)
     }
 }

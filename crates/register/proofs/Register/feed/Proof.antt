@@ -20,14 +20,18 @@ feed-by-requires c κs = sym ((rw (c .enum-told .given .1) at (c .before .before
 returns : tie.Need-returns
 returns c = search needs
 
+refused-requires : tie.Need-refused-requires
+refused-requires c κs = search needs
+
 returns-2 : tie.Need-returns-2
 returns-2 c =
-    let b = c .before .before .before in
-    let t = rw (c .before .tested .given .1) at (b .test .ensures) in
+    let d = c .before .before in
+    let b = d .before .before in
+    let t = rw (d .tested .given .1) at (b .test .ensures) in
     let s = b .before .args in
-    feeding-refused (s .p) (s .width) (s .self) (s .u) _ (feed-sheet (s .p) (s .width) (valueOf (s .self)) (s .u) _ t) (sheet-refused (s .p) _ t)
+    feeding-refused (s .p) (s .width) (s .self) (s .u) _ (feed-sheet (s .p) (s .width) (valueOf (s .self)) (s .u) _ t) _ (c .refused .ensures) (sheet-refused (s .p) _ t)
 
 pub feed-spec : {M : Type 1} → statement M
 feed-spec =
     tie.close
-    (tie.spec test-requires enum-known-tested enum-told feed-by-requires returns returns-2)
+    (tie.spec test-requires enum-known-tested enum-told feed-by-requires returns refused-requires returns-2)
