@@ -1,0 +1,12 @@
+use Rattle.register.specs.Tests.{width-zero, width-above}
+use Rattle.register.proofs.width_good.Statement.{statement}
+use Rattle.register.proofs.width_good.Tie as tie
+
+returns : tie.Need-returns
+returns c = width-zero (c .before .args .width) (c .if1 .taken)
+
+returns-2 : tie.Need-returns-2
+returns-2 c = width-above (c .before .args .width) (c .if1 .left)
+
+pub width-good-spec : {M : Type 1} → statement M
+width-good-spec = tie.close (tie.spec returns returns-2)
