@@ -183,7 +183,7 @@ if __name__ == '__main__':
     tests()
     nestings()
     elements()
-    # registers()
+    registers()
     # one_word()
     room = Path(sys.argv[1])
     (room / 'stdin').write_bytes(given)

@@ -11,6 +11,8 @@ use element::Element;
 use element::Field;
 use element::Made;
 use libc::STDOUT_FILENO;
+use register::Fed;
+use register::Register;
 
 // ---- numbers, low byte first
 
@@ -140,6 +142,46 @@ fn elements(q: u32, a: u16, b: u16, k: u32) {
     put_computed(f.alpha_power(k));
 }
 
+fn words_of(b: &[u8]) -> [u64; 12] {
+    let mut r = [0u64; 12];
+    if b.len() < 96 {
+        return r;
+    }
+    let mut k: usize = 0;
+    while k < 12 {
+        let at = 8 * k;
+        let end = at + 8;
+        r[k] = number(&b[at..end]);
+        k += 1;
+    }
+    r
+}
+
+fn put_fed(f: Fed) {
+    let outcome = f.outcome;
+    put_outcome(outcome);
+    let r = f.register;
+    put_number(r.level as u64);
+    put_number(r.count);
+    let words = r.remainder;
+    put_numbers(&words);
+}
+
+fn open(p: Parameters, level: u32) {
+    let f = Register::open(p, level);
+    put_fed(f);
+}
+
+fn feed(p: Parameters, level: u32, count: u64, rest: &[u8], width: u32, u: u64) {
+    let r = Register {
+        level: level,
+        count: count,
+        remainder: words_of(rest),
+    };
+    let f = r.feed(p, width, u);
+    put_fed(f);
+}
+
 // Byte k of a record, 0 past its end.
 fn byte(h: &[u8], k: usize) -> u32 {
     if k < h.len() {
@@ -178,6 +220,12 @@ fn run(h: &[u8], page: &[u8], size: usize) {
     }
     if call == 3 {
         elements(p.q, (u % 65536) as u16, (count % 65536) as u16, width);
+    }
+    if call == 4 {
+        open(p, byte(h, 8));
+    }
+    if call == 5 {
+        feed(p, byte(h, 8), count, page, width, u);
     }
 }
 
