@@ -21,7 +21,7 @@ use Rattle.layout.specs.Sizes.{check-low}
 use Rattle.level.specs.Ready.{Prepared, degree-most, table-remainder}
 
 -- the k lower words of a number
-pub take-digits : (w k : ℕ) (l : List ℕ) → Bounded w l → k ≤ length l → take k l ≡ digits w k (value w l)
+take-digits : (w k : ℕ) (l : List ℕ) → Bounded w l → k ≤ length l → take k l ≡ digits w k (value w l)
 take-digits w k l b h =
     let e : length (take k l) ≡ k = length-take-le k l h in
     ext-getD 0 (take k l) (digits w k (value w l)) (e ∙ sym (length-digits w k (value w l)))

@@ -57,7 +57,7 @@ fn full_count(p: Parameters) -> u64
     (1 << p.q) - 1
 }
 
-// count + width is not above n. The sum of any two numbers may not fit, so n - count is compared.
+// count + width is not above n. The count may be any number, so the sum is not formed.
 fn room(count: u64, width: u64, n: u64) -> bool
     ensures { λ r. ⌜ r ≡ leb (count + width) n ⌝ }
 {

@@ -30,7 +30,8 @@ returns-3 c =
     let f = c .before .before in
     let b = f .before in
     let a = b .before .before in
-    numbers-full _ _ _ _ _ (sym (not-false _ (a .if1 .left)) ∙ a .before .width-good .ensures) (sym (not-false _ (b .if2 .left)) ∙ b .before .number-fits .ensures)
+    let s = a .before .before .args in
+    numbers-full (s .p) (s .width) (s .level) (s .count) (s .u) (sym (not-false _ (a .if1 .left)) ∙ a .before .width-good .ensures) (sym (not-false _ (b .if2 .left)) ∙ b .before .number-fits .ensures)
     (f .full-count .result) (f .full-count .ensures) (sym (not-true _ (c .if3 .taken)) ∙ c .before .room .ensures)
 
 returns-4 : tie.Need-returns-4
@@ -39,7 +40,8 @@ returns-4 c =
     let f = e .before .before in
     let b = f .before in
     let a = b .before .before in
-    numbers-level _ _ _ _ _ (sym (not-false _ (a .if1 .left)) ∙ a .before .width-good .ensures) (sym (not-false _ (b .if2 .left)) ∙ b .before .number-fits .ensures)
+    let s = a .before .before .args in
+    numbers-level (s .p) (s .width) (s .level) (s .count) (s .u) (sym (not-false _ (a .if1 .left)) ∙ a .before .width-good .ensures) (sym (not-false _ (b .if2 .left)) ∙ b .before .number-fits .ensures)
     (f .full-count .result) (f .full-count .ensures) (sym (not-false _ (e .if3 .left)) ∙ e .before .room .ensures) (c .if4 .taken)
 
 returns-5 : tie.Need-returns-5
@@ -48,7 +50,8 @@ returns-5 c =
     let f = e .before .before in
     let b = f .before in
     let a = b .before .before in
-    numbers-none _ _ _ _ _ (sym (not-false _ (a .if1 .left)) ∙ a .before .width-good .ensures) (sym (not-false _ (b .if2 .left)) ∙ b .before .number-fits .ensures)
+    let s = a .before .before .args in
+    numbers-none (s .p) (s .width) (s .level) (s .count) (s .u) (sym (not-false _ (a .if1 .left)) ∙ a .before .width-good .ensures) (sym (not-false _ (b .if2 .left)) ∙ b .before .number-fits .ensures)
     (f .full-count .result) (f .full-count .ensures) (sym (not-false _ (e .if3 .left)) ∙ e .before .room .ensures) (c .if4 .left)
 
 pub numbers-refusal-spec : {M : Type 1} → statement M
