@@ -6,10 +6,13 @@ use native.Mathlib.Nat as Nat
 use native.Mathlib.Omega.{arith}
 use lib.ListN.{length}
 use Rattle.code.specs.declared.Outcome.{Outcome}
+use Rattle.code.specs.declared.Parameters.{Parameters}
+use Rattle.code.specs.declared.Tested.{Tested}
 use Rattle.code.specs.declared.Verdict.{Verdict}
 use Rattle.code.specs.Register.{Register}
 use Rattle.code.specs.Calls.{Made, fedBy, leaves, outcome, unlessRefused}
 use Rattle.code.specs.Lists.{_orElse_}
+use Rattle.code.specs.Parameters.{Tests, sheetRefusal, tested, testedOf}
 
 -- ---- chains
 pub or-first : (r s : ℕ) → 0 < r → (r orElse s) ≡ r
@@ -20,12 +23,21 @@ pub or-second : (r s : ℕ) → r ≡ 0 → (r orElse s) ≡ s
 or-second zero s e = refl
 or-second (suc r) s e = absurd (Nat.suc-ne-zero r e)
 
+-- ---- a refused sheet's number is above 0
+tested-pos : (p : Parameters) (r k : ℕ) → testedOf p r ≡ Tested.Refused k → 0 < k
+tested-pos p zero k e = let z : _≡_ {A = ℕ} 0 1 = cc in absurd (omega arith)
+tested-pos p (suc r) k e = let f : suc r ≡ k = cc in omega arith
+
+pub sheet-pos : (p : Parameters) (k : ℕ) → Tests p (Tested.Refused k) → 0 < k
+unfolding tested
+sheet-pos p k t = tested-pos p (sheetRefusal p) k (sym (t .answers))
+
 -- ---- a refusal k above 0 leaves the buffer as it was
 pub outcome-refused : (r : ℕ) → 0 < r → outcome r ≡ Outcome.Refused r
 outcome-refused zero h = absurd (Nat.not-suc-le-zero h)
 outcome-refused (suc r) h = refl
 
-leaves-refused : (r : ℕ) (x old : List ℕ) → 0 < r → leaves r x old ≡ old
+pub leaves-refused : (r : ℕ) (x old : List ℕ) → 0 < r → leaves r x old ≡ old
 leaves-refused zero x old h = absurd (Nat.not-suc-le-zero h)
 leaves-refused (suc r) x old h = refl
 

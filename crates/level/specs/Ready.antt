@@ -23,7 +23,7 @@ use Rattle.code.specs.Buffers.{row-back, row-length}
 use Rattle.code.specs.Calls.{generators}
 use Rattle.code.specs.Code.{gen, degree, remainder}
 use Rattle.code.specs.Parameters.{Accepted}
-use Rattle.layout.specs.Sizes.{Degrees}
+use Rattle.layout.specs.Sizes.{Degrees, check-low}
 
 pub record RowOf (p : Parameters) (a : ℕ) (g : List ℕ) : Type 0 where
   pub words : length g ≡ 13
@@ -51,6 +51,10 @@ module _ (p : Parameters) (A : Accepted p) where
 
   pub degree-most : (a : ℕ) → a ≤ p .v → degree p a ≤ 768
   degree-most a h = degree-high p R a h
+
+  -- every level has a root
+  pub degree-low : (a : ℕ) → a ≤ p .v → 1 ≤ degree p a
+  degree-low a h = let e : p .v - (p .v - a) ≡ a = omega arith in rw e at (check-low p A (p .v - a))
 
   pub gen-pos : (a : ℕ) → a ≤ p .v → 0 < gen p a
   gen-pos a h = deg-pos (gen p a) (degree p a) (degree-of a h)

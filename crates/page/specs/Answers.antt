@@ -1,12 +1,12 @@
 -- The answers of judge and read out, by what the program found.
 use mathlib.Core.Path.{_≡_, refl, sym, ap, _∙_}
 use mathlib.Core.List.{List}
-use Prim.Native.Nat.{ℕ, zero, suc, _<_}
+use Prim.Native.Nat.{ℕ, _<_}
 use native.Mathlib.Nat as Nat
 use lib.ListN.{length}
 use Rattle.code.specs.declared.Parameters.{Parameters}
 use Rattle.code.specs.declared.Verdict.{Verdict}
-use Rattle.code.specs.Answers.{verdict-refused}
+use Rattle.code.specs.Answers.{leaves-refused, verdict-refused}
 use Rattle.code.specs.Calls.{Judged, ReadOut, judgeAnswer, readAnswer, readLeaves, unlessRefused, leaves, verdictNumber}
 use Rattle.code.specs.Code.{verdict}
 use Rattle.code.specs.Layout.{dataOf, wordsOf}
@@ -37,17 +37,13 @@ module _ (p : Parameters) (x : List ℕ) where
     unfolding readLeaves
     leaves-eq = refl
 
-    kept : (k : ℕ) → 0 < k → leaves k (dataOf p x) b ≡ b
-    kept zero h = absurd (Nat.not-suc-le-zero h)
-    kept (suc k) h = refl
-
     read-by : (r : Verdict) (y : List ℕ) → r ≡ readAnswer p x b → y ≡ readLeaves p x b → ReadOut p x b y r
     read-by r y e f = record { answers = e; number = ap verdictNumber e; small = read-le p x (length b); buffer = f }
 
     pub read-refused : (k : ℕ) → k ≡ readRefusal p x (length b) → 0 < k → ReadOut p x b b (Verdict.Refused k)
     read-refused k e h =
         read-by (Verdict.Refused k) b (sym (read-eq ∙ ap (λ (r : ℕ). unlessRefused r (verdict p (wordsOf p x))) (sym e) ∙ verdict-refused k (verdict p (wordsOf p x)) h))
-        (sym (leaves-eq ∙ ap (λ (r : ℕ). leaves r (dataOf p x) b) (sym e) ∙ kept k h))
+        (sym (leaves-eq ∙ ap (λ (r : ℕ). leaves r (dataOf p x) b) (sym e) ∙ leaves-refused k (dataOf p x) b h))
 
     pub read-done : (r : Verdict) (y : List ℕ) → readRefusal p x (length b) ≡ 0 → r ≡ verdict p (wordsOf p x) → y ≡ dataOf p x → ReadOut p x b y r
     read-done r y z e f =

@@ -8,13 +8,12 @@ use lib.ListN.{length}
 use Rattle.code.specs.declared.Parameters.{Parameters}
 use Rattle.code.specs.declared.Tested.{Tested}
 use Rattle.code.specs.Accepted.{none}
-use Rattle.code.specs.Answers.{or-first, or-second}
+use Rattle.code.specs.Answers.{or-first, or-second, sheet-pos}
 use Rattle.code.specs.Layout.{dataBytes, pageBytes, pageClear}
 use Rattle.code.specs.Lists.{_when_, _orElse_}
 use Rattle.code.specs.Parameters.{sheetRefusal, Tests}
 use Rattle.code.specs.Refusals.{readRefusal, readLengths, notExact}
 use Rattle.code.specs.Refused.{or-zero, or-none}
-use Rattle.refusal.specs.Judging.{sheet-pos}
 
 -- a length that is not refused is exact
 exact : (c k e : ℕ) → (suc c when notExact k e) ≡ 0 → k ≡ e
@@ -45,8 +44,8 @@ module _ (p : Parameters) (x b : List ℕ) where
   pub read-sheet : (k : ℕ) → Tests p (Tested.Refused k) → k ≡ readRefusal p x (length b)
   read-sheet k t =
       let e : k ≡ sheetRefusal p = t .number in
-      let h : 0 < sheetRefusal p = rw (← e) (sheet-pos p x k t) in
-      read-length k (e ∙ sym (lengths-eq ∙ or-first (sheetRefusal p) sizes h)) (sheet-pos p x k t)
+      let h : 0 < sheetRefusal p = rw (← e) (sheet-pos p k t) in
+      read-length k (e ∙ sym (lengths-eq ∙ or-first (sheetRefusal p) sizes h)) (sheet-pos p k t)
 
   sizes-zero : readLengths p (length x) (length b) ≡ 0 → sizes ≡ 0
   sizes-zero e = or-none (sheetRefusal p) sizes (sym lengths-eq ∙ e) .1

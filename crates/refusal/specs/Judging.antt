@@ -10,10 +10,10 @@ use lib.ListN.{length}
 use Rattle.code.specs.declared.Parameters.{Parameters}
 use Rattle.code.specs.declared.Tested.{Tested}
 use Rattle.code.specs.Accepted.{none}
-use Rattle.code.specs.Answers.{or-first, or-second}
+use Rattle.code.specs.Answers.{or-first, or-second, sheet-pos}
 use Rattle.code.specs.Layout.{pageBytes, pageClear}
 use Rattle.code.specs.Lists.{_when_, _orElse_}
-use Rattle.code.specs.Parameters.{sheetRefusal, Accepted, Tests, tested, testedOf, testedNumber}
+use Rattle.code.specs.Parameters.{sheetRefusal, Accepted, Tests}
 use Rattle.code.specs.Refusals.{judgeRefusal, judgeLengths, notExact}
 use Rattle.code.specs.Refused.{or-zero, or-none}
 
@@ -37,18 +37,10 @@ module _ (p : Parameters) (x : List ℕ) where
   judge-stray e h = sym (judge-eq ∙ or-second (judgeLengths p (length x)) (8 when not (pageClear p x)) e ∙ ap (λ (b : Bool). 8 when not b) (sym h))
 
   -- a refused sheet refuses the call
-  refused-pos : (r k : ℕ) → testedOf p r ≡ Tested.Refused k → 0 < k
-  refused-pos zero k e = let z : _≡_ {A = ℕ} 0 1 = cc in absurd (omega arith)
-  refused-pos (suc r) k e = let f : suc r ≡ k = cc in omega arith
-
-  pub sheet-pos : (k : ℕ) → Tests p (Tested.Refused k) → 0 < k
-  unfolding tested
-  sheet-pos k t = refused-pos (sheetRefusal p) k (sym (t .answers))
-
   pub judge-sheet : (k : ℕ) → Tests p (Tested.Refused k) → k ≡ judgeRefusal p x
   judge-sheet k t =
       let e : k ≡ sheetRefusal p = t .number in
-      let h : 0 < sheetRefusal p = rw (← e) (sheet-pos k t) in
+      let h : 0 < sheetRefusal p = rw (← e) (sheet-pos p k t) in
       let l : judgeLengths p (length x) ≡ sheetRefusal p = lengths-eq ∙ or-first (sheetRefusal p) (7 when notExact (length x) (pageBytes p)) h in
       e ∙ sym l ∙ sym (judge-eq ∙ or-first (judgeLengths p (length x)) (8 when not (pageClear p x)) (rw l h))
 

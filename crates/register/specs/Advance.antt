@@ -17,8 +17,7 @@ use Rattle.words.specs.Value.{Bounded, bounded-all}
 use Rattle.code.specs.declared.Parameters.{Parameters}
 use Rattle.code.specs.Code.{degree, remainder}
 use Rattle.code.specs.Parameters.{Accepted}
-use Rattle.layout.specs.Sizes.{check-low}
-use Rattle.level.specs.Ready.{Prepared, degree-most, table-remainder}
+use Rattle.level.specs.Ready.{Prepared, degree-low, degree-most, table-remainder}
 
 -- the k lower words of a number
 take-digits : (w k : ℕ) (l : List ℕ) → Bounded w l → k ≤ length l → take k l ≡ digits w k (value w l)
@@ -40,12 +39,8 @@ moved : (f u l s : ℕ) → xor (f * 2 ^ s * 2 ^ l) (u * 2 ^ s) ≡ xor (f * 2 ^
 moved f u l s = ap (λ (x : ℕ). xor x (u * 2 ^ s)) (Nat.mul-right-comm f (2 ^ s) (2 ^ l)) ∙ sym (xor-shl s (f * 2 ^ l) u)
 
 module _ (p : Parameters) (A : Accepted p) (a w : ℕ) (h : a ≤ p .v) (e : w ≡ degree p a) where
-  -- every level has a root, so a degree of at least 1
   pub place-lt : 768 - w < 768
-  place-lt =
-      let i : p .v - (p .v - a) ≡ a = omega arith in
-      let d : 1 ≤ degree p a = rw i at (check-low p A (p .v - a)) in
-      omega arith
+  place-lt = omega (arith, degree-low p A a h)
 
   pub degree-fits : w ≤ 768
   degree-fits = rw e (degree-most p A a h)

@@ -13,10 +13,10 @@ use Rattle.polynomial.specs.Digits.{value}
 use Rattle.code.specs.declared.Parameters.{Parameters}
 use Rattle.code.specs.declared.Tested.{Tested}
 use Rattle.code.specs.Accepted.{last, neither, nonzero}
-use Rattle.code.specs.Answers.{or-first, or-second}
+use Rattle.code.specs.Answers.{or-first, or-second, sheet-pos}
 use Rattle.code.specs.Code.{degree}
 use Rattle.code.specs.Lists.{_when_, _orElse_}
-use Rattle.code.specs.Parameters.{Accepted, Tests, full, sheetRefusal, tested, testedOf}
+use Rattle.code.specs.Parameters.{Accepted, Tests, full, sheetRefusal}
 use Rattle.code.specs.Refusals.{badWidth, feedRefusal, openRefusal}
 use Rattle.code.specs.Refused.{Width, or-le, or-none, sheet-le, when-le}
 use Rattle.code.specs.Register.{Register}
@@ -47,14 +47,10 @@ when-or c false b = refl
 
 -- ---- a refused sheet refuses the call
 pub sheet-refused : (p : Parameters) (k : ℕ) → Tests p (Tested.Refused k) → k ≡ 0 → ⊥
-unfolding tested
-sheet-refused p k t z =
-    let e : Tested.Refused k ≡ testedOf p 0 = t .answers ∙ ap (testedOf p) (sym (t .number) ∙ z) in
-    let o : _≡_ {A = ℕ} 0 1 = cc in
-    omega arith
+sheet-refused p k t z = Nat.not-suc-le-zero (rw z at (sheet-pos p k t))
 
 refused-first : (p : Parameters) (k s : ℕ) → Tests p (Tested.Refused k) → k ≡ (sheetRefusal p orElse s)
-refused-first p k s t = sym (ap (λ (n : ℕ). n orElse s) (sym (t .number)) ∙ or-first k s (Nat.pos-of-ne-zero (sheet-refused p k t)))
+refused-first p k s t = sym (ap (λ (n : ℕ). n orElse s) (sym (t .number)) ∙ or-first k s (sheet-pos p k t))
 
 -- ---- opening
 module _ (p : Parameters) (level : ℕ) where

@@ -17,7 +17,7 @@ use Rattle.code.specs.Layout.{Bytes, IsPage, pageBytes, pageClear, wordsOf}
 use Rattle.code.specs.Pages.{IsWords, page-words}
 use Rattle.code.specs.Parameters.{Accepted, len, stored, subWordBytes}
 use Rattle.layout.specs.Parts.{word-at, word-room}
-use Rattle.layout.specs.Sizes.{check-low, page-high}
+use Rattle.layout.specs.Sizes.{page-high}
 use Rattle.level.specs.Ready.{Prepared, table-remainder, degree-most}
 use Rattle.verdict.specs.Search.{firstFrom}
 
@@ -41,10 +41,6 @@ pub is-page : (p : Parameters) (x : List ℕ) → ((i : ℕ) → getD x i 0 < 2 
 is-page p x b e c = record { bytes = at-all (λ d. d < 256) x (λ i h. b i); exact = e; clear = c }
 
 module _ (p : Parameters) (A : Accepted p) where
-  -- every level has a root, so a degree of at least 1
-  pub degree-low : (a : ℕ) → a ≤ p .v → 1 ≤ degree p a
-  degree-low a h = let e : p .v - (p .v - a) ≡ a = omega arith in rw e at (check-low p A (p .v - a))
-
   -- sub-word i, as a part of the page
   pub part-is : (x : List ℕ) → IsPage p x → (i : ℕ) → i < p .m → value 8 (take (subWordBytes p) (drop (i * subWordBytes p) x)) < 2 ^ stored p
   part-is x h i l =

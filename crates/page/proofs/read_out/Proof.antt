@@ -1,6 +1,6 @@
 use borrow.Author.Needs.{needs}
 use mathlib.Core.Path.{_≡_, sym}
-use Rattle.refusal.specs.Judging.{sheet-pos}
+use Rattle.code.specs.Answers.{sheet-pos}
 use Rattle.page.specs.Answers.{read-refused}
 use Rattle.page.specs.Reading.{read-sheet}
 use Rattle.page.proofs.read_out.Statement.{statement}
@@ -29,7 +29,7 @@ returns-2 c =
     let t = c .before .before .before in
     let a = t .before .before .before .args in
     let e = rw (c .before .tested .given .1) at (t .test .ensures) in
-    read-refused (a .p) (a .page .now) (a .blocks .now) _ (read-sheet (a .p) (a .page .now) (a .blocks .now) _ e) (sheet-pos (a .p) (a .page .now) _ e)
+    read-refused (a .p) (a .page .now) (a .blocks .now) _ (read-sheet (a .p) (a .page .now) (a .blocks .now) _ e) (sheet-pos (a .p) _ e)
 
 pub read-out-spec : {M : Type 1} → statement M
 read-out-spec =

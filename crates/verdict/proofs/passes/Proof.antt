@@ -5,8 +5,8 @@ use Prim.Native.Nat.{ℕ, _-_, _%_, _^_}
 use Rattle.polynomial.specs.Digits.{value}
 use Rattle.words.specs.Table.{RemainderBy}
 use Rattle.layout.specs.Sizes.{stored-high}
-use Rattle.level.specs.Ready.{degree-most}
-use Rattle.verdict.specs.Words.{passes-is, degree-low}
+use Rattle.level.specs.Ready.{degree-low, degree-most}
+use Rattle.verdict.specs.Words.{passes-is}
 use Rattle.verdict.proofs.passes.Statement.{statement}
 use Rattle.verdict.proofs.passes.Tie as tie
 
