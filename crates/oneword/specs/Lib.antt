@@ -1,0 +1,5 @@
+-- The calls on one word of a page.
+pub mod Chain
+pub mod Word
+pub mod Row
+pub mod Level
