@@ -155,7 +155,7 @@ pub fn test(p: Parameters) -> Tested
 }
 
 // The nesting coefficient N(i, l), bit k the coefficient of x^k; i falls.
-fn nest(i: usize, l: usize) -> u64
+pub fn nest(i: usize, l: usize) -> u64
     requires { ⌜ (i < 8) × (l < 8) ⌝ }
     ensures { λ r. ⌜ r ≡ N i l ⌝ }
 {

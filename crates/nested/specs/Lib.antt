@@ -1,0 +1,6 @@
+-- Laws that the sums of sub-words are proved by.
+pub mod Sums
+pub mod Product
+pub mod Words
+pub mod Turned
+pub mod Carried
