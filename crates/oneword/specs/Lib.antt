@@ -2,4 +2,5 @@
 pub mod Chain
 pub mod Word
 pub mod Row
+pub mod Quotient
 pub mod Level
