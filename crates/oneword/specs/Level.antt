@@ -1,35 +1,35 @@
 -- Remainders and syndromes by a level's generator.
 use mathlib.Core.Path.{_≡_, refl, sym, ap, ap₂, _∙_}
 use mathlib.Core.List.{List, map}
-use Prim.Native.Nat.{ℕ, suc, _+_, _-_, _*_, _%_, _^_, _≤_, _<_, zero-le, suc-le-suc}
+use Prim.Native.Nat.{ℕ, suc, _-_, _*_, _^_, _≤_, _<_, zero-le, suc-le-suc}
 use native.Mathlib.Nat as Nat
 use native.Mathlib.Omega.{arith}
 use lib.ListN.{length}
-use lib.Pow.{pow-mono}
 use lib.Seq.{ext-getD}
 use Rattle.polynomial.specs.Digits.{value}
-use Rattle.polynomial.specs.Division.{Deg, rem, rem-lt}
+use Rattle.polynomial.specs.Division.{Deg, rem-lt}
 use Rattle.field.specs.Elements.{syndrome, syndrome-num}
 use Rattle.field.specs.Eval.{eval, eval-rem}
 use Rattle.field.specs.Field.{Field2, pow}
-use Rattle.field.specs.Fields.{BinaryField, Known, fieldOf}
+use Rattle.field.specs.Fields.{BinaryField, fieldOf}
 use Rattle.generator.specs.Generator.{generator-roots}
-use Rattle.words.specs.Row.{D, D-is}
+use Rattle.words.specs.Row.{D}
 use Rattle.code.specs.declared.Parameters.{Parameters}
 use Rattle.code.specs.Accepted.{Rules, accepted, rising}
 use Rattle.code.specs.Buffers.{length-syndromes, syndromes-at}
 use Rattle.code.specs.Code.{gen, degree, remainder, syndromes}
 use Rattle.code.specs.Lists.{range}
-use Rattle.code.specs.Parameters.{Accepted, stored, strength}
+use Rattle.code.specs.Parameters.{Accepted, strength}
 use Rattle.code.specs.Steps.{gen-eq}
 use Rattle.element.specs.Lent.{size-least}
 use Rattle.level.specs.Ready.{RowOf, degree-of, degree-most}
+use Rattle.oneword.specs.Row.{remainder-room}
 
 module _ (p : Parameters) (A : Accepted p) (a : ℕ) (h : a ≤ p .v) where
   R : Rules p
   R = accepted p A
 
-  -- ---- by the row of the generator
+  -- ---- the row of the generator
   module _ (g : List ℕ) (G : RowOf p a g) (w : ℕ) (e : w ≡ degree p a) where
     pub row-deg : Deg (value 64 g) w
     row-deg = rw (G .is, e) (degree-of p A a h)
@@ -37,16 +37,12 @@ module _ (p : Parameters) (A : Accepted p) (a : ℕ) (h : a ≤ p .v) where
     pub row-most : w ≤ 768
     row-most = rw e (degree-most p A a h)
 
-    pub level-remainder : (c n r : ℕ) → n ≡ stored p → c < 2 ^ stored p → r ≡ rem (value 64 g) w (c % 2 ^ n) → r ≡ remainder p a c
-    level-remainder c n r k l f =
-        f ∙ ap₂ (λ (x d : ℕ). rem x d (c % 2 ^ n)) (G .is) e ∙ ap (remainder p a) (ap (λ (m : ℕ). c % 2 ^ m) k ∙ Nat.mod-eq-of-lt l)
-
   -- ---- what the remainder takes
-  pub remainder-lt : (c r w : ℕ) → w ≡ degree p a → r ≡ remainder p a c → r < 2 ^ w
-  remainder-lt c r w e f = rw (e, f) (rem-lt (gen p a) (degree p a) (degree-of p A a h) c)
+  pub level-lt : (c r w : ℕ) → w ≡ degree p a → r ≡ remainder p a c → r < 2 ^ w
+  level-lt c r w e f = rw (e, f) (rem-lt (gen p a) (degree p a) (degree-of p A a h) c)
 
-  pub remainder-room : (c r : ℕ) → r ≡ remainder p a c → r < 2 ^ D
-  remainder-room c r f = Nat.lt-of-lt-of-le (remainder-lt c r (degree p a) refl f) (pow-mono (rw D-is (degree-most p A a h)))
+  pub level-room : (c r : ℕ) → r ≡ remainder p a c → r < 2 ^ D
+  level-room c r = remainder-room (gen p a) (degree p a) (degree-of p A a h) c r (degree-most p A a h)
 
   -- ---- its syndromes: α^j is a root of the generator for j from 1 to 2 t_a
   level-syndrome : (c j : ℕ) → 0 < j → j ≤ 2 * strength p a → syndrome (p .q) (remainder p a c) j ≡ syndrome (p .q) c j

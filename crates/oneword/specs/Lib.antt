@@ -4,3 +4,4 @@ pub mod Word
 pub mod Row
 pub mod Quotient
 pub mod Level
+pub mod Short

@@ -106,5 +106,5 @@ module _ (f u g w : ℕ) (d : Deg g w) (h : w ≤ u) (k : u ≤ 768) where
       let b : rem g w f * 2 ^ s < 2 ^ D = rw (← e, pow-add 2 w s) (Nat.mul-lt-mul-of-pos-right (rem-lt g w d f) (pow-pos s)) in
       let x : A * 2 ^ j ≡ f * 2 ^ s = rw (ea, ej) (Nat.mul-assoc f (2 ^ (768 - u)) (2 ^ (u - w)) ∙ ap (λ (n : ℕ). f * n) (sym (pow-add 2 (768 - u) (u - w)) ∙ ap (λ (n : ℕ). 2 ^ n) m)) in
       let y : f * 2 ^ s ≡ xor (clmul (quot g w f) (g * 2 ^ s)) (rem g w f * 2 ^ s) =
-          ap (λ (n : ℕ). n * 2 ^ s) (quot-is g w d f) ∙ xor-shl s (clmul (quot g w f) g) (rem g w f) ∙ ap (λ (n : ℕ). xor n (rem g w f * 2 ^ s)) (up s (quot g w f)) in
+      ap (λ (n : ℕ). n * 2 ^ s) (quot-is g w d f) ∙ xor-shl s (clmul (quot g w f) g) (rem g w f) ∙ ap (λ (n : ℕ). xor n (rem g w f * 2 ^ s)) (up s (quot g w f)) in
       quotient-unique (g * 2 ^ s) D dg q (quot g w f) r (rem g w f * 2 ^ s) (t .low) b (ap (λ (n : ℕ). xor (clmul q n) r) (sym eg) ∙ sym (t .sum) ∙ x ∙ y)

@@ -1,5 +1,8 @@
 // The refusal of the calls on one word.
+ghost use mathlib.Core.Bool.{cond};
 ghost use mathlib.Core.Path.{_≡_};
+ghost use Prim.Native.Nat.{_/_, _^_};
+ghost use lib.Dec.{leb};
 ghost use Rattle.code.specs.Refusals.{wordRefusal};
 use code::Parameters;
 
@@ -25,4 +28,15 @@ pub fn word_refusal(
         return 10;
     }
     0
+}
+
+// The bytes of a word of the field of q, 2^q / 8; 0 where q is above 12.
+pub fn word_bytes(q: u32) -> usize
+    ensures { λ r. ⌜ r ≡ cond (leb q 12) (2 ^ q / 8) 0 ⌝ }
+{
+    if 12 < q {
+        return 0;
+    }
+    let size: usize = 1 << q;
+    size / 8
 }

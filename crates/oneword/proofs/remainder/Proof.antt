@@ -1,7 +1,8 @@
 use borrow.Author.Needs.{needs}
 use mathlib.Core.Path.{_≡_, sym, _∙_}
 use Prim.Native.Nat.{zero-le}
-use Rattle.oneword.specs.Chain.{word-zero, word-refused, word-done}
+use lib.ListN.{length}
+use Rattle.oneword.specs.Chain.{Unrefused, word-zero, word-refused, word-done}
 use Rattle.oneword.specs.Word.{remainder-made}
 use Rattle.oneword.proofs.remainder.Statement.{statement}
 use Rattle.oneword.proofs.remainder.Tie as tie
@@ -15,21 +16,14 @@ word-refusal-requires c κs = search needs
 returns : tie.Need-returns
 returns c = word-refused _ _ _ _ _ _ _ _ _ (c .before .word-refusal .ensures) (c .if1 .taken)
 
+free : (c : tie.Else1) → let a = c .before .before .before .before .before .args in Unrefused (a .p) (a .page .now) (a .i) (a .p .m) (length (a .out .now)) 96
+free c = let w = c .before in word-zero _ _ _ _ _ _ (λ k. w .before .before .before .shared-slice-known .given k .fits) (sym (w .word-refusal .ensures) ∙ c .if1 .left)
+
 sub-word-requires : tie.Need-sub-word-requires
-sub-word-requires c κs =
-    let w = c .before in
-    let k = w .before .before .before in
-    let u = word-zero _ _ _ _ _ _ (λ i. k .shared-slice-known .given i .fits) (sym (w .word-refusal .ensures) ∙ c .if1 .left) in
-    (u .accepted, u .page, u .index)
+sub-word-requires c κs = let u = free c in (u .accepted, u .page, u .index)
 
 remainder-into-requires : tie.Need-remainder-into-requires
-remainder-into-requires c κs =
-    let s = c .before in
-    let i = s .before in
-    let w = i .before in
-    let k = w .before .before .before in
-    let u = word-zero _ _ _ _ _ _ (λ i. k .shared-slice-known .given i .fits) (sym (w .word-refusal .ensures) ∙ i .if1 .left) in
-    (u .accepted, zero-le, u .list, rw (s .sub-word .ensures .is) (s .sub-word .ensures .below))
+remainder-into-requires c κs = let s = c .before in let u = free (s .before) in (u .accepted, zero-le, u .list, rw (s .sub-word .ensures .is) (s .sub-word .ensures .below))
 
 same-length : tie.Need-same-length
 same-length c = search needs

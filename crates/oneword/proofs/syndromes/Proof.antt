@@ -1,11 +1,12 @@
 use borrow.Author.Needs.{needs}
 use mathlib.Core.Path.{_≡_, sym, _∙_}
-use Prim.Native.Nat.{zero-le}
+use Prim.Native.Nat.{zero-le, _*_}
 use native.Mathlib.Nat as Nat
 use native.Mathlib.Omega.{arith}
 use lib.ListN.{length}
+use Rattle.code.specs.Parameters.{strength}
 use Rattle.code.specs.Refusals.{syndromesRefusal}
-use Rattle.oneword.specs.Chain.{word-alike, word-zero, word-refused, word-done}
+use Rattle.oneword.specs.Chain.{Unrefused, word-alike, word-zero, word-refused, word-done}
 use Rattle.oneword.specs.Word.{syndromes-made}
 use Rattle.oneword.proofs.syndromes.Statement.{statement}
 use Rattle.oneword.proofs.syndromes.Tie as tie
@@ -32,21 +33,14 @@ chain c = c .word-refusal .ensures ∙ word-alike _ _ _ _ _ _ _ (λ _. omega (ar
 returns : tie.Need-returns
 returns c = word-refused _ _ _ _ _ _ _ _ _ (chain (c .before)) (c .if1 .taken)
 
+free : (c : tie.Else1) → let a = c .before .before .before .before .before .before .args in Unrefused (a .p) (a .page .now) (a .i) (a .p .m) (length (a .list .now)) (1 * (2 * strength (a .p) 0))
+free c = let w = c .before in word-zero _ _ _ _ _ _ (λ k. w .before .before .before .before .shared-slice-known .given k .fits) (sym (chain w) ∙ c .if1 .left)
+
 sub-word-requires : tie.Need-sub-word-requires
-sub-word-requires c κs =
-    let w = c .before in
-    let k = w .before .before .before .before in
-    let u = word-zero _ _ _ _ _ _ (λ i. k .shared-slice-known .given i .fits) (sym (chain w) ∙ c .if1 .left) in
-    (u .accepted, u .page, u .index)
+sub-word-requires c κs = let u = free c in (u .accepted, u .page, u .index)
 
 syndromes-into-requires : tie.Need-syndromes-into-requires
-syndromes-into-requires c κs =
-    let s = c .before in
-    let i = s .before in
-    let w = i .before in
-    let k = w .before .before .before .before in
-    let u = word-zero _ _ _ _ _ _ (λ i. k .shared-slice-known .given i .fits) (sym (chain w) ∙ i .if1 .left) in
-    (u .accepted, zero-le, u .list ∙ Nat.one-mul _, rw (s .sub-word .ensures .is) (s .sub-word .ensures .below))
+syndromes-into-requires c κs = let s = c .before in let u = free (s .before) in (u .accepted, zero-le, u .list ∙ Nat.one-mul _, rw (s .sub-word .ensures .is) (s .sub-word .ensures .below))
 
 same-length : tie.Need-same-length
 same-length c = search needs

@@ -50,13 +50,12 @@ loop-holds c =
     let d = k .before .before .before in
     let e = d .before .before .before .before in
     let a = e .before .before .before in
-    let s = a .before .before .before .before .before in
-    (
+    let s = a .before .before .before .before .before in (
       search needs,
       search needs,
       omega arith,
       divide-start _ _ _ _ (aligned-deg _ (s .args .w) (s .pre .2) _ (omega arith) (a .align .ensures)) (aligned-deg _ (s .args .u) (s .pre .1) _ (s .pre .4) refl)
-      (i .insert .ensures ∙ ap (λ (x : ℕ). xor x 1) (k .clear .ensures) ∙ xor-zero-l 1) (d .add .ensures ∙ ap (λ (x : ℕ). xor x (value 64 (a .align .last .0))) (e .align2 .ensures)),
+          (i .insert .ensures ∙ ap (λ (x : ℕ). xor x 1) (k .clear .ensures) ∙ xor-zero-l 1) (d .add .ensures ∙ ap (λ (x : ℕ). xor x (value 64 (a .align .last .0))) (e .align2 .ensures)),
     )
 
 sub-loop : tie.Need-sub-loop Inv-loop μ-loop
@@ -74,8 +73,7 @@ divide-step-requires c κs =
     let l = t .before in
     let a = l .before .before .before .before .before .before .before .before .before .before .before .before .before .before .before .before .before in
     let s = a .before .before .before .before .before in
-    let v = l .loop .inv .3 in
-    (
+    let v = l .loop .inv .3 in (
       l .loop .inv .0,
       l .loop .inv .1,
       search needs,

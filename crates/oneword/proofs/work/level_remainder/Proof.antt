@@ -3,7 +3,8 @@ use mathlib.Core.Path.{_≡_, sym}
 use native.Mathlib.Omega.{arith}
 use Rattle.layout.specs.Sizes.{stored-high}
 use Rattle.level.specs.Ready.{row-at, level-lt}
-use Rattle.oneword.specs.Level.{row-deg, row-most, level-remainder}
+use Rattle.oneword.specs.Level.{row-deg, row-most}
+use Rattle.oneword.specs.Row.{row-as}
 use Rattle.oneword.proofs.work.level_remainder.Statement.{statement}
 use Rattle.oneword.proofs.work.level_remainder.Tie as tie
 
@@ -54,7 +55,7 @@ returns c =
     let s = d .before .before .before .before in
     let r = row-at (s .args .p) (s .pre .0) _ (s .args .a) (d .before .rows .ensures) (s .pre .1) in (
       d .degree-at .ensures,
-      level-remainder _ (s .pre .0) _ (s .pre .1) _ r _ (d .degree-at .ensures) _ _ _ (n .stored-of .ensures) (s .pre .3) (b .remainder-by .ensures),
+      row-as _ _ _ _ _ _ _ _ (r .is) (d .degree-at .ensures) (n .stored-of .ensures) (s .pre .3) (b .remainder-by .ensures),
     )
 
 pub level-remainder-spec : {M : Type 1} → statement M

@@ -1,7 +1,7 @@
 use borrow.Author.Needs.{needs}
 use mathlib.Core.Path.{_≡_, ap, _∙_}
 use Rattle.polynomial.specs.Digits.{digits}
-use Rattle.oneword.specs.Level.{remainder-room}
+use Rattle.oneword.specs.Level.{level-room}
 use Rattle.oneword.proofs.work.remainder_into.Statement.{statement}
 use Rattle.oneword.proofs.work.remainder_into.Tie as tie
 
@@ -18,7 +18,7 @@ store-requires : tie.Need-store-requires
 store-requires c κs =
     let k = c .before .before .before in
     let s = k .before .before .before .before in
-    (search needs, search needs, remainder-room _ (s .pre .0) _ (s .pre .1) _ _ (k .level-remainder .ensures .1))
+    (search needs, search needs, level-room _ (s .pre .0) _ (s .pre .1) _ _ (k .level-remainder .ensures .1))
 
 same-length : tie.Need-same-length
 same-length c = search needs

@@ -4,7 +4,7 @@ use native.Mathlib.Omega.{arith}
 use Rattle.code.specs.Accepted.{accepted}
 use Rattle.element.specs.Lent.{tables-of}
 use Rattle.level.specs.Ready.{degree-most}
-use Rattle.oneword.specs.Level.{remainder-lt, many-few, syndromes-made}
+use Rattle.oneword.specs.Level.{level-lt, many-few, syndromes-made}
 use Rattle.oneword.proofs.work.syndromes_into.Statement.{statement}
 use Rattle.oneword.proofs.work.syndromes_into.Tie as tie
 
@@ -37,7 +37,7 @@ syndromes-into-requires c κs =
     let w = k .level-remainder .ensures .0 in (
       tables-of _ _ _ (accepted _ (s .pre .0) .known) (l .before .powers .ensures) (l .logs .ensures),
       omega (arith, w, degree-most _ (s .pre .0) _ (s .pre .1)),
-      remainder-lt _ (s .pre .0) _ (s .pre .1) _ _ _ w (k .level-remainder .ensures .1),
+      level-lt _ (s .pre .0) _ (s .pre .1) _ _ _ w (k .level-remainder .ensures .1),
       many-few _ (s .pre .0) _ (s .pre .1) _ (s .pre .2),
     )
 
