@@ -1,5 +1,5 @@
 -- Nested words, sub-word by sub-word.
---   Turned p l page x i    the first i sub-words of the page, each at its power of x in nested word l, add up to x
+--   Turned p l page y i    the first i sub-words of the page, each at its power of x in nested word l, add up to y, which has at most n + 15 bits
 use mathlib.Core.Path.{_≡_, refl, sym, ap, ap₂, _∙_}
 use mathlib.Core.List.{List}
 use Prim.Native.Nat.{ℕ, _+_, _*_, _%_, _^_, _≤_, _<_}
@@ -25,9 +25,9 @@ use Rattle.words.specs.Value.{Bounded, bounded-all, bounded-take, take-mod}
 use Rattle.nested.specs.Sums.{Combined, combined-start, combined-turn, combined-done}
 use Rattle.nested.specs.Words.{bits-all, len-low, word-lt, words-many}
 
-pub record Turned (p : Parameters) (l : ℕ) (page : List ℕ) (x i : ℕ) : Type 0 where
-  pub low : x < 2 ^ (len p + 15)
-  pub sum : Combined (λ k. 2 ^ place l k) 0 (wordsOf p page) 0 x i
+pub record Turned (p : Parameters) (l : ℕ) (page : List ℕ) (y i : ℕ) : Type 0 where
+  pub low : y < 2 ^ (len p + 15)
+  pub sum : Combined (λ k. 2 ^ place l k) 0 (wordsOf p page) 0 y i
 
 -- a sub-word is moved up by at most 14 places
 pub place-high : (p : Parameters) → Accepted p → (l i : ℕ) → l < p .v → i < p .m → place l i ≤ 14
@@ -88,12 +88,12 @@ module _ (p : Parameters) (A : Accepted p) (l : ℕ) (page : List ℕ) where
       ∙ ap (rem (2 ^ len p + 1) (len p)) (combined-done (λ k. 2 ^ place l k) 0 (wordsOf p page) 0 x i (s .sum) (rw (words-many p page) h) ∙ xor-zero-l (combine (λ k. 2 ^ place l k) 0 (wordsOf p page)))
       ∙ sym (nested-eq p l (wordsOf p page))
 
-  -- the bytes of a nested word, where 8 more stand above it
-  pub nested-bytes : (acc cs : List ℕ) → Bounded 8 acc → length acc ≡ nestedBytes p + 8 → value 8 acc ≡ nested p l cs
-      → take (nestedBytes p) acc ≡ digits 8 (nestedBytes p) (nested p l cs)
-  nested-bytes acc cs b e f =
-      let h : nestedBytes p ≤ length acc = omega arith in
-      sym (digits-value 8 (take (nestedBytes p) acc) (bounded-all 8 (take (nestedBytes p) acc) (bounded-take 8 acc b (nestedBytes p))))
-      ∙ ap₂ (digits 8) (length-take-le (nestedBytes p) acc h)
-      (take-mod 8 acc b (nestedBytes p) h ∙ ap (λ (y : ℕ). y % 2 ^ (8 * nestedBytes p)) f
-      ∙ Nat.mod-eq-of-lt (Nat.lt-of-lt-of-le (nested-lt p (accepted p A) l cs) (pow-mono (omega (arith, bits-all p A)))))
+-- the bytes of a nested word, where 8 more stand above it
+pub nested-bytes : (p : Parameters) (A : Accepted p) (l : ℕ) (acc cs : List ℕ) → Bounded 8 acc → length acc ≡ nestedBytes p + 8 → value 8 acc ≡ nested p l cs
+    → take (nestedBytes p) acc ≡ digits 8 (nestedBytes p) (nested p l cs)
+nested-bytes p A l acc cs b e f =
+    let h : nestedBytes p ≤ length acc = omega arith in
+    sym (digits-value 8 (take (nestedBytes p) acc) (bounded-all 8 (take (nestedBytes p) acc) (bounded-take 8 acc b (nestedBytes p))))
+    ∙ ap₂ (digits 8) (length-take-le (nestedBytes p) acc h)
+    (take-mod 8 acc b (nestedBytes p) h ∙ ap (λ (y : ℕ). y % 2 ^ (8 * nestedBytes p)) f
+    ∙ Nat.mod-eq-of-lt (Nat.lt-of-lt-of-le (nested-lt p (accepted p A) l cs) (pow-mono (omega (arith, bits-all p A)))))

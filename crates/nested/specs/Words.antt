@@ -21,7 +21,7 @@ known-bits q (inl e) = rw e (refl, lit≤ tt)
 known-bits q (inr (inl e)) = rw e (refl, lit≤ tt)
 known-bits q (inr (inr e)) = rw e (refl, lit≤ tt)
 
--- a part of b bytes, from the i-th on
+-- the i-th run of b bytes
 pub part-is : (x : List ℕ) (i b k : ℕ) → b ≡ k → take (i * b + b - i * b) (drop (i * b) x) ≡ take k (drop (i * k) x)
 part-is x i b k e =
     let f : i * b + b - i * b ≡ b = omega arith in
