@@ -1,0 +1,68 @@
+use borrow.Author.Needs.{needs}
+use mathlib.Core.Path.{_≡_, sym, _∙_}
+use Prim.Native.Nat.{zero-le, _*_}
+use native.Mathlib.Nat as Nat
+use native.Mathlib.Omega.{arith}
+use lib.ListN.{length}
+use Rattle.code.specs.Parameters.{strength}
+use Rattle.code.specs.Refusals.{syndromesRefusal}
+use Rattle.oneword.specs.Chain.{Unrefused, word-alike, word-zero, word-refused, word-done}
+use Rattle.oneword.specs.Word.{syndromes-made}
+use Rattle.oneword.proofs.syndromes.Statement.{statement}
+use Rattle.oneword.proofs.syndromes.Tie as tie
+
+strength-at-requires : tie.Need-strength-at-requires
+strength-at-requires c κs = search needs
+
+cast-t : tie.Need-cast-t
+cast-t c = search needs
+
+cast-word-refusal : tie.Need-cast-word-refusal
+cast-word-refusal c = search needs
+
+mul-word-refusal : tie.Need-mul-word-refusal
+mul-word-refusal c = search needs
+
+word-refusal-requires : tie.Need-word-refusal-requires
+word-refusal-requires c κs = search needs
+
+-- the chain, by the strength as the definition has it
+chain : (c : tie.After-word-refusal) → let a = c .before .before .before .before .before .args in c .word-refusal .result ≡ syndromesRefusal 1 (a .p) (a .page .now) (a .i) (length (a .list .now))
+chain c = c .word-refusal .ensures ∙ word-alike _ _ _ _ _ _ _ (λ _. omega (arith, c .before .before .strength-at .ensures))
+
+returns : tie.Need-returns
+returns c = word-refused _ _ _ _ _ _ _ _ _ (chain (c .before)) (c .if1 .taken)
+
+free : (c : tie.Else1) → let a = c .before .before .before .before .before .before .args in Unrefused (a .p) (a .page .now) (a .i) (a .p .m) (length (a .list .now)) (1 * (2 * strength (a .p) 0))
+free c = let w = c .before in word-zero _ _ _ _ _ _ (λ k. w .before .before .before .before .shared-slice-known .given k .fits) (sym (chain w) ∙ c .if1 .left)
+
+sub-word-requires : tie.Need-sub-word-requires
+sub-word-requires c κs = let u = free c in (u .accepted, u .page, u .index)
+
+syndromes-into-requires : tie.Need-syndromes-into-requires
+syndromes-into-requires c κs = let s = c .before in let u = free (s .before) in (u .accepted, zero-le, u .list ∙ Nat.one-mul _, rw (s .sub-word .ensures .is) (s .sub-word .ensures .below))
+
+same-length : tie.Need-same-length
+same-length c = search needs
+
+returns-2 : tie.Need-returns-2
+returns-2 c =
+    let r = c .before .before in
+    let s = r .before .before in
+    let i = s .before in
+    word-done _ _ _ _ _ _ _ _ _ _ (chain (i .before)) (i .if1 .left) (syndromes-made _ _ _ _ (s .sub-word .ensures) _ (r .syndromes-into .ensures))
+
+pub syndromes-spec : {M : Type 1} → statement M
+syndromes-spec =
+    tie.close
+    (tie.spec
+    strength-at-requires
+    cast-t
+    cast-word-refusal
+    mul-word-refusal
+    word-refusal-requires
+    returns
+    sub-word-requires
+    syndromes-into-requires
+    same-length
+    returns-2)

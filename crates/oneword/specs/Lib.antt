@@ -1,0 +1,7 @@
+-- The calls on one word of a page.
+pub mod Chain
+pub mod Word
+pub mod Row
+pub mod Quotient
+pub mod Level
+pub mod Short
