@@ -184,7 +184,7 @@ if __name__ == '__main__':
     nestings()
     elements()
     registers()
-    # one_word()
+    one_word()
     room = Path(sys.argv[1])
     (room / 'stdin').write_bytes(given)
     (room / 'stdout').write_bytes(expected)

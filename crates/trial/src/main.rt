@@ -182,6 +182,67 @@ fn feed(p: Parameters, level: u32, count: u64, rest: &[u8], width: u32, u: u64) 
     put_fed(f);
 }
 
+fn put_pairs(list: &[u16]) {
+    let mut k: usize = 0;
+    while k < list.len() {
+        let n = list[k];
+        put((n % 256) as u8);
+        put((n / 256 % 256) as u8);
+        k += 1;
+    }
+}
+
+fn put_bytes(r: Outcome, out: &[u8]) {
+    put_outcome(r);
+    io::write_all(STDOUT_FILENO, out);
+}
+
+fn put_list(r: Outcome, list: &[u16]) {
+    put_outcome(r);
+    put_pairs(list);
+}
+
+// The calls on one word that give bytes.
+fn bytes_call(call: u8, p: Parameters, page: &[u8], i: usize, out: &mut [u8]) {
+    if call == 6 {
+        let r = oneword::remainder(p, page, i, out);
+        put_bytes(r, out);
+        return;
+    }
+    if call == 7 {
+        let r = oneword::short_remainder(p, page, i, out);
+        put_bytes(r, out);
+        return;
+    }
+    let r = oneword::nested_word(p, page, i, out);
+    put_bytes(r, out);
+}
+
+// Those that give syndromes.
+fn list_call(call: u8, p: Parameters, page: &[u8], i: usize, list: &mut [u16]) {
+    if call == 9 {
+        let r = oneword::syndromes(p, page, i, list);
+        put_list(r, list);
+        return;
+    }
+    let r = oneword::nested_syndromes(p, page, i, list);
+    put_list(r, list);
+}
+
+fn lend_bytes(call: u8, p: Parameters, page: &[u8], i: usize, size: usize) {
+    let mut room = [165u8; 1024];
+    if size <= 1024 {
+        bytes_call(call, p, page, i, &mut room[..size]);
+    }
+}
+
+fn lend_list(call: u8, p: Parameters, page: &[u8], i: usize, size: usize) {
+    let mut room = [42405u16; 256];
+    if size <= 256 {
+        list_call(call, p, page, i, &mut room[..size]);
+    }
+}
+
 // Byte k of a record, 0 past its end.
 fn byte(h: &[u8], k: usize) -> u32 {
     if k < h.len() {
@@ -226,6 +287,12 @@ fn run(h: &[u8], page: &[u8], size: usize) {
     }
     if call == 5 {
         feed(p, byte(h, 8), count, page, width, u);
+    }
+    if 6 <= call && call <= 8 {
+        lend_bytes(call, p, page, i, size);
+    }
+    if 9 <= call && call <= 10 {
+        lend_list(call, p, page, i, size);
     }
 }
 
