@@ -4,3 +4,4 @@ pub mod Runs
 pub mod Parts
 pub mod Clear
 pub mod Chains
+pub mod Replaced

@@ -1,5 +1,4 @@
 -- Pages and blocks part by part.
 pub mod Answers
 pub mod Reading
-pub mod Replaced
 pub mod Taken

@@ -19,7 +19,7 @@ use Rattle.code.specs.Parameters.{Accepted, len, stored}
 use Rattle.code.specs.Placement.{data-at}
 use Rattle.layout.specs.Parts.{offset-next, block-room, blocks-parts}
 use Rattle.layout.specs.Sizes.{check-below}
-use Rattle.page.specs.Replaced.{replaced, replaced-length, replaced-part, replaced-before}
+use Rattle.layout.specs.Replaced.{replaced, replaced-length, replaced-part, replaced-before}
 
 -- the bytes of block i
 abbrev pub sizeOf : Parameters → ℕ → ℕ

@@ -9,7 +9,7 @@ ghost use Rattle.code.specs.Code.{checkBits};
 ghost use Rattle.code.specs.Layout.{blockOffset, dataBytes, dataOf, pageBytes, pageClear, wordsOf};
 ghost use Rattle.code.specs.Parameters.{Accepted};
 ghost use Rattle.layout.specs.Sizes.{Degrees};
-ghost use Rattle.page.specs.Replaced.{replaced};
+ghost use Rattle.layout.specs.Replaced.{replaced};
 ghost use Rattle.page.specs.Taken.{sizeOf};
 use code::Parameters;
 use code::Tested;
