@@ -2,3 +2,4 @@
 pub mod Answers
 pub mod Reading
 pub mod Taken
+pub mod Writing

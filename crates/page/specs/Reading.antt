@@ -16,7 +16,7 @@ use Rattle.code.specs.Refusals.{readRefusal, readLengths, notExact}
 use Rattle.code.specs.Refused.{or-zero, or-none}
 
 -- a length that is not refused is exact
-exact : (c k e : ℕ) → (suc c when notExact k e) ≡ 0 → k ≡ e
+pub exact : (c k e : ℕ) → (suc c when notExact k e) ≡ 0 → k ≡ e
 exact c k e z = eqb→eq k e (none c (eqb k e) 0 (or-zero (suc c when notExact k e) 0 z refl) .0)
 
 module _ (p : Parameters) (x b : List ℕ) where

@@ -4,13 +4,14 @@ ghost use Prim.Native.Nat.{ℕ, _<_, _≤_, _/_, _^_};
 ghost use lib.Dec.{T};
 ghost use lib.ListN.{length, getD};
 ghost use Rattle.polynomial.specs.Digits.{digits};
-ghost use Rattle.code.specs.Calls.{Judged, ReadOut};
+ghost use Rattle.code.specs.Calls.{Judged, ReadOut, Written};
 ghost use Rattle.code.specs.Code.{checkBits};
 ghost use Rattle.code.specs.Layout.{blockOffset, dataBytes, dataOf, pageBytes, pageClear, wordsOf};
 ghost use Rattle.code.specs.Parameters.{Accepted};
 ghost use Rattle.layout.specs.Sizes.{Degrees};
 ghost use Rattle.layout.specs.Replaced.{replaced};
 ghost use Rattle.page.specs.Taken.{sizeOf};
+use code::Outcome;
 use code::Parameters;
 use code::Tested;
 use code::Verdict;
@@ -82,4 +83,33 @@ pub fn read_out(p: Parameters, page: &[u8], blocks: &mut [u8]) -> Verdict
         return read_by(p, page, blocks);
     };
     Verdict::Refused(k)
+}
+
+// Write, for accepted parameters.
+fn write_by(p: Parameters, width: u32, blocks: &[u8], page: &mut [u8]) -> Outcome
+    requires { ⌜ Accepted p ⌝ }
+    ensures { λ r. ⌜ Written p width (now (blocks .entry)) (now (page .entry)) (now (page .exit)) r ⌝ }
+{
+    let rows = generators::rows(p);
+    let w = level::degrees(p, rows);
+    let k = layout::write_lengths(p, &w, width, blocks.len(), page.len());
+    if k != 0 {
+        return Outcome::Refused(k);
+    }
+    if !layout::blocks_clear(p, &w, blocks) {
+        return Outcome::Refused(8);
+    }
+    encode::encode(p, rows, &w, blocks, page, width as usize);
+    Outcome::Done
+}
+
+// The page of the blocks, `width` coefficients a step.
+pub fn write(p: Parameters, width: u32, blocks: &[u8], page: &mut [u8]) -> Outcome
+    ensures { λ r. ⌜ Written p width (now (blocks .entry)) (now (page .entry)) (now (page .exit)) r ⌝ }
+{
+    let tested = sheet::test(p);
+    let Tested::Refused(k) = tested else {
+        return write_by(p, width, blocks, page);
+    };
+    Outcome::Refused(k)
 }

@@ -36,36 +36,6 @@ pub failingNested-eq : (p : Parameters) (cs : List ℕ) → failingNested p cs �
 unfolding failingNested firstFrom
 failingNested-eq p cs = refl
 
--- a page's bytes
-pub is-page : (p : Parameters) (x : List ℕ) → ((i : ℕ) → getD x i 0 < 2 ^ 8) → length x ≡ pageBytes p → T (pageClear p x) → IsPage p x
-is-page p x b e c = record { bytes = at-all (λ d. d < 256) x (λ i h. b i); exact = e; clear = c }
-
 module _ (p : Parameters) (A : Accepted p) where
-  -- sub-word i, as a part of the page
-  pub part-is : (x : List ℕ) → IsPage p x → (i : ℕ) → i < p .m → value 8 (take (subWordBytes p) (drop (i * subWordBytes p) x)) < 2 ^ stored p
-  part-is x h i l =
-      let w = page-words p (accepted p A) x h in
-      rw (word-at p x i l) at (all-at (λ c. c < 2 ^ len p) (wordsOf p x) (w .below) i (omega (arith, w .many)))
-
   pub passes-is : (t : List ℕ) (a w f r : ℕ) (z : Bool) → a ≤ p .v → w ≡ degree p a → Prepared p a t → f < 2 ^ stored p → RemainderBy t (768 - w) (f % 2 ^ stored p) r → z ≡ eqb r 0 → z ≡ eqb (remainder p a f) 0
   passes-is t a w f r z h e P l Q s = s ∙ ap (λ (y : ℕ). eqb y 0) (table-remainder p A a w (f % 2 ^ stored p) r t h e P Q ∙ ap (remainder p a) (Nat.mod-eq-of-lt l))
-
-  -- sub-word i of k bytes lies within the page, which is small
-  pub part-room : (i k : ℕ) → k ≡ subWordBytes p → i < p .m → i * k + k ≤ pageBytes p
-  part-room i k e h = rw e (word-room p i h)
-
-  pub part-small : (i k : ℕ) → k ≡ subWordBytes p → i < p .m → i * k + k ≤ 4096
-  part-small i k e h = Nat.le-trans (part-room i k e h) (page-high p A)
-
-  -- the part of the page that the program takes
-  abbrev pub partOf : List ℕ → ℕ → ℕ → List ℕ
-  partOf x i k = take (i * k + k - i * k) (drop (i * k) x)
-
-  pub part-same : (x : List ℕ) (i k : ℕ) → k ≡ subWordBytes p → partOf x i k ≡ take (subWordBytes p) (drop (i * subWordBytes p) x)
-  part-same x i k e = let a : i * k + k - i * k ≡ k = omega arith in ap (λ (j : ℕ). take j (drop (i * k) x)) a ∙ ap (λ (j : ℕ). take j (drop (i * j) x)) e
-
-  pub part-lt : (x : List ℕ) → IsPage p x → (i k : ℕ) → k ≡ subWordBytes p → i < p .m → value 8 (partOf x i k) < 2 ^ stored p
-  part-lt x h i k e l = rw (part-same x i k e) (part-is x h i l)
-
-  pub part-word : (x : List ℕ) (i k : ℕ) → k ≡ subWordBytes p → i < p .m → value 8 (partOf x i k) ≡ getD (wordsOf p x) i 0
-  part-word x i k e l = ap (value 8) (part-same x i k e) ∙ sym (word-at p x i l)

@@ -4,7 +4,7 @@ use native.Mathlib.Omega.{arith}
 use Prim.Native.Nat.{ℕ, zero-le}
 use lib.Dec.{eqb}
 use Rattle.code.specs.Code.{remainder}
-use Rattle.verdict.specs.Words.{is-page, part-room, part-small, part-lt, part-word}
+use Rattle.layout.specs.Words.{is-page, part-room, part-small, part-lt, part-word}
 use Rattle.verdict.proofs.sub_word_passes.Statement.{statement}
 use Rattle.verdict.proofs.sub_word_passes.Tie as tie
 

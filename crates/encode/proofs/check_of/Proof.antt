@@ -1,0 +1,42 @@
+use borrow.Author.Needs.{needs}
+use mathlib.Core.Path.{_≡_, ap, _∙_}
+use native.Mathlib.Nat as Nat
+use native.Mathlib.Omega.{arith}
+use Prim.Native.Nat.{ℕ, _*_, _-_, _%_, _^_}
+use lib.ListN.{length}
+use Rattle.polynomial.specs.Digits.{value}
+use Rattle.words.specs.Value.{value-lt}
+use Rattle.code.specs.Code.{remainder}
+use Rattle.level.specs.Ready.{degree-low, degree-most, table-remainder}
+use Rattle.encode.proofs.check_of.Statement.{statement}
+use Rattle.encode.proofs.check_of.Tie as tie
+
+mul-remainder-of : tie.Need-mul-remainder-of
+mul-remainder-of c = search needs
+
+sub-remainder-of : tie.Need-sub-remainder-of
+sub-remainder-of c =
+    let s = c .before .before .before .before in
+    omega (arith, s .pre .2, degree-most (s .args .p) (s .pre .0) (s .args .a) (s .pre .1))
+
+remainder-of-requires : tie.Need-remainder-of-requires
+remainder-of-requires c κs =
+    let s = c .before .before .before .before in
+    (s .pre .4, s .pre .3 .words, s .pre .6, s .pre .7, omega (arith, s .pre .2, degree-low (s .args .p) (s .pre .0) (s .args .a) (s .pre .1)), omega (arith, s .pre .5))
+
+same-length : tie.Need-same-length
+same-length c = search needs
+
+returns : tie.Need-returns
+returns c =
+    let k = c .before .before in
+    let b = k .before .before in
+    let s = b .before .before .before in
+    let a = s .args in
+    table-remainder (a .p) (s .pre .0) (a .a) (a .w) (value 8 (a .acc .now) % 2 ^ (8 * length (a .acc .now))) _ (a .t .now) (s .pre .1) (s .pre .2) (s .pre .3) (k .remainder-of .ensures)
+    ∙ ap (remainder (a .p) (a .a)) (Nat.mod-eq-of-lt (value-lt 8 (a .acc .now) (λ i. b .shared-slice-known2 .given i .fits)))
+
+pub check-of-spec : {M : Type 1} → statement M
+check-of-spec =
+    tie.close
+    (tie.spec mul-remainder-of sub-remainder-of remainder-of-requires same-length returns)

@@ -1,0 +1,124 @@
+-- A page encoded from the last sub-word down.
+--   Encoded p blocks i x                       sub-words i to m - 1 of x are those of the page of the blocks
+--   Going p blocks least most i x acc          a run from sub-word most down to least, at i, with room acc to work in
+use mathlib.Core.Path.{_≡_, refl, sym, ap, ap₂, _∙_}
+use mathlib.Core.Logic.{_⊎_, inl, inr}
+use mathlib.Core.List.{List, [], _∷_}
+use Prim.Native.Nat.{ℕ, zero, suc, _+_, _-_, _*_, _^_, _≤_, _<_, zero-le, suc-le-suc}
+use native.Mathlib.Nat as Nat
+use native.Mathlib.Omega.{arith}
+use lib.ListN.{length, getD, take, drop}
+use lib.Pow.{pow-mono}
+use Rattle.polynomial.specs.Digits.{digits, length-digits, value, value-digits}
+use Rattle.polynomial.specs.Lists.{all-at}
+use Rattle.code.specs.declared.Parameters.{Parameters}
+use Rattle.code.specs.Accepted.{Rules, accepted}
+use Rattle.code.specs.Bytes.{length-split}
+use Rattle.code.specs.Code.{carried, checkBits, checked, encode, encodeFrom, level}
+use Rattle.code.specs.Layout.{Fits, blocksOf, pageBytes, pageOf, wordSizes, wordsOf}
+use Rattle.code.specs.Pages.{IsWords, blocks-blocks, encode-words, pageOf-eq, wordsOf-eq}
+use Rattle.code.specs.Parameters.{Accepted, len, subWordBytes}
+use Rattle.code.specs.Placement.{encode-at}
+use Rattle.layout.specs.Parts.{length-words, page-parts, word-at, word-room}
+use Rattle.layout.specs.Replaced.{replaced, replaced-after, replaced-length, replaced-part}
+use Rattle.nested.specs.Words.{bits-all}
+use Rattle.encode.specs.Word.{wordOf, written}
+
+pub record Encoded (p : Parameters) (blocks : List ℕ) (i : ℕ) (x : List ℕ) : Type 0 where
+  pub exact : length x ≡ pageBytes p
+  pub each : (j : ℕ) → i ≤ j → j < p .m → take (subWordBytes p) (drop (j * subWordBytes p) x) ≡ digits 8 (subWordBytes p) (getD (encode p (blocksOf p blocks)) j 0)
+
+-- lists of one length that agree from place k on
+drop-same : (k : ℕ) (xs ys : List ℕ) → length xs ≡ length ys → ((j : ℕ) → k ≤ j → j < length xs → getD xs j 0 ≡ getD ys j 0) → drop k xs ≡ drop k ys
+drop-same zero [] [] e h = refl
+drop-same zero [] (y ∷ ys) e h = absurd (Nat.suc-ne-zero (length ys) (sym e))
+drop-same zero (x ∷ xs) [] e h = absurd (Nat.suc-ne-zero (length xs) e)
+drop-same zero (x ∷ xs) (y ∷ ys) e h = ap₂ _∷_ (h 0 zero-le (suc-le-suc zero-le)) (drop-same zero xs ys (Nat.suc-inj e) (λ j l m. h (suc j) zero-le (suc-le-suc m)))
+drop-same (suc k) [] [] e h = refl
+drop-same (suc k) [] (y ∷ ys) e h = absurd (Nat.suc-ne-zero (length ys) (sym e))
+drop-same (suc k) (x ∷ xs) [] e h = absurd (Nat.suc-ne-zero (length xs) e)
+drop-same (suc k) (x ∷ xs) (y ∷ ys) e h = drop-same k xs ys (Nat.suc-inj e) (λ j l m. h (suc j) (suc-le-suc l) (suc-le-suc m))
+
+encode-eq : (p : Parameters) (ds : List ℕ) → encode p ds ≡ encodeFrom p 0 ds
+unfolding encode
+encode-eq p ds = refl
+
+pub encoded-start : (p : Parameters) (blocks x : List ℕ) → length x ≡ pageBytes p → Encoded p blocks (p .m) x
+encoded-start p blocks x e = record { exact = e; each = λ j h l. absurd (Nat.lt-irrefl j (Nat.lt-of-lt-of-le l h)) }
+
+module _ (p : Parameters) (A : Accepted p) (blocks : List ℕ) (F : Fits p blocks) where
+  R : Rules p
+  R = accepted p A
+
+  abbrev cs : List ℕ
+  cs = encode p (blocksOf p blocks)
+
+  words : IsWords p cs
+  words = encode-words p R (blocksOf p blocks) (blocks-blocks p R blocks F)
+
+  word-small : (j : ℕ) → j < p .m → getD cs j 0 < 2 ^ (8 * subWordBytes p)
+  word-small j h = Nat.lt-of-lt-of-le (all-at (λ c. c < 2 ^ len p) cs (words .below) j (omega (arith, words .many))) (pow-mono (omega (arith, bits-all p A)))
+
+  -- the later sub-words, as numbers
+  later : (x : List ℕ) (i : ℕ) → Encoded p blocks i x → drop i (wordsOf p x) ≡ drop i cs
+  later x i e =
+      let l : length (wordsOf p x) ≡ p .m = rw (wordsOf-eq p x) (length-split (wordSizes p) x ∙ length-words p) in
+      drop-same i (wordsOf p x) cs (l ∙ sym (words .many))
+      (λ j h m. let b : j < p .m = omega arith in
+      word-at p x j b ∙ ap (value 8) (e .each j h b) ∙ value-digits 8 (subWordBytes p) (getD cs j 0) (word-small j b))
+
+  word-is : (x : List ℕ) (i : ℕ) → i < p .m → Encoded p blocks (suc i) x → wordOf p blocks x i ≡ getD cs i 0
+  word-is x i h e =
+      let f : (k : ℕ) → ℕ = λ k. checked p (level p k) (getD (blocksOf p blocks) i 0 * 2 ^ checkBits p k) (carried (level p k) k (drop (suc i) cs)) in
+      ap (λ (l : List ℕ). checked p (level p i) (getD (blocksOf p blocks) i 0 * 2 ^ checkBits p i) (carried (level p i) i l)) (later x (suc i) e)
+      ∙ sym (ap (λ (l : List ℕ). getD l i 0) (encode-eq p (blocksOf p blocks)) ∙ encode-at p 0 i (blocksOf p blocks) (rw (blocks-blocks p R blocks F .many) h)
+      ∙ ap (λ (l : List ℕ). checked p (level p (0 + i)) (getD (blocksOf p blocks) i 0 * 2 ^ checkBits p (0 + i)) (carried (level p (0 + i)) (0 + i) (drop (suc i) l))) (sym (encode-eq p (blocksOf p blocks)))
+      ∙ ap f (Nat.zero-add i))
+
+  pub encoded-next : (x : List ℕ) (i : ℕ) → i < p .m → Encoded p blocks (suc i) x → Encoded p blocks i (written p x i (wordOf p blocks x i))
+  encoded-next x i h e =
+      record {
+        exact = replaced-length x (i * k) y room ∙ e .exact;
+        each = λ j l m. go j m (Nat.eq-or-lt-of-le l);
+      }
+    where
+      k : ℕ
+      k = subWordBytes p
+
+      y : List ℕ
+      y = digits 8 k (wordOf p blocks x i)
+
+      size : length y ≡ k
+      size = length-digits 8 k (wordOf p blocks x i)
+
+      room : i * k + length y ≤ length x
+      room = rw (size, e .exact) (word-room p i h)
+
+      go : (j : ℕ) → j < p .m → (i ≡ j) ⊎ (i < j) → take k (drop (j * k) (replaced x (i * k) y)) ≡ digits 8 k (getD cs j 0)
+      go j m (inl f) = rw (← f) (ap (λ (n : ℕ). take n (drop (i * k) (replaced x (i * k) y))) (sym size) ∙ replaced-part x (i * k) y room ∙ ap (digits 8 k) (word-is x i h e))
+      go j m (inr l) = ap (take k) (replaced-after x (i * k) y room (j * k) (rw (size, ← Nat.suc-mul i k) (Nat.mul-le-mul-right k l))) ∙ e .each j l m
+
+  pub encoded-all : (x : List ℕ) (i : ℕ) → i ≡ 0 → Encoded p blocks i x → x ≡ pageOf p blocks
+  encoded-all x i z e = page-parts p x cs (e .exact) (words .many) (λ j h. e .each j (rw z zero-le) h) ∙ sym (pageOf-eq p blocks)
+
+-- ---- the two runs of sub-words: from m down to v, and from v down to 0; acc is room to work in
+pub record Going (p : Parameters) (blocks : List ℕ) (least most i : ℕ) (x acc : List ℕ) : Type 0 where
+  pub page : Encoded p blocks i x
+  pub low : least ≤ i
+  pub high : i ≤ most
+  pub room : length acc ≡ subWordBytes p + 8
+
+pub going-done : (p : Parameters) (blocks : List ℕ) (least most i : ℕ) (x acc : List ℕ) → Going p blocks least most i x acc → i ≤ least → Encoded p blocks least x
+going-done p blocks least most i x acc g h = rw (Nat.le-antisymm h (g .low)) at (g .page)
+
+pub going-next : (p : Parameters) (A : Accepted p) (blocks : List ℕ) (F : Fits p blocks) (least most i : ℕ) (x y acc acc′ : List ℕ)
+    → Going p blocks least most i x acc → least < i → most ≤ p .m → y ≡ written p x (i - 1) (wordOf p blocks x (i - 1)) → length acc′ ≡ length acc → Going p blocks least most (i - 1) y acc′
+going-next p A blocks F least most i x y acc acc′ g h m e l =
+    let s : suc (i - 1) ≡ i = omega arith in
+    let b : i - 1 < p .m = omega (arith, g .high) in
+    record {
+      page = rw e (encoded-next p A blocks F x (i - 1) b (rw s (g .page)));
+      low = omega arith;
+      high = omega (arith, g .high);
+      room = l ∙ g .room;
+    }

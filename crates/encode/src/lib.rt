@@ -1,0 +1,158 @@
+// Sub-words from their blocks: data above, check bits below.
+ghost use mathlib.Core.Path.{_≡_};
+ghost use Prim.Native.Nat.{ℕ, suc, _+_, _*_, _^_, _≤_, _<_};
+ghost use lib.ListN.{length, drop};
+ghost use Rattle.polynomial.specs.Digits.{value};
+ghost use Rattle.polynomial.specs.Xor.{xor};
+ghost use Rattle.code.specs.Code.{carried, checkBits, degree, level, remainder};
+ghost use Rattle.code.specs.Calls.{generators};
+ghost use Rattle.code.specs.Layout.{dataBits, pageBytes, pageOf, wordsOf};
+ghost use Rattle.code.specs.Parameters.{Accepted, subWordBytes};
+ghost use Rattle.level.specs.Ready.{Prepared};
+ghost use Rattle.encode.specs.Page.{Encoded};
+ghost use Rattle.encode.specs.Word.{Ready, wordOf, written};
+use code::Parameters;
+
+// Block i's data s in their places, and what the later sub-words add to the rule of sub-word i.
+fn ruled_into(acc: &mut [u8], p: Parameters, page: &[u8], i: usize, s: &[u8], bits: usize)
+    requires { ⌜ Accepted p × (length (now page) ≡ pageBytes p) × (i < p .m) × (bits ≡ checkBits p i) × (length (now acc) ≡ subWordBytes p + 8) × (value 8 (now s) < 2 ^ dataBits p i) ⌝ }
+    ensures { λ x. ⌜ value 8 (now (acc .exit)) ≡ xor (value 8 (now (s .entry)) * 2 ^ checkBits p i) (carried (level p i) i (drop (suc i) (wordsOf p (now (page .entry))))) ⌝ }
+{
+    words::bytes::copy_up(acc, s, bits);
+    if p.v as usize <= i {
+        return;
+    }
+    nested::add_carried(acc, p, page, i);
+}
+
+// The remainder of acc by level a's generator, of degree w, whose table is t, `width` coefficients a step.
+fn check_of(r: &mut [u64], t: &[u64], acc: &[u8], p: Parameters, a: usize, w: usize, width: usize)
+    requires { ⌜ Accepted p × (a ≤ p .v) × (w ≡ degree p a) × Prepared p a (now t) × (length (now r) ≡ 13) × (length (now acc) < 1000) × (1 ≤ width) × (width ≤ 64) ⌝ }
+    ensures { λ x. ⌜ value 64 (now (r .exit)) ≡ remainder p a (value 8 (now (acc .entry))) ⌝ }
+{
+    words::remainder::remainder_of(r, t, acc, 8 * acc.len(), width, 768 - w);
+}
+
+// The data s moved up over their check bits r.
+fn put_word(part: &mut [u8], s: &[u8], bits: usize, r: &[u64])
+    requires { ⌜ (bits ≤ 768) × (bits ≤ 8 * length (now part)) × (length (now part) < 1000) × (length (now r) ≡ 13) × (value 64 (now r) < 2 ^ bits) × (value 8 (now s) * 2 ^ bits < 2 ^ (8 * length (now part))) ⌝ }
+    ensures { λ x. ⌜ value 8 (now (part .exit)) ≡ value 8 (now (s .entry)) * 2 ^ bits + value 64 (now (r .entry)) ⌝ }
+{
+    words::bytes::copy_up(part, s, bits);
+    words::bytes::store_low(part, r, bits);
+}
+
+// Sub-word i of the page, from its block and the later sub-words; t is the table of its level, acc room to work in.
+fn write_word(
+    p: Parameters,
+    w: &[u32],
+    blocks: &[u8],
+    page: &mut [u8],
+    i: usize,
+    width: usize,
+    t: &[u64],
+    acc: &mut [u8],
+)
+    requires { ⌜ Ready p (now w) (now blocks) × (length (now page) ≡ pageBytes p) × (i < p .m) × (1 ≤ width) × (width ≤ 64) × Prepared p (level p i) (now t) × (length (now acc) ≡ subWordBytes p + 8) ⌝ }
+    ensures { λ x. ⌜ now (page .exit) ≡ written p (now (page .entry)) i (wordOf p (now (blocks .entry)) (now (page .entry)) i) ⌝ }
+{
+    let at = layout::block_offset(p, w, i);
+    let size = layout::block_size(p, w, i);
+    let stop = at + size;
+    let s = &blocks[at..stop];
+    let bits = layout::check_bits(p, w, i);
+    ruled_into(acc, p, page, i, s, bits);
+    let a = layout::level_of(p, i);
+    let mut r = [0u64; 13];
+    check_of(&mut r, t, acc, p, a, bits, width);
+    let k = layout::sub_word_bytes(p);
+    let start = i * k;
+    let end = start + k;
+    put_word(&mut page[start..end], s, bits, &r);
+}
+
+// The same with the table of the level made in t.
+fn write_afresh(
+    p: Parameters,
+    rows: [[u64; 13]; 4],
+    w: &[u32],
+    blocks: &[u8],
+    page: &mut [u8],
+    i: usize,
+    width: usize,
+    t: &mut [u64],
+    acc: &mut [u8],
+)
+    requires { ⌜ Ready p (now w) (now blocks) × (rows ≡ generators p) × (length (now page) ≡ pageBytes p) × (i < p .m) × (1 ≤ width) × (width ≤ 64) × (length (now t) ≡ 3072) × (length (now acc) ≡ subWordBytes p + 8) ⌝ }
+    ensures { λ x. ⌜ now (page .exit) ≡ written p (now (page .entry)) i (wordOf p (now (blocks .entry)) (now (page .entry)) i) ⌝ }
+{
+    let a = layout::level_of(p, i);
+    let bits = layout::check_bits(p, w, i);
+    level::prepare(t, p, rows, a, bits);
+    write_word(p, w, blocks, page, i, width, t, acc);
+}
+
+// Sub-words m - 1 down to v: level 0.
+fn write_later(
+    p: Parameters,
+    rows: [[u64; 13]; 4],
+    w: &[u32],
+    blocks: &[u8],
+    page: &mut [u8],
+    width: usize,
+    t: &mut [u64],
+    acc: &mut [u8],
+)
+    requires { ⌜ Ready p (now w) (now blocks) × (rows ≡ generators p) × (length (now page) ≡ pageBytes p) × (1 ≤ width) × (width ≤ 64) × (length (now t) ≡ 3072) × (length (now acc) ≡ subWordBytes p + 8) ⌝ }
+    ensures { λ x. ⌜ Encoded p (now (blocks .entry)) (p .v) (now (page .exit)) ⌝ }
+{
+    let v = p.v as usize;
+    let bits = layout::check_bits(p, w, v);
+    level::prepare(t, p, rows, 0, bits);
+    let mut i = p.m as usize;
+    while v < i {
+        i -= 1;
+        write_word(p, w, blocks, page, i, width, t, acc);
+    }
+}
+
+// Sub-words v - 1 down to 0, each of a level of its own.
+fn write_earlier(
+    p: Parameters,
+    rows: [[u64; 13]; 4],
+    w: &[u32],
+    blocks: &[u8],
+    page: &mut [u8],
+    width: usize,
+    t: &mut [u64],
+    acc: &mut [u8],
+)
+    requires { ⌜ Ready p (now w) (now blocks) × (rows ≡ generators p) × Encoded p (now blocks) (p .v) (now page) × (1 ≤ width) × (width ≤ 64) × (length (now t) ≡ 3072) × (length (now acc) ≡ subWordBytes p + 8) ⌝ }
+    ensures { λ x. ⌜ now (page .exit) ≡ pageOf p (now (blocks .entry)) ⌝ }
+{
+    let mut i = p.v as usize;
+    while 0 < i {
+        i -= 1;
+        write_afresh(p, rows, w, blocks, page, i, width, t, acc);
+    }
+}
+
+// The page of the blocks, `width` coefficients a step.
+pub fn encode(
+    p: Parameters,
+    rows: [[u64; 13]; 4],
+    w: &[u32],
+    blocks: &[u8],
+    page: &mut [u8],
+    width: usize,
+)
+    requires { ⌜ Ready p (now w) (now blocks) × (rows ≡ generators p) × (length (now page) ≡ pageBytes p) × (1 ≤ width) × (width ≤ 64) ⌝ }
+    ensures { λ x. ⌜ now (page .exit) ≡ pageOf p (now (blocks .entry)) ⌝ }
+{
+    let mut t = [0u64; 3072];
+    let mut room = [0u8; 520];
+    let k = layout::sub_word_bytes(p) + 8;
+    let acc = &mut room[..k];
+    write_later(p, rows, w, blocks, page, width, &mut t, acc);
+    write_earlier(p, rows, w, blocks, page, width, &mut t, acc);
+}
