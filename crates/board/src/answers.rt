@@ -1,0 +1,29 @@
+// Document 01's number of an answer.
+ghost use mathlib.Core.Path.{_≡_};
+ghost use Prim.Native.Nat.{_<_};
+ghost use Rattle.code.specs.Calls.{outcomeNumber, verdictNumber};
+use code::Outcome;
+use code::Verdict;
+
+// 0 for done, or the refusal's number.
+pub fn outcome_number(r: Outcome) -> u32
+    ensures { λ n. ⌜ n ≡ outcomeNumber r ⌝ }
+{
+    let Outcome::Refused(k) = r else {
+        return 0;
+    };
+    k as u32
+}
+
+// 0 for a member, 32 + i for sub-word i, 64 + l for nested word l, or the refusal's number.
+pub fn verdict_number(r: Verdict) -> u32
+    requires { ⌜ verdictNumber r < 128 ⌝ }
+    ensures { λ n. ⌜ n ≡ verdictNumber r ⌝ }
+{
+    match r {
+        Verdict::Member => 0,
+        Verdict::SubWord(i) => 32 + i as u32,
+        Verdict::NestedWord(l) => 64 + l as u32,
+        Verdict::Refused(k) => k as u32,
+    }
+}
