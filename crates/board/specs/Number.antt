@@ -1,5 +1,5 @@
--- The numbers of verdicts, and the promises of judge and read out by them.
-use mathlib.Core.Path.{_≡_, refl, _∙_}
+-- The numbers of outcomes and verdicts, and the promises of the calls by them.
+use mathlib.Core.Path.{_≡_, refl, ap, _∙_}
 use mathlib.Core.Bool.{Bool, true, false, not, cond}
 use mathlib.Core.List.{List}
 use Prim.Native.Nat.{ℕ, zero, suc, _≤_, _<_}
@@ -7,10 +7,11 @@ use native.Mathlib.Omega.{arith}
 use lib.Dec.{ltb}
 use lib.ListN.{length}
 use borrow.Author.Tests.{ltb-true}
+use Rattle.code.specs.declared.Outcome.{Outcome}
 use Rattle.code.specs.declared.Parameters.{Parameters}
 use Rattle.code.specs.declared.Verdict.{Verdict}
 use Rattle.code.specs.Accepted.{accepted}
-use Rattle.code.specs.Calls.{Judged, ReadOut, ReadOutC, judgeAnswer, readAnswer, unlessRefused, verdictNumber}
+use Rattle.code.specs.Calls.{Judged, Made, MadeC, ReadOut, ReadOutC, judgeAnswer, outcomeNumber, readAnswer, unlessRefused, verdictNumber}
 use Rattle.code.specs.Code.{failing, failingNested, verdict}
 use Rattle.code.specs.Layout.{dataBytes, pageBytes, pageClear, wordsOf}
 use Rattle.code.specs.Lists.{_when_, _orElse_}
@@ -18,6 +19,10 @@ use Rattle.code.specs.Parameters.{Accepted, sheetRefusal}
 use Rattle.code.specs.Refusals.{judgeRefusal, readLengths, readRefusal, notExact}
 use Rattle.code.specs.Refused.{judge-le, or-none, read-le}
 use Rattle.refusal.specs.Judging.{sheet-zero}
+
+-- ---- the number of an outcome
+pub made-number : (k : ℕ) (result old after : List ℕ) (r : Outcome) (n : ℕ) → Made k result old after r → n ≡ outcomeNumber r → MadeC k result old after n
+made-number k result old after r n o e = record { answers = e ∙ ap outcomeNumber (o .answers); small = o .small; buffer = o .buffer }
 
 -- ---- a verdict's number is below 128
 verdict-by : (b c : Bool) (f m g v : ℕ) → ltb f m ≡ b → ltb g v ≡ c → m ≤ 8 → v ≤ 3 → verdictNumber (cond b (Verdict.SubWord f) (cond c (Verdict.NestedWord g) Verdict.Member)) < 128
