@@ -63,8 +63,7 @@ pub extern "C" fn gii_judge(
         t2,
         t3,
     };
-    let r = page::judge(p, page);
-    verdict_number(r)
+    verdict_number(page::judge(p, page))
 }
 
 // The blocks of the page, member or not, and judge's answer.
