@@ -5,10 +5,10 @@ use crate::chain::word_refusal;
 use crate::work::nested_of;
 use crate::work::remainder_into;
 use crate::work::short_into;
-use crate::work::sub_word;
 use crate::work::syndromes_into;
 use code::Outcome;
 use code::Parameters;
+use nested::sub_word;
 
 pub mod chain; // the refusal of these calls
 mod divide; // remainders and quotients by any row
