@@ -13,7 +13,7 @@ use layout::stored_of;
 use layout::sub_word_bytes;
 
 // The bytes of sub-word i.
-fn sub_word(p: Parameters, page: &[u8], i: usize) -> &[u8]
+pub fn sub_word(p: Parameters, page: &[u8], i: usize) -> &[u8]
     requires { ⌜ Accepted p × (length (now page) ≡ pageBytes p) × (i < p .m) ⌝ }
     ensures { λ r. ⌜ now r ≡ take (subWordBytes p) (drop (i * subWordBytes p) (now (page .entry))) ⌝ }
 {

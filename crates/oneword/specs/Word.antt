@@ -23,29 +23,20 @@ use Rattle.code.specs.Code.{divisor, remainder, shortRemainder, syndromes}
 use Rattle.code.specs.Layout.{IsPage, wordsOf}
 use Rattle.code.specs.Pages.{page-words, room}
 use Rattle.code.specs.Parameters.{Accepted, nestedBytes, stored, strength, subWordBytes}
-use Rattle.layout.specs.Parts.{word-at, word-room}
-use Rattle.layout.specs.Sizes.{page-high}
+use Rattle.layout.specs.Parts.{word-at}
 
 pub record WordIs (p : Parameters) (c : ℕ) (s : List ℕ) : Type 0 where
   pub is : value 8 s ≡ c
   pub below : c < 2 ^ stored p
 
--- ---- sub-word i of a page, from byte i b to byte i b + b
-module _ (p : Parameters) (A : Accepted p) (x : List ℕ) (h : IsPage p x) (i : ℕ) (l : i < p .m) (b : ℕ) (e : b ≡ subWordBytes p) where
-  pub word-ends : i * b + b ≤ length x
-  word-ends = rw (e, h .exact) (word-room p i l)
-
-  pub word-low : i * b + b ≤ 4096
-  word-low = rw e (Nat.le-trans (word-room p i l) (page-high p A))
-
-  pub sub-word-is : WordIs p (subWordOf p x i) (take (i * b + b - i * b) (drop (i * b) x))
-  sub-word-is =
-      let k : i * b + b - i * b ≡ b = omega arith in
-      let w = page-words p (accepted p A) x h in
-      record {
-        is = ap (λ (n : ℕ). value 8 (take n (drop (i * b) x))) k ∙ ap (λ (n : ℕ). value 8 (take n (drop (i * n) x))) e ∙ sym (word-at p x i l);
-        below = all-at (λ c. c < 2 ^ stored p) (wordsOf p x) (w .below) i (rw (w .many) l);
-      }
+-- ---- sub-word i of a page
+pub sub-word-is : (p : Parameters) → Accepted p → (x : List ℕ) → IsPage p x → (i : ℕ) → i < p .m → (s : List ℕ) → s ≡ take (subWordBytes p) (drop (i * subWordBytes p) x) → WordIs p (subWordOf p x i) s
+sub-word-is p A x h i l s e =
+    let w = page-words p (accepted p A) x h in
+    record {
+      is = ap (value 8) e ∙ sym (word-at p x i l);
+      below = all-at (λ c. c < 2 ^ stored p) (wordsOf p x) (w .below) i (rw (w .many) l);
+    }
 
 -- ---- nested word l, in b + 8 bytes of 520, the others 0
 module _ (b : ℕ) (h : b ≤ 512) where

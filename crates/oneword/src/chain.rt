@@ -30,8 +30,8 @@ pub fn word_refusal(
     0
 }
 
-// The bytes of a word of the field of q, 2^q / 8; 0 where q is above 12.
-pub fn word_bytes(q: u32) -> usize
+// The bytes of a nested word in the field of q, 2^q / 8; 0 where q is above 12.
+pub fn nested_bytes(q: u32) -> usize
     ensures { λ r. ⌜ r ≡ cond (leb q 12) (2 ^ q / 8) 0 ⌝ }
 {
     if 12 < q {

@@ -1,14 +1,14 @@
 // The calls on one word of a page. Each tests everything: the parameters, the page, the word's number, the length of the lent buffer.
 ghost use Rattle.code.specs.Calls.{RemainderMade, ShortMade, NestedMade, SyndromesMade, NestedSyndromesMade};
-use crate::chain::word_bytes;
+use crate::chain::nested_bytes;
 use crate::chain::word_refusal;
 use crate::work::nested_of;
 use crate::work::remainder_into;
 use crate::work::short_into;
-use crate::work::sub_word;
 use crate::work::syndromes_into;
 use code::Outcome;
 use code::Parameters;
+use nested::sub_word;
 
 pub mod chain; // the refusal of these calls
 mod divide; // remainders and quotients by any row
@@ -44,7 +44,7 @@ pub fn short_remainder(p: Parameters, page: &[u8], l: usize, out: &mut [u8]) -> 
 pub fn nested_word(p: Parameters, page: &[u8], l: usize, out: &mut [u8]) -> Outcome
     ensures { λ r. ⌜ NestedMade p (now (page .entry)) l (now (out .entry)) (now (out .exit)) r ⌝ }
 {
-    let exact = word_bytes(p.q);
+    let exact = nested_bytes(p.q);
     let k = word_refusal(p, page, l, p.v as usize, out.len(), exact);
     if k != 0 {
         return Outcome::Refused(k);

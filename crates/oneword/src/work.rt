@@ -4,7 +4,7 @@ ghost use Prim.Native.Nat.{_*_, _^_, _≤_, _<_};
 ghost use lib.ListN.{length};
 ghost use Rattle.polynomial.specs.Digits.{value, digits};
 ghost use Rattle.polynomial.specs.Division.{deg, rem};
-ghost use Rattle.code.specs.Calls.{nestedOf, subWordOf};
+ghost use Rattle.code.specs.Calls.{nestedOf};
 ghost use Rattle.code.specs.Code.{degree, divisor, remainder, syndromes};
 ghost use Rattle.code.specs.Layout.{IsPage};
 ghost use Rattle.code.specs.Parameters.{Accepted, stored, strength};
@@ -12,17 +12,6 @@ ghost use Rattle.oneword.specs.Word.{WordIs};
 use crate::divide::quotient;
 use crate::divide::remainder_by;
 use code::Parameters;
-
-// Sub-word i of a page.
-pub fn sub_word(p: Parameters, page: &[u8], i: usize) -> &[u8]
-    requires { ⌜ Accepted p × IsPage p (now page) × (i < p .m) ⌝ }
-    ensures { λ r. ⌜ WordIs p (subWordOf p (now (page .entry)) i) (now r) ⌝ }
-{
-    let b = layout::sub_word_bytes(p);
-    let at = i * b;
-    let end = at + b;
-    &page[at..end]
-}
 
 // Nested word l of a page, in its bytes with zeros after them.
 pub fn nested_of(p: Parameters, page: &[u8], l: usize) -> [u8; 520]

@@ -10,8 +10,8 @@ use Rattle.oneword.specs.Word.{bytes-exact, nested-made}
 use Rattle.oneword.proofs.nested_word.Statement.{statement}
 use Rattle.oneword.proofs.nested_word.Tie as tie
 
-word-bytes-requires : tie.Need-word-bytes-requires
-word-bytes-requires c κs = search needs
+nested-bytes-requires : tie.Need-nested-bytes-requires
+nested-bytes-requires c κs = search needs
 
 cast-word-refusal : tie.Need-cast-word-refusal
 cast-word-refusal c = search needs
@@ -21,7 +21,7 @@ word-refusal-requires c κs = search needs
 
 -- the chain, by the bytes as the definition has them
 chain : (c : tie.After-word-refusal) → let a = c .before .before .before .before .before .args in c .word-refusal .result ≡ nestedRefusal (a .p) (a .page .now) (a .l) (length (a .out .now))
-chain c = c .word-refusal .ensures ∙ word-alike _ _ _ _ _ _ _ (λ A. c .before .before .word-bytes .ensures ∙ bytes-exact _ A)
+chain c = c .word-refusal .ensures ∙ word-alike _ _ _ _ _ _ _ (λ A. c .before .before .nested-bytes .ensures ∙ bytes-exact _ A)
 
 returns : tie.Need-returns
 returns c = word-refused _ _ _ _ _ _ _ _ _ (chain (c .before)) (c .if1 .taken)
@@ -54,7 +54,7 @@ pub nested-word-spec : {M : Type 1} → statement M
 nested-word-spec =
     tie.close
     (tie.spec
-    word-bytes-requires
+    nested-bytes-requires
     cast-word-refusal
     word-refusal-requires
     returns

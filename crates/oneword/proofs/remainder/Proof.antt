@@ -1,9 +1,10 @@
 use borrow.Author.Needs.{needs}
-use mathlib.Core.Path.{_≡_, sym, _∙_}
+use mathlib.Core.Path.{sym, _∙_}
 use Prim.Native.Nat.{zero-le}
 use lib.ListN.{length}
+use Rattle.code.specs.Calls.{subWordOf}
 use Rattle.oneword.specs.Chain.{Unrefused, word-zero, word-refused, word-done}
-use Rattle.oneword.specs.Word.{remainder-made}
+use Rattle.oneword.specs.Word.{WordIs, sub-word-is, remainder-made}
 use Rattle.oneword.proofs.remainder.Statement.{statement}
 use Rattle.oneword.proofs.remainder.Tie as tie
 
@@ -20,10 +21,13 @@ free : (c : tie.Else1) → let a = c .before .before .before .before .before .ar
 free c = let w = c .before in word-zero _ _ _ _ _ _ (λ k. w .before .before .before .shared-slice-known .given k .fits) (sym (w .word-refusal .ensures) ∙ c .if1 .left)
 
 sub-word-requires : tie.Need-sub-word-requires
-sub-word-requires c κs = let u = free c in (u .accepted, u .page, u .index)
+sub-word-requires c κs = let u = free c in (u .accepted, u .page .exact, u .index)
+
+word : (c : tie.After-sub-word) → let a = c .before .before .before .before .before .before .args in WordIs (a .p) (subWordOf (a .p) (a .page .now) (a .i)) (c .sub-word .result .now)
+word c = let u = free (c .before) in sub-word-is _ (u .accepted) _ (u .page) _ (u .index) _ (c .sub-word .ensures)
 
 remainder-into-requires : tie.Need-remainder-into-requires
-remainder-into-requires c κs = let s = c .before in let u = free (s .before) in (u .accepted, zero-le, u .list, rw (s .sub-word .ensures .is) (s .sub-word .ensures .below))
+remainder-into-requires c κs = let s = c .before in let u = free (s .before) in (u .accepted, zero-le, u .list, rw (word s .is) (word s .below))
 
 same-length : tie.Need-same-length
 same-length c = search needs
@@ -33,7 +37,7 @@ returns-2 c =
     let r = c .before .before in
     let s = r .before .before in
     let i = s .before in
-    word-done _ _ _ _ _ _ _ _ _ _ (i .before .word-refusal .ensures) (i .if1 .left) (remainder-made _ _ _ _ (s .sub-word .ensures) _ (r .remainder-into .ensures))
+    word-done _ _ _ _ _ _ _ _ _ _ (i .before .word-refusal .ensures) (i .if1 .left) (remainder-made _ _ _ _ (word s) _ (r .remainder-into .ensures))
 
 pub remainder-spec : {M : Type 1} → statement M
 remainder-spec =

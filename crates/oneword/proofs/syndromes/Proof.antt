@@ -4,10 +4,11 @@ use Prim.Native.Nat.{zero-le, _*_}
 use native.Mathlib.Nat as Nat
 use native.Mathlib.Omega.{arith}
 use lib.ListN.{length}
+use Rattle.code.specs.Calls.{subWordOf}
 use Rattle.code.specs.Parameters.{strength}
 use Rattle.code.specs.Refusals.{syndromesRefusal}
 use Rattle.oneword.specs.Chain.{Unrefused, word-alike, word-zero, word-refused, word-done}
-use Rattle.oneword.specs.Word.{syndromes-made}
+use Rattle.oneword.specs.Word.{WordIs, sub-word-is, syndromes-made}
 use Rattle.oneword.proofs.syndromes.Statement.{statement}
 use Rattle.oneword.proofs.syndromes.Tie as tie
 
@@ -37,10 +38,13 @@ free : (c : tie.Else1) → let a = c .before .before .before .before .before .be
 free c = let w = c .before in word-zero _ _ _ _ _ _ (λ k. w .before .before .before .before .shared-slice-known .given k .fits) (sym (chain w) ∙ c .if1 .left)
 
 sub-word-requires : tie.Need-sub-word-requires
-sub-word-requires c κs = let u = free c in (u .accepted, u .page, u .index)
+sub-word-requires c κs = let u = free c in (u .accepted, u .page .exact, u .index)
+
+word : (c : tie.After-sub-word) → let a = c .before .before .before .before .before .before .before .args in WordIs (a .p) (subWordOf (a .p) (a .page .now) (a .i)) (c .sub-word .result .now)
+word c = let u = free (c .before) in sub-word-is _ (u .accepted) _ (u .page) _ (u .index) _ (c .sub-word .ensures)
 
 syndromes-into-requires : tie.Need-syndromes-into-requires
-syndromes-into-requires c κs = let s = c .before in let u = free (s .before) in (u .accepted, zero-le, u .list ∙ Nat.one-mul _, rw (s .sub-word .ensures .is) (s .sub-word .ensures .below))
+syndromes-into-requires c κs = let s = c .before in let u = free (s .before) in (u .accepted, zero-le, u .list ∙ Nat.one-mul _, rw (word s .is) (word s .below))
 
 same-length : tie.Need-same-length
 same-length c = search needs
@@ -50,7 +54,7 @@ returns-2 c =
     let r = c .before .before in
     let s = r .before .before in
     let i = s .before in
-    word-done _ _ _ _ _ _ _ _ _ _ (chain (i .before)) (i .if1 .left) (syndromes-made _ _ _ _ (s .sub-word .ensures) _ (r .syndromes-into .ensures))
+    word-done _ _ _ _ _ _ _ _ _ _ (chain (i .before)) (i .if1 .left) (syndromes-made _ _ _ _ (word s) _ (r .syndromes-into .ensures))
 
 pub syndromes-spec : {M : Type 1} → statement M
 syndromes-spec =

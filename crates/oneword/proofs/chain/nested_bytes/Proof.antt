@@ -3,8 +3,8 @@ use borrow.Author.Tests.{le-leb, lt-leb}
 use mathlib.Core.Path.{_≡_, refl}
 use native.Mathlib.Omega.{arith}
 use Rattle.layout.specs.Sizes.{shifted}
-use Rattle.oneword.proofs.chain.word_bytes.Statement.{statement}
-use Rattle.oneword.proofs.chain.word_bytes.Tie as tie
+use Rattle.oneword.proofs.chain.nested_bytes.Statement.{statement}
+use Rattle.oneword.proofs.chain.nested_bytes.Tie as tie
 
 returns : tie.Need-returns
 returns c = rw (lt-leb (c .before .args .q) 12 (c .if1 .taken)) refl
@@ -15,5 +15,5 @@ shl-size c = search needs
 returns-2 : tie.Need-returns-2
 returns-2 c = let q = c .before .args .q in rw (le-leb q 12 (c .if1 .left), shifted q (omega (arith, c .if1 .left))) refl
 
-pub word-bytes-spec : {M : Type 1} → statement M
-word-bytes-spec = tie.close (tie.spec returns shl-size returns-2)
+pub nested-bytes-spec : {M : Type 1} → statement M
+nested-bytes-spec = tie.close (tie.spec returns shl-size returns-2)
