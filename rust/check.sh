@@ -1,6 +1,6 @@
 #!/usr/bin/env bash
-# All that surrounds the archive, in one run: the header in C and C++, the C program, the reference, the comparison, and
-# any calls. The archive is that of GII_ARCHIVE (a path from rust/), or ../target/staticlib/libboard.a; FUZZ sets the
+# All that surrounds the archive, in one run: the header in C and C++, the C program, the stack of the calls, the reference,
+# the comparison, and any calls. The archive is that of GII_ARCHIVE (a path from rust/), or ../target/staticlib/libboard.a; FUZZ sets the
 # number of any calls.
 set -euo pipefail
 cd "$(dirname "$0")"
@@ -17,6 +17,9 @@ tail -n 1 target/demo.out
 if command -v valgrind > /dev/null; then
     valgrind --quiet --error-exitcode=9 target/demo > target/demo.out
 fi
+
+gcc -std=c11 "${warnings[@]}" -O2 -pthread -I../include stack.c "$archive" -o target/stack
+target/stack
 
 # The stand-in is built with Rust's own library and exports more.
 if [ -z "${GII_ARCHIVE:-}" ]; then

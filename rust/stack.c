@@ -1,0 +1,67 @@
+/* How much stack each call takes, on the largest sheet: a thread on a painted stack. Fails above 128 KiB. */
+#define _GNU_SOURCE
+#include "gii_bch.h"
+
+#include <pthread.h>
+#include <stdio.h>
+#include <stdlib.h>
+#include <string.h>
+#include <sys/mman.h>
+
+#define SHEET 12, 8, 3, 28, 32, 39, 58
+#define STACK ((size_t)1 << 20)
+#define LIMIT ((size_t)128 * 1024)
+#define PAINT 0xA5
+
+static uint8_t blocks[3695], page[4096], back[3695], list[GII_LIST_BYTES(58)];
+static const char *const names[] = {"nothing", "write, L = 64", "write, L = 1", "judge", "read out", "syndromes", "nested syndromes"};
+static size_t call;
+static uint32_t answer;
+
+static void *run(void *unused)
+{
+    (void)unused;
+    switch (call) {
+    case 0: answer = 0; break;
+    case 1: answer = gii_write(SHEET, 64, blocks, sizeof blocks, page, sizeof page); break;
+    case 2: answer = gii_write(SHEET, 1, blocks, sizeof blocks, page, sizeof page); break;
+    case 3: answer = gii_judge(SHEET, page, sizeof page); break;
+    case 4: answer = gii_read_out(SHEET, page, sizeof page, back, sizeof back); break;
+    case 5: answer = gii_syndromes(SHEET, page, sizeof page, 0, list, GII_LIST_BYTES(28)); break;
+    case 6: answer = gii_nested_syndromes(SHEET, page, sizeof page, 0, list, GII_LIST_BYTES(58)); break;
+    }
+    return NULL;
+}
+
+/* The bytes of the stack that a thread leaves without their paint. */
+static size_t used(void)
+{
+    uint8_t *stack = mmap(NULL, STACK, PROT_READ | PROT_WRITE, MAP_PRIVATE | MAP_ANONYMOUS, -1, 0);
+    pthread_attr_t attr;
+    pthread_t thread;
+    size_t clean = 0;
+    if (stack == MAP_FAILED)
+        exit(2);
+    memset(stack, PAINT, STACK);
+    if (pthread_attr_init(&attr) || pthread_attr_setstack(&attr, stack, STACK) || pthread_create(&thread, &attr, run, NULL) || pthread_join(thread, NULL))
+        exit(2);
+    while (clean < STACK && stack[clean] == PAINT)
+        clean++;
+    munmap(stack, STACK);
+    return STACK - clean;
+}
+
+int main(void)
+{
+    size_t own = 0;
+    for (call = 0; call < sizeof names / sizeof *names; call++) {
+        size_t bytes = used();
+        if (call == 0)
+            own = bytes;
+        else
+            printf("stack of %s: %zu bytes\n", names[call], bytes - own);
+        if (answer != 0 || bytes - own > LIMIT)
+            return 1;
+    }
+    return 0;
+}
