@@ -1,0 +1,47 @@
+-- At most 4,097 bytes are written: byte 0 and a page of accepted parameters.
+use mathlib.Core.Path.{_≡_, refl, sym, ap, _∙_}
+use mathlib.Core.Logic.{_⊎_, inl, inr}
+use mathlib.Core.List.{List}
+use Prim.Native.Nat.{ℕ, _+_, _-_, _≤_, _<_}
+use native.Mathlib.Nat as Nat
+use native.Mathlib.Omega.{arith}
+use lib.Dec.{lit≤}
+use lib.ListN.{length, replicate, take, length-append, length-replicate, length-take}
+use Rattle.code.specs.declared.Parameters.{Parameters}
+use Rattle.code.specs.Bytes.{length-join, length-split}
+use Rattle.code.specs.Code.{encode}
+use Rattle.code.specs.Encode.{encode-length}
+use Rattle.code.specs.Layout.{blockSizes, blocksOf, pageBytes, pageOf, wordSizes}
+use Rattle.code.specs.Pages.{blocksOf-eq, length-blocks, pageOf-eq}
+use Rattle.code.specs.Parameters.{subWordBytes}
+use Rattle.code.specs.Writer.{Wrote, blocksGiven, lead, sheetGiven, writer}
+use Rattle.layout.specs.Parts.{length-words}
+use Rattle.layout.specs.Runs.{sum-all, sum-replicate}
+use Rattle.layout.specs.Sizes.{page-high}
+use Rattle.writer.specs.Output.{refusalOf, writer-done, writer-refused}
+use Rattle.writer.specs.Sheet.{write-accepted}
+
+-- a page has its length whatever the blocks are
+page-length : (p : Parameters) (x : List ℕ) → length (pageOf p x) ≡ pageBytes p
+page-length p x =
+    let many : length (encode p (blocksOf p x)) ≡ length (wordSizes p) = encode-length p (blocksOf p x) ∙ ap length (blocksOf-eq p x) ∙ length-split (blockSizes p) x ∙ length-blocks p ∙ sym (length-words p) in
+    ap length (pageOf-eq p x) ∙ length-join (wordSizes p) (encode p (blocksOf p x)) many
+    ∙ sym (sum-all (wordSizes p) (p .m) (length-words p)) ∙ sum-replicate (p .m) (subWordBytes p) (p .m) (Nat.le-refl (p .m))
+
+module _ (input : List ℕ) where
+  pub writer-most : length (writer input) ≤ 4097
+  writer-most = go (Nat.eq-zero-or-pos (refusalOf input))
+    where
+      go : (refusalOf input ≡ 0) ⊎ (0 < refusalOf input) → length (writer input) ≤ 4097
+      go (inl z) =
+          let A = write-accepted (sheetGiven input) (lead input 3) (blocksGiven input) (pageBytes (sheetGiven input)) z in
+          rw (writer-done input z) (omega (arith, page-length (sheetGiven input) (blocksGiven input), page-high (sheetGiven input) A))
+      go (inr h) = rw (writer-refused input (refusalOf input) refl h) (lit≤ tt)
+
+  -- the bytes written stand at the front of the 4,097
+  pub wrote-fits : (count : ℕ) (bytes : List ℕ) → Wrote input count bytes → (count ≤ length bytes) × (count ≡ length (take count bytes))
+  wrote-fits count bytes w =
+      let e : length bytes ≡ length (writer input) + (4097 - length (writer input)) =
+      ap length (w .output) ∙ length-append (writer input) (replicate (4097 - length (writer input)) 0) ∙ ap (λ (k : ℕ). length (writer input) + k) (length-replicate (4097 - length (writer input)) 0) in
+      let h : count ≤ length bytes = omega (arith, w .counted) in
+      (h, sym (length-take count bytes ∙ Nat.min-eq-left h))
