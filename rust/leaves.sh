@@ -1,0 +1,14 @@
+#!/usr/bin/env bash
+# Times of the library's leaves, which the archive of the C calls does not export: a copy of the repository gets the crate
+# leaves/crate, whose archive is measured by leaves/bench.c. Prints a markdown table.
+set -euo pipefail
+cd "$(dirname "$0")"
+copy=$(mktemp -d)
+trap 'rm -rf "$copy"' EXIT
+cp -r ../crates ../crates.txt "$copy"
+[ -d ../target ] && cp -r ../target "$copy"
+cp -r leaves/crate "$copy/crates/leaves"
+echo 'leaves: polynomial field generator code tables sheet words generators layout level' >> "$copy/crates.txt"
+(cd "$copy" && rt staticlib leaves && rt staticlib board) > target/leaves.log
+gcc -std=c11 -Wall -Wextra -Werror -O2 -I../include leaves/bench.c "$copy/target/staticlib/libleaves.a" "$copy/target/staticlib/libboard.a" -o target/leaves
+target/leaves
