@@ -3,18 +3,18 @@
 
     python3 tools/trial.py crates/trial
 
-writes stdin and stdout there. The answers come from tools/cases.py, another encoder written from document 01; the
-generators of the large fields here, by the product of x + alpha^s over the roots. Nothing is drawn at random but from
-its fixed sequence.
+writes stdin and stdout there. The answers come from tools/cases.py, another encoder written from document 01. For the
+large fields two of its parts are done again here: generators by the product of x + alpha^s over the roots, and the
+elimination on the code's conditions with its columns as numbers. Nothing is drawn at random but from its fixed sequence.
 """
 import sys
 from functools import lru_cache
 from pathlib import Path
 
 import cases
-from cases import FIELD, below, bits, bytes_of_bits, nesting, number, refusal, some_bytes, strength
+from cases import FIELD, below, nesting, number, refusal, some_bytes, strength
 
-TEST, NESTING, GENERATORS, ELEMENTS, OPEN, FEED, REMAINDER, SHORT, NESTED, SYNDROMES, NESTED_SYNDROMES = range(11)
+TEST, NESTING, GENERATORS, ELEMENTS, OPEN, FEED, REMAINDER, SHORT, NESTED, SYNDROMES, NESTED_SYNDROMES, JUDGE, READ_OUT, WRITE = range(14)
 WIDTHS = (1, 7, 8, 63, 64)
 
 A = (4, 2, 1, 1, 2, 0, 0)
@@ -66,9 +66,50 @@ for q, t in ((4, 1), (4, 2), (4, 3), (8, 1), (8, 2)):
 cases.generator = generator
 
 
+# ---- the elimination: a unit at place k of sub-word i gives alpha^(j k) there, and alpha^(j (k + l i)) in nested word l
+
+def solved(sheet, ws, unknown, nested_words, free):
+    q, m, v, *t = sheet
+    alpha = cases.powers(q)
+    part = lambda k, count: sum(alpha[j * k % len(alpha)] << q * (j - 1) for j in range(1, count + 1))
+    starts, at = {}, 2 * t[0] * m
+    for l in nested_words:
+        starts[l] = at
+        at += 2 * t[v - l]
+    basis = {}
+    for b, (i, k) in enumerate(unknown):
+        value = part(k, 2 * t[0]) << q * 2 * t[0] * i
+        value += sum(part(k + l * i, 2 * t[v - l]) << q * starts[l] for l in nested_words)
+        flips = 1 << b
+        while value.bit_length() in basis:
+            other, more = basis[value.bit_length()]
+            value, flips = value ^ other, flips ^ more
+        assert value, 'more than one page'
+        basis[value.bit_length()] = value, flips
+    rest, flips = cases.conditions(sheet, ws, nested_words), 0
+    while rest:
+        other, more = basis[rest.bit_length()]
+        rest, flips = rest ^ other, flips ^ more
+    ws = [list(w) for w in ws]
+    for b, (i, k) in enumerate(unknown):
+        ws[i][k] ^= flips >> b & 1
+    assert cases.conditions(sheet, ws, nested_words) == 0
+    return ws
+
+
+def ones():
+    return [cases.page_of_blocks(s, cases.all_ones(s)) for s in (A, B)]
+
+
+other = ones()
+cases.solved = solved
+assert ones() == other
+
+
 # ---- records
 
 given, expected = bytearray(), bytearray()
+seen = [set() for _ in range(14)]
 
 
 def le(x, size=8):
@@ -78,6 +119,7 @@ def le(x, size=8):
 def record(call, sheet, answer, i=0, l=0, width=0, page=(), size=0, u=0, count=0):
     given.extend(bytes([call, *sheet, i, l, width, 0]) + le(len(page), 2) + le(size, 2) + le(u) + le(count) + bytes(page))
     expected.extend(answer)
+    seen[call].add(answer[0])
 
 
 def words(xs):
@@ -179,12 +221,65 @@ def one_word():
         each(s, [255], 255, 5)
 
 
+def pages():
+    def verdict(k):
+        return le(k, 1) if k < 32 else le(k // 32 * 32, 1) + le(k % 32)
+
+    def each(s, page, size):
+        record(JUDGE, s, verdict(cases.judged(s, page)[0]), page=page)
+        k, *blocks = cases.read_out(s, page, [165] * size)
+        record(READ_OUT, s, verdict(k) + bytes(blocks), page=page, size=size)
+
+    def write(s, width, blocks, page, size):
+        code = refusal(s, width=width, blocks=blocks, page=size)
+        record(WRITE, s, le(code, 1) + bytes([165] * size if code else page), width=width, page=blocks, size=size)
+
+    # multiples of g_0, added to the first sub-words, that nested words below l do not show
+    nests = ([[1]], [[1], [1]], [[0, 1], [1, 1], [1]])
+    for s in SHEETS:
+        n, m = cases.length(s), s[1]
+        few = range(m) if s[0] < 12 else (0, m - 1)
+        size, room = cases.data_bytes(s), cases.page_bytes(s)
+        blocks = cases.some_blocks(s)
+        page = cases.page_of_blocks(s, blocks)
+        for width in WIDTHS + (0, 65, 255):
+            write(s, width, blocks, page, room)
+        for k in (room - 1, room + 1, 0):
+            write(s, 8, blocks, page, k)
+        for x in (blocks[:-1], blocks + [0], [], [255] * size, [0] * (size - 1) + [128]):
+            write(s, 64, x, page, room)
+        write(s, 0, [255] * (size + 1), page, room + 1)
+        write(s, 1, [255] * (size + 1), page, room + 1)
+        write(s, 1, [255] * size, page, room + 1)
+        each(s, page, size)
+        each(s, [0] * room, size)
+        each(s, cases.some_page(s), size)
+        for i in few:
+            each(s, cases.flipped(s, page, (i, below(n))), size)
+            each(s, cases.flipped(s, page, (i, n)), size)
+        for nest in nests[:s[2]]:
+            ws = cases.words(s, page)
+            for i, f in enumerate(nest):
+                ws[i] = cases.added(ws[i], cases.multiplied(f, cases.gen(s, 0)))
+            each(s, cases.page_of_words(s, ws), size)
+        for x, k in ((page[:-1], size), (page + [0], size), (page, size - 1), (page, size + 1), ([255] * room, size + 1), ([255] * (room + 1), size)):
+            each(s, x, k)
+    for s in SHEETS[:-1]:
+        ones = cases.all_ones(s)
+        write(s, 63, ones, cases.page_of_blocks(s, ones), cases.page_bytes(s))
+    for s in REFUSED:
+        write(s, 0, [255], [], 5)
+        each(s, [255], 5)
+    assert seen[JUDGE] == {0, 1, 2, 3, 4, 7, 8, 32, 64} and seen[READ_OUT] == seen[JUDGE] | {6} and seen[WRITE] == set(range(9))
+
+
 if __name__ == '__main__':
     tests()
     nestings()
     elements()
     registers()
     one_word()
+    pages()
     room = Path(sys.argv[1])
     (room / 'stdin').write_bytes(given)
     (room / 'stdout').write_bytes(expected)

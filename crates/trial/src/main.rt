@@ -1,11 +1,12 @@
 // Runs the calls on records from standard input and writes what they give.
 //   record   32 bytes: call, q, m, v, t0 to t3, index, second index, width, 0, page length, buffer length (two bytes each, low first), u, count (eight bytes each);
-//            then the page's bytes, or for a feeding the register's 96
-//   answer   the refusal's number or 0, then what the call gives, and the lent buffer whole
+//            then the page's bytes, for a writing the blocks', for a feeding the register's 96
+//   answer   the refusal's number or 0, then what the call gives, and the lent buffer whole; of a verdict 0, 32 or 64, then the word's index
 use code::Nesting;
 use code::Outcome;
 use code::Parameters;
 use code::Tested;
+use code::Verdict;
 use element::Computed;
 use element::Element;
 use element::Field;
@@ -202,8 +203,31 @@ fn put_list(r: Outcome, list: &[u16]) {
     put_pairs(list);
 }
 
-// The calls on one word that give bytes.
-fn bytes_call(call: u8, p: Parameters, page: &[u8], i: usize, out: &mut [u8]) {
+fn put_verdict(r: Verdict) {
+    if let Verdict::Refused(k) = r {
+        put(k);
+        return;
+    }
+    if let Verdict::SubWord(i) = r {
+        put(32);
+        put_number(i as u64);
+        return;
+    }
+    if let Verdict::NestedWord(l) = r {
+        put(64);
+        put_number(l as u64);
+        return;
+    }
+    put(0);
+}
+
+fn judge(p: Parameters, page: &[u8]) {
+    let r = page::judge(p, page);
+    put_verdict(r);
+}
+
+// The calls that fill lent bytes.
+fn bytes_call(call: u8, p: Parameters, page: &[u8], i: usize, width: u32, out: &mut [u8]) {
     if call == 6 {
         let r = oneword::remainder(p, page, i, out);
         put_bytes(r, out);
@@ -214,7 +238,18 @@ fn bytes_call(call: u8, p: Parameters, page: &[u8], i: usize, out: &mut [u8]) {
         put_bytes(r, out);
         return;
     }
-    let r = oneword::nested_word(p, page, i, out);
+    if call == 8 {
+        let r = oneword::nested_word(p, page, i, out);
+        put_bytes(r, out);
+        return;
+    }
+    if call == 12 {
+        let r = page::read_out(p, page, out);
+        put_verdict(r);
+        io::write_all(STDOUT_FILENO, out);
+        return;
+    }
+    let r = page::write(p, width, page, out);
     put_bytes(r, out);
 }
 
@@ -229,10 +264,10 @@ fn list_call(call: u8, p: Parameters, page: &[u8], i: usize, list: &mut [u16]) {
     put_list(r, list);
 }
 
-fn lend_bytes(call: u8, p: Parameters, page: &[u8], i: usize, size: usize) {
-    let mut room = [165u8; 1024];
-    if size <= 1024 {
-        bytes_call(call, p, page, i, &mut room[..size]);
+fn lend_bytes(call: u8, p: Parameters, page: &[u8], i: usize, width: u32, size: usize) {
+    let mut room = [165u8; 8192];
+    if size <= 8192 {
+        bytes_call(call, p, page, i, width, &mut room[..size]);
     }
 }
 
@@ -288,11 +323,14 @@ fn run(h: &[u8], page: &[u8], size: usize) {
     if call == 5 {
         feed(p, byte(h, 8), count, page, width, u);
     }
-    if 6 <= call && call <= 8 {
-        lend_bytes(call, p, page, i, size);
+    if 6 <= call && call <= 8 || 12 <= call && call <= 13 {
+        lend_bytes(call, p, page, i, width, size);
     }
     if 9 <= call && call <= 10 {
         lend_list(call, p, page, i, size);
+    }
+    if call == 11 {
+        judge(p, page);
     }
 }
 
