@@ -84,7 +84,7 @@ fn remainder_fits(words: &[u64], w: usize) -> bool
 // ---- refusals
 
 // For any numbers: 1 to 4, 9, or 0.
-fn open_refusal(p: Parameters, level: u32) -> u8
+pub fn open_refusal(p: Parameters, level: u32) -> u8
     ensures { λ r. ⌜ r ≡ openRefusal p level ⌝ }
 {
     let tested = sheet::test(p);

@@ -1,0 +1,115 @@
+// The sizes of a sheet: the degrees of its generators, the bytes of a page and of its blocks, and the distance. Each call takes any numbers.
+ghost use mathlib.Core.Path.{_≡_};
+ghost use Prim.Native.Nat.{_+_, _*_, _≤_, min};
+ghost use Rattle.code.specs.Code.{degree as Code·degree, distance as Code·distance};
+ghost use Rattle.code.specs.Layout.{dataBytes, pageBytes};
+ghost use Rattle.code.specs.Parameters.{Accepted, sheetRefusal};
+ghost use Rattle.code.specs.Refusals.{openRefusal};
+ghost use Rattle.sizes.specs.Sized.{Sized};
+use code::Parameters;
+use code::Tested;
+
+// A size, or the number of the refusal.
+pub enum Size {
+    Is(usize),
+    Refused(u8),
+}
+
+// The refusal of the parameters, 1 to 4, or 0.
+fn sheet_refusal(p: Parameters) -> u8
+    ensures { λ r. ⌜ r ≡ sheetRefusal p ⌝ }
+{
+    let tested = sheet::test(p);
+    let Tested::Refused(k) = tested else {
+        return 0;
+    };
+    k
+}
+
+// The degree of the level's generator; 9 for a level above v.
+pub fn degree(p: Parameters, level: u32) -> Size
+    ensures { λ r. ⌜ Sized (openRefusal p level) (Code·degree p level) r ⌝ }
+{
+    let k = register::open_refusal(p, level);
+    if k != 0 {
+        return Size::Refused(k);
+    }
+    let rows = generators::rows(p);
+    let w = level::degree_at(p, rows, level as usize);
+    Size::Is(w as usize)
+}
+
+// The bytes of a page.
+pub fn page_bytes(p: Parameters) -> Size
+    ensures { λ r. ⌜ Sized (sheetRefusal p) (pageBytes p) r ⌝ }
+{
+    let k = sheet_refusal(p);
+    if k != 0 {
+        return Size::Refused(k);
+    }
+    let n = layout::page_bytes(p);
+    Size::Is(n)
+}
+
+// The bytes of all blocks.
+pub fn data_bytes(p: Parameters) -> Size
+    ensures { λ r. ⌜ Sized (sheetRefusal p) (dataBytes p) r ⌝ }
+{
+    let k = sheet_refusal(p);
+    if k != 0 {
+        return Size::Refused(k);
+    }
+    let rows = generators::rows(p);
+    let w = level::degrees(p, rows);
+    let n = layout::data_bytes(p, &w);
+    Size::Is(n)
+}
+
+// ---- the distance
+
+// The weight of b words that each have 2 t + 1 ones.
+fn weight(b: u32, t: u32) -> u32
+    requires { ⌜ (b ≤ 4) × (t ≤ 64) ⌝ }
+    ensures { λ r. ⌜ r ≡ b * (2 * t + 1) ⌝ }
+{
+    b * (2 * t + 1)
+}
+
+fn smaller(a: u32, b: u32) -> u32
+    ensures { λ r. ⌜ r ≡ min a b ⌝ }
+{
+    if a <= b {
+        return a;
+    }
+    b
+}
+
+// The least of (v + 1)(2 t_0 + 1) and b (2 t_(v-b+1) + 1), b from 1 to v.
+fn least(p: Parameters) -> u32
+    requires { ⌜ Accepted p ⌝ }
+    ensures { λ r. ⌜ r ≡ Code·distance p ⌝ }
+{
+    let v = p.v;
+    let t = sheet::strength_at(p, 0);
+    let mut d = weight(v + 1, t);
+    let mut b: u32 = 1;
+    while b <= v {
+        let s = sheet::strength_at(p, v - b + 1);
+        let e = weight(b, s);
+        d = smaller(e, d);
+        b += 1;
+    }
+    d
+}
+
+// The least number of bits in which two different members can differ, as the formulas give it.
+pub fn distance(p: Parameters) -> Size
+    ensures { λ r. ⌜ Sized (sheetRefusal p) (Code·distance p) r ⌝ }
+{
+    let k = sheet_refusal(p);
+    if k != 0 {
+        return Size::Refused(k);
+    }
+    let d = least(p);
+    Size::Is(d as usize)
+}
