@@ -14,12 +14,17 @@ g++ -std=c++11 "${warnings[@]}" -fsyntax-only -I../include -x c++ target/header.
 gcc -std=c99 "${warnings[@]}" -O2 -I../include ../examples/c/demo.c "$archive" -o target/demo
 target/demo > target/demo.out || { cat target/demo.out; exit 1; }
 tail -n 1 target/demo.out
-if command -v valgrind > /dev/null; then
-    valgrind --quiet --error-exitcode=9 target/demo > target/demo.out
-fi
 
 gcc -std=c11 "${warnings[@]}" -O2 -pthread -I../include stack.c "$archive" -o target/stack
 target/stack
+gcc -std=c11 "${warnings[@]}" -O1 -g -fsanitize=address,undefined -fno-sanitize-recover=all -I../include fuzz.c "$archive" -o target/fuzz-sanitized
+target/fuzz-sanitized 100000 1
+gcc -std=c11 "${warnings[@]}" -O2 -g -I../include fuzz.c "$archive" -o target/fuzz-plain
+
+if command -v valgrind > /dev/null; then
+    valgrind --quiet --error-exitcode=9 target/demo > target/demo.out
+    valgrind --quiet --error-exitcode=9 target/fuzz-plain 1000 2
+fi
 
 # The stand-in is built with Rust's own library and exports more.
 if [ -z "${GII_ARCHIVE:-}" ]; then
