@@ -167,6 +167,8 @@ int main(void)
     MEASURE("CRC-32 of 4,096 bytes, a byte at a time", SAMPLES, 10, for (int k = 0; k < 10; k++) sink += crc(page, sizeof page));
     crc_time = last;
     MEASURE("the sheet's test and generators", SAMPLES, 10, sink += leaf_generators(SHEET, 10, row, 13));
+    MEASURE("the same, q 4, m 2, v 1, t 1, 2", SAMPLES, 10, sink += leaf_generators(4, 2, 1, 1, 2, 0, 0, 10, row, 13));
+    MEASURE("the same, q 8, m 4, v 2, t 4, 8, 16", SAMPLES, 10, sink += leaf_generators(8, 4, 2, 4, 8, 16, 0, 10, row, 13));
     MEASURE("plain: the generators, roots one by one", 11, 1, for (int k = 0; k < 4; k++) sink += (uint32_t)plain_generator((int[]){28, 32, 39, 58}[k], g));
     MEASURE("the table of one generator", SAMPLES, 100, sink += leaf_tables(SHEET, 100, table, 3072));
     MEASURE("remainder of 4,095 bits, L = 64", SAMPLES, 100, sink += leaf_remainders(SHEET, 64, 100, word, sizeof word, row, 13));

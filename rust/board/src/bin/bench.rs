@@ -176,12 +176,16 @@ fn main() {
     for row in rows.iter().filter(|row| row.sides.len() == 1) {
         println!("| {} | {} |", row.call, with_spread(&row.sides[0].1));
     }
-    println!("\n| sheet | page bytes | call | width | archive | per byte | reference |\n|---|---|---|---|---|---|---|");
+    let median = |timed: &Timed| timed.percentiles()[1];
+    let crc = rows.iter().find(|row| row.call == "CRC-32").map_or(1.0, |row| median(&row.sides[0].1));
+    println!("\n| sheet | page bytes | call | width | archive | of a CRC-32 of 4,096 bytes | per byte | reference | reference to archive |");
+    println!("|---|---|---|---|---|---|---|---|---|");
     for row in rows.iter().filter(|row| row.sides.len() == 2) {
         let Row { sheet, call, width, bytes, sides } = row;
-        let per_byte = sides[0].1.percentiles()[1] / *bytes as f64;
+        let time = median(&sides[0].1);
+        let (of_crc, per_byte, slower) = (time / crc, time / *bytes as f64, median(&sides[1].1) / time);
         let (archive, reference) = (with_spread(&sides[0].1), with_spread(&sides[1].1));
-        println!("| {sheet} | {bytes} | {call} | {width} | {archive} | {per_byte:.2} ns | {reference} |");
+        println!("| {sheet} | {bytes} | {call} | {width} | {archive} | {of_crc:.2} | {per_byte:.2} ns | {reference} | {slower:.1} |");
     }
 
     if let Some(file) = std::env::args().nth(1) {
