@@ -1,0 +1,41 @@
+-- Tests of answers.
+--   isDone r, isMember r    is it done? is it member?
+use mathlib.Core.Path.{_≡_, refl, sym, ap, _∙_}
+use mathlib.Core.Bool.{Bool, Bool·beq, true, false}
+use mathlib.Core.Logic.{_↔_}
+use native.Mathlib.Omega.{arith}
+use Prim.Native.Nat.{ℕ}
+use Rattle.code.specs.declared.Outcome.{Outcome}
+use Rattle.code.specs.declared.Verdict.{Verdict}
+
+abbrev pub isDone : Outcome → Bool
+isDone Outcome.Done = true
+isDone (Outcome.Refused k) = false
+
+abbrev pub isMember : Verdict → Bool
+isMember Verdict.Member = true
+isMember (Verdict.SubWord i) = false
+isMember (Verdict.NestedWord l) = false
+isMember (Verdict.Refused k) = false
+
+never : false ≡ true → ⊥
+never e = let z : _≡_ {A = ℕ} 0 1 = cc in omega arith
+
+pub is-done : (r : Outcome) → isDone r ≡ true → r ≡ Outcome.Done
+is-done Outcome.Done e = refl
+is-done (Outcome.Refused k) e = absurd (never e)
+
+pub is-member : (r : Verdict) → isMember r ≡ true → r ≡ Verdict.Member
+is-member Verdict.Member e = refl
+is-member (Verdict.SubWord i) e = absurd (never e)
+is-member (Verdict.NestedWord l) e = absurd (never e)
+is-member (Verdict.Refused k) e = absurd (never e)
+
+agree : (a b : Bool) → (a ≡ true → b ≡ true) → (b ≡ true → a ≡ true) → Bool·beq a b ≡ true
+agree true b f g = rw (f refl) refl
+agree false true f g = absurd (never (g refl))
+agree false false f g = refl
+
+-- a verdict and a comparison that agree are found alike
+pub alike-found : (P : Type 0) (r : Verdict) (b s : Bool) → b ≡ isMember r → ((r ≡ Verdict.Member) ↔ P) → (s ≡ true → P) × (P → s ≡ true) → Bool·beq b s ≡ true
+alike-found P r b s e f g = agree b s (λ t. g .1 (f .0 (is-member r (sym e ∙ t)))) (λ t. e ∙ ap isMember (f .1 (g .0 t)))

@@ -1,0 +1,4 @@
+-- What the program's checks rest on, beside what the calls promise.
+pub mod Answers
+pub mod Sum
+pub mod Sheets
