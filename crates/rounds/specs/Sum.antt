@@ -1,10 +1,9 @@
 -- A sum of bytes, place by place.
 --   Summed a b s i    s has the sums of a and b below place i
-use mathlib.Core.Path.{_≡_, refl, sym, ap, ap₂, _∙_}
+use mathlib.Core.Path.{_≡_, refl, sym, _∙_}
 use mathlib.Core.List.{List, [], _∷_}
 use Prim.Native.Nat.{ℕ, zero, suc, _+_, _≤_, _<_}
 use native.Mathlib.Nat as Nat
-use native.Mathlib.Omega.{arith}
 use borrow.Author.Count.{below-more}
 use lib.Bits.{bitXor}
 use lib.ListN.{length, getD, set, length-set}

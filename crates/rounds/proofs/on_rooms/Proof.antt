@@ -1,5 +1,5 @@
 use borrow.Author.Needs.{needs}
-use mathlib.Core.Path.{_≡_, sym, _∙_}
+use mathlib.Core.Path.{sym, _∙_}
 use lib.ListN.{length, length-take}
 use native.Mathlib.Nat as Nat
 use Rattle.rounds.proofs.on_rooms.Statement.{statement}

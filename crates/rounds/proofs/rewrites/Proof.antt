@@ -1,5 +1,5 @@
 use borrow.Author.Needs.{needs}
-use mathlib.Core.Path.{_≡_, sym, ap, _∙_}
+use mathlib.Core.Path.{ap, _∙_}
 use Rattle.code.specs.Demands.{Rewrites}
 use Rattle.code.specs.Theorems.{demands}
 use Rattle.rounds.specs.Answers.{isDone, isMember, alike-found}

@@ -1,5 +1,5 @@
 use borrow.Author.Needs.{needs}
-use mathlib.Core.Path.{_≡_, sym, ap, _∙_}
+use mathlib.Core.Path.{sym, ap, _∙_}
 use Rattle.code.specs.declared.Outcome.{Outcome}
 use Rattle.code.specs.Demands.{Sums}
 use Rattle.code.specs.Theorems.{demands}

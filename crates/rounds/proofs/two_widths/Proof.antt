@@ -1,6 +1,6 @@
 use borrow.Author.Needs.{needs}
 use borrow.Author.Tests.{eq-eqb, not-false}
-use mathlib.Core.Path.{_≡_, sym, ap, _∙_}
+use mathlib.Core.Path.{sym, ap, _∙_}
 use Rattle.code.specs.Calls.{outcomeNumber}
 use Rattle.code.specs.Demands.{Alike}
 use Rattle.code.specs.Theorems.{demands}
