@@ -1,18 +1,18 @@
 -- Bytes added in place, from the lowest on.
---   Added l₀ l y i          the i lowest bytes of y are added to l₀, which makes l
+--   Added l₀ l at y i       the i lowest bytes of y are added to l₀ from byte `at` on, which makes l
 --   Adding l₀ l at v i u    v is being added to l₀ from byte `at` on, which has made l: u is left, to go to byte i
 use mathlib.Core.Path.{_≡_, refl, sym, ap, ap₂, _∙_}
 use mathlib.Core.List.{List, _++_}
-use Prim.Native.Nat.{ℕ, zero, suc, _+_, _-_, _*_, _/_, _%_, _^_, _≤_, _<_, zero-le}
-use native.Mathlib.Nat.{mod-one, add-zero, zero-add, add-assoc, add-comm, zero-mul, add-mul, mul-assoc, mod-lt}
+use Prim.Native.Nat.{ℕ, zero, suc, _+_, _-_, _*_, _/_, _%_, _^_, _≤_, _<_}
+use native.Mathlib.Nat.{mod-one, add-zero, zero-add, add-assoc, add-comm, zero-mul, add-mul, mul-assoc, mod-lt, mul-one, div-one}
 use native.Mathlib.Omega.{arith}
 use lib.Bits.{bitXor}
 use lib.ListN.{length, getD, take, drop, set, length-set}
 use lib.Pow.{split, pow-pos, pow-add, shr-shr, shr-lt}
 use Rattle.polynomial.specs.Digits.{digits, value}
 use Rattle.polynomial.specs.Division.{xor-lt}
-use Rattle.polynomial.specs.Xor.{xor-comm, xor, xor-is, xor-zero-r, xor-assoc}
-use Rattle.words.specs.Shift.{xor-block, part, join, xor-shl}
+use Rattle.polynomial.specs.Xor.{xor-comm, xor, xor-is, xor-zero-l, xor-zero-r, xor-assoc}
+use Rattle.words.specs.Shift.{xor-block, part, join, up-down, xor-shl}
 use Rattle.words.specs.Value.{Bounded, take-mod, set-xor, drop-shr, value-split}
 use Rattle.words.specs.Write.{put-take, put-drop}
 
@@ -42,41 +42,74 @@ add-word-law l l′ at v w b h k hv e f =
     g : 8 * (at + 8) ≡ 8 * at + 64
     g = omega arith
 
+-- up by i bytes and then by `at`
+up-bytes : (x at i : ℕ) → x * 2 ^ (8 * (at + i)) ≡ x * 2 ^ (8 * i) * 2 ^ (8 * at)
+up-bytes x at i =
+    let k : 8 * (at + i) ≡ 8 * i + 8 * at = omega arith in
+    ap (λ (n : ℕ). x * 2 ^ n) k ∙ ap (λ (n : ℕ). x * n) (pow-add 2 (8 * i) (8 * at)) ∙ sym (mul-assoc x (2 ^ (8 * i)) (2 ^ (8 * at)))
+
+-- j bytes of y from byte i on are added beside the i below, all from byte `at` on
+pub bytes-law : (a₀ a a′ at y i j n v : ℕ) → i + j ≡ n → a ≡ xor a₀ (y % 2 ^ (8 * i) * 2 ^ (8 * at)) → v ≡ y / 2 ^ (8 * i) % 2 ^ (8 * j) → a′ ≡ xor a (v * 2 ^ (8 * (at + i)))
+    → a′ ≡ xor a₀ (y % 2 ^ (8 * n) * 2 ^ (8 * at))
+bytes-law a₀ a a′ at y i j n v h e d f =
+    let g : 8 * j + 8 * i ≡ 8 * n = omega arith in
+    f ∙ ap₂ xor e (up-bytes v at i ∙ ap (λ (x : ℕ). x * 2 ^ (8 * i) * 2 ^ (8 * at)) d)
+    ∙ xor-assoc a₀ (y % 2 ^ (8 * i) * 2 ^ (8 * at)) (y / 2 ^ (8 * i) % 2 ^ (8 * j) * 2 ^ (8 * i) * 2 ^ (8 * at))
+    ∙ ap (xor a₀) (sym (xor-shl (8 * at) (y % 2 ^ (8 * i)) (y / 2 ^ (8 * i) % 2 ^ (8 * j) * 2 ^ (8 * i)))
+    ∙ ap (λ (x : ℕ). x * 2 ^ (8 * at)) (xor-comm (y % 2 ^ (8 * i)) (y / 2 ^ (8 * i) % 2 ^ (8 * j) * 2 ^ (8 * i)) ∙ sym (part y (8 * j) (8 * i)) ∙ ap (λ (m : ℕ). y % 2 ^ m) g))
+
 -- ---- words of y, from the lowest on
-pub record Added (l₀ l : List ℕ) (y i : ℕ) : Type 0 where
-  pub within : i ≤ length l
+pub record Added (l₀ l : List ℕ) (at y i : ℕ) : Type 0 where
+  pub within : at + i ≤ length l
   pub same : length l ≡ length l₀
-  pub done : value 8 l ≡ xor (value 8 l₀) (y % 2 ^ (8 * i))
+  pub done : value 8 l ≡ xor (value 8 l₀) (y % 2 ^ (8 * i) * 2 ^ (8 * at))
 
-pub added-start : (l : List ℕ) (y : ℕ) → Added l l y 0
-added-start l y = record { within = zero-le; same = refl; done = sym (rw (mod-one y) (xor-zero-r (value 8 l))) }
+pub added-start : (l : List ℕ) (at y : ℕ) → at ≤ length l → Added l l at y 0
+added-start l at y h = record {
+  within = omega arith;
+  same = refl;
+  done = sym (rw (mod-one y, zero-mul (2 ^ (8 * at))) (xor-zero-r (value 8 l)));
+}
 
-module _ (l₀ l l′ : List ℕ) (y i v : ℕ) (f : value 8 l′ ≡ xor (value 8 l) (v * 2 ^ (8 * i))) where
-  -- v is the next c bits
-  pub added-next : (c : ℕ) → v ≡ y / 2 ^ (8 * i) % 2 ^ c → Added l₀ l y i → value 8 l′ ≡ xor (value 8 l₀) (y % 2 ^ (c + 8 * i))
-  added-next c e p =
-      f ∙ ap₂ xor (p .done) (ap (λ (x : ℕ). x * 2 ^ (8 * i)) e) ∙ xor-assoc (value 8 l₀) (y % 2 ^ (8 * i)) (y / 2 ^ (8 * i) % 2 ^ c * 2 ^ (8 * i))
-      ∙ ap (xor (value 8 l₀)) (xor-comm (y % 2 ^ (8 * i)) (y / 2 ^ (8 * i) % 2 ^ c * 2 ^ (8 * i)) ∙ sym (part y c (8 * i)))
+pub added-word : (l₀ l l′ : List ℕ) (at y k v : ℕ) → value 8 l′ ≡ xor (value 8 l) (v * 2 ^ (8 * (at + 8 * k))) → at + 8 * k + 8 ≤ length l → length l′ ≡ length l
+    → v ≡ y / 2 ^ (8 * (8 * k)) % 2 ^ 64 → Added l₀ l at y (8 * k) → Added l₀ l′ at y (8 * (k + 1))
+added-word l₀ l l′ at y k v f h g e p = record {
+  within = omega arith;
+  same = g ∙ p .same;
+  done = bytes-law (value 8 l₀) (value 8 l) (value 8 l′) at y (8 * k) 8 (8 * (k + 1)) v (omega arith) (p .done) e f;
+}
 
-  pub added-word : i + 8 ≤ length l → length l′ ≡ length l → v ≡ y / 2 ^ (8 * i) % 2 ^ 64 → Added l₀ l y i → Added l₀ l′ y (i + 8)
-  added-word h k e p = record {
-    within = omega arith;
-    same = k ∙ p .same;
-    done =
-        let j : 64 + 8 * i ≡ 8 * (i + 8) = omega arith in
-        added-next 64 e p ∙ ap (λ (n : ℕ). xor (value 8 l₀) (y % 2 ^ n)) j;
-  }
+-- c bits of z from x^q on, which is byte i from x^p on
+pub next-bits : (z p q i c v : ℕ) → q ≡ p + 8 * i → v ≡ z / 2 ^ q % 2 ^ c → v ≡ z / 2 ^ p / 2 ^ (8 * i) % 2 ^ c
+next-bits z p q i c v h e = e ∙ ap (λ (n : ℕ). n % 2 ^ c) (ap (λ (n : ℕ). z / 2 ^ n) h ∙ sym (shr-shr z p (8 * i)))
 
-  -- v is the bytes that are left
-  pub added-rest : (n : ℕ) → length l ≡ n → i ≤ n → v ≡ y / 2 ^ (8 * i) % 2 ^ (8 * (length l - i)) → Added l₀ l y i → value 8 l′ ≡ xor (value 8 l₀) (y % 2 ^ (8 * n))
-  added-rest n k h e p =
-      let j : 8 * (length l - i) + 8 * i ≡ 8 * n = omega arith in
-      added-next (8 * (length l - i)) e p ∙ ap (λ (m : ℕ). xor (value 8 l₀) (y % 2 ^ m)) j
+-- ---- y added in parts, from byte 0 on
+pub all-law : (a₀ a y m n : ℕ) → m ≡ n → a ≡ xor a₀ (y / 1 % 2 ^ (8 * m) * 1) → a ≡ xor a₀ (y % 2 ^ (8 * n))
+all-law a₀ a y m n h e = e ∙ ap (xor a₀) (mul-one (y / 1 % 2 ^ (8 * m)) ∙ ap₂ (λ (x k : ℕ). x % 2 ^ (8 * k)) (div-one y) h)
 
-pub added-all : (l₀ l : List ℕ) (y i n : ℕ) → length l ≤ i → length l ≡ n → Added l₀ l y i → value 8 l ≡ xor (value 8 l₀) (y % 2 ^ (8 * n))
-added-all l₀ l y i n h k p =
-    let e : i ≡ n = omega arith in
-    p .done ∙ ap (λ (m : ℕ). xor (value 8 l₀) (y % 2 ^ (8 * m))) e
+part-law : (a₀ a a′ y i j n v : ℕ) → i + j ≡ n → a ≡ xor a₀ (y % 2 ^ (8 * i)) → v ≡ y / 2 ^ (8 * i) % 2 ^ (8 * j) → a′ ≡ xor a (v * 2 ^ (8 * i)) → a′ ≡ xor a₀ (y % 2 ^ (8 * n))
+part-law a₀ a a′ y i j n v h e d f =
+    bytes-law a₀ a a′ 0 y i j n v h (e ∙ ap (xor a₀) (sym (mul-one (y % 2 ^ (8 * i))))) d (rw zero-add f) ∙ ap (xor a₀) (mul-one (y % 2 ^ (8 * n)))
+
+-- x moved up by s: i bytes, j bytes that begin with x's bit p, and the k that are left
+pub up-law : (x s p i j k n a₀ a₁ a₂ a₃ : ℕ) → s + p ≡ 8 * i → i + j + k ≡ n → a₁ ≡ xor a₀ (x * 2 ^ s / 1 % 2 ^ (8 * i) * 1) → a₂ ≡ xor a₁ (x / 2 ^ p % 2 ^ (8 * j) * 2 ^ (8 * i))
+    → a₃ ≡ xor a₂ (x * 2 ^ s / 2 ^ (8 * (i + j)) % 2 ^ (8 * k) * 2 ^ (8 * (i + j))) → a₃ ≡ xor a₀ (x * 2 ^ s % 2 ^ (8 * n))
+up-law x s p i j k n a₀ a₁ a₂ a₃ h g e₁ e₂ e₃ =
+    part-law a₀ a₂ a₃ (x * 2 ^ s) (i + j) k n _ g
+    (part-law a₀ a₁ a₂ (x * 2 ^ s) i j (i + j) _ refl (all-law a₀ a₁ (x * 2 ^ s) i i refl e₁)
+    (ap (λ (m : ℕ). m % 2 ^ (8 * j)) (sym (up-down x s (8 * i) (omega arith) ∙ ap (λ (m : ℕ). x / 2 ^ m) q))) e₂)
+    refl e₃
+  where
+    q : 8 * i - s ≡ p
+    q = omega arith
+
+-- x moved down by w: j bytes, and the k that are left
+pub down-law : (x w q r j k n a₁ a₂ : ℕ) → q ≡ w → r ≡ w + 8 * j → j + k ≡ n → a₁ ≡ xor 0 (x / 2 ^ q % 2 ^ (8 * j) * 1) → a₂ ≡ xor a₁ (x * 1 / 2 ^ r % 2 ^ (8 * k) * 2 ^ (8 * j))
+    → a₂ ≡ x / 2 ^ w % 2 ^ (8 * n)
+down-law x w q r j k n a₁ a₂ f h g e₁ e₂ =
+    part-law 0 a₁ a₂ (x / 2 ^ w) j k n _ g (e₁ ∙ ap (xor 0) (mul-one (x / 2 ^ q % 2 ^ (8 * j)) ∙ ap (λ (m : ℕ). x / 2 ^ m % 2 ^ (8 * j)) f))
+    (next-bits x w r j (8 * k) _ h (ap (λ (m : ℕ). m / 2 ^ r % 2 ^ (8 * k)) (mul-one x))) e₂
+    ∙ xor-zero-l (x / 2 ^ w % 2 ^ (8 * n))
 
 -- ---- bytes of v from byte `at` on: i bytes are reached, and u is left
 pub record Adding (l₀ l : List ℕ) (at v i u : ℕ) : Type 0 where
@@ -107,7 +140,7 @@ adding-turn l₀ l at v i u b z p =
       within = simp length-set (omega arith);
       left = simp length-set (shr-lt (8 * (length l - (i + 1))) 8 (rw (room h) (p .left)));
       done =
-          ap₂ xor (ap (λ (x : ℕ). value 8 (set l i x)) (xor-is (getD l i 0) (u % 256)) ∙ set-xor 8 l b i (u % 256) h (mod-lt u (pow-pos 8))) (up (u / 256))
+          ap₂ xor (ap (λ (x : ℕ). value 8 (set l i x)) (xor-is (getD l i 0) (u % 256)) ∙ set-xor 8 l b i (u % 256) h (mod-lt u (pow-pos 8))) (up-bytes (u / 256) i 1)
           ∙ xor-assoc (value 8 l) (u % 256 * 2 ^ (8 * i)) (u / 256 * 256 * 2 ^ (8 * i))
           ∙ ap (xor (value 8 l)) (sym (xor-shl (8 * i) (u % 256) (u / 256 * 256))
           ∙ ap (λ (x : ℕ). x * 2 ^ (8 * i)) (xor-comm (u % 256) (u / 256 * 256) ∙ sym (join (u / 256) 8 (u % 256) (mod-lt u (pow-pos 8))) ∙ split u 8))
@@ -116,11 +149,6 @@ adding-turn l₀ l at v i u b z p =
   where
     room : i < length l → 8 * (length l - (i + 1)) + 8 ≡ 8 * (length l - i)
     room h = omega arith
-
-    up : (x : ℕ) → x * 2 ^ (8 * (i + 1)) ≡ x * 256 * 2 ^ (8 * i)
-    up x =
-        let k : 8 * (i + 1) ≡ 8 + 8 * i = omega arith in
-        ap (λ (n : ℕ). x * 2 ^ n) k ∙ ap (λ (n : ℕ). x * n) (pow-add 2 8 (8 * i)) ∙ sym (mul-assoc x 256 (2 ^ (8 * i)))
 
 pub adding-done : (l₀ l : List ℕ) (at v i u : ℕ) → u ≡ 0 → Adding l₀ l at v i u → value 8 l ≡ xor (value 8 l₀) (v * 2 ^ (8 * at))
 adding-done l₀ l at v i u z p = sym (ap (xor (value 8 l)) (rw z (zero-mul (2 ^ (8 * i)))) ∙ xor-zero-r (value 8 l)) ∙ p .done

@@ -1,6 +1,6 @@
 -- Bits read out of bytes.
 --   eight s at    the eight bytes at `at` as code adds them up, 0 past the end
-use mathlib.Core.Path.{_≡_, refl, sym, ap, _∙_}
+use mathlib.Core.Path.{_≡_, refl, sym, ap, ap₂, _∙_}
 use mathlib.Core.List.{List}
 use Prim.Native.Nat.{ℕ, _+_, _-_, _*_, _/_, _%_, _^_, _≤_, _<_}
 use native.Mathlib.Nat.{add-assoc}
@@ -52,28 +52,27 @@ module _ (s : List ℕ) (b : Bounded 8 s) where
   pub byte-is : (at : ℕ) → getD s at 0 ≡ value 8 s / 2 ^ (8 * at) % 2 ^ 8
   byte-is at = sym (value-at 8 s (bounded-all 8 s b) at)
 
--- ---- the c bits of x from place `pos` on, out of a word and the byte above
+-- ---- 64 bits of x from place s of byte `at` on, out of a word and the c bits above
+pub word-law : (x at s c : ℕ) → s < 64 → s ≤ c
+    → x / 2 ^ (8 * at) % 2 ^ 64 / 2 ^ s + moved (x / 2 ^ (8 * (at + 8)) % 2 ^ c) (63 - s) ≡ x / 2 ^ (8 * at + s) % 2 ^ 64
+word-law x at s c h k =
+    ap (λ (n : ℕ). x / 2 ^ (8 * at) % 2 ^ 64 / 2 ^ s + moved (n % 2 ^ c) (63 - s)) (ap (λ (n : ℕ). x / 2 ^ n) g ∙ sym (shr-shr x (8 * at) 64))
+    ∙ window s h (x / 2 ^ (8 * at)) c k ∙ ap (λ (n : ℕ). n % 2 ^ 64) (shr-shr x (8 * at) s)
+  where
+    g : 8 * (at + 8) ≡ 8 * at + 64
+    g = omega arith
+
+-- the c bits of x from place `pos` on, out of a word and the byte above
 pub bits-law : (x pos c : ℕ) → c ≤ 64
     → (x / 2 ^ (8 * (pos / 8)) % 2 ^ 64 / 2 ^ (pos % 8) + moved (x / 2 ^ (8 * (pos / 8 + 8)) % 2 ^ 8) (63 - pos % 8)) * 2 ^ (64 - c) % 2 ^ 64 / 2 ^ (64 - c)
     ≡ x / 2 ^ pos % 2 ^ c
 bits-law x pos c h =
     mask _ c h
-    ∙ ap (λ (n : ℕ). n % 2 ^ c)
-    (ap (λ (n : ℕ). y % 2 ^ 64 / 2 ^ (pos % 8) + moved (n % 2 ^ 8) (63 - pos % 8)) above ∙ window (pos % 8) (omega arith) y 8 (omega arith))
-    ∙ ap (λ (n : ℕ). y / 2 ^ (pos % 8) % 2 ^ n % 2 ^ c) (sym e) ∙ mod-mod-pow (y / 2 ^ (pos % 8)) (64 - c) c
-    ∙ ap (λ (n : ℕ). n % 2 ^ c) (shr-shr x (8 * (pos / 8)) (pos % 8) ∙ ap (λ (n : ℕ). x / 2 ^ n) f)
+    ∙ ap (λ (n : ℕ). n % 2 ^ c) (word-law x (pos / 8) (pos % 8) 8 (omega arith) (omega arith) ∙ ap₂ (λ (m n : ℕ). x / 2 ^ m % 2 ^ n) f (sym e))
+    ∙ mod-mod-pow (x / 2 ^ pos) (64 - c) c
   where
-    y : ℕ
-    y = x / 2 ^ (8 * (pos / 8))
-
     e : (64 - c) + c ≡ 64
     e = omega arith
 
     f : 8 * (pos / 8) + pos % 8 ≡ pos
     f = omega arith
-
-    g : 8 * (pos / 8 + 8) ≡ 8 * (pos / 8) + 64
-    g = omega arith
-
-    above : x / 2 ^ (8 * (pos / 8 + 8)) ≡ y / 2 ^ 64
-    above = ap (λ (n : ℕ). x / 2 ^ n) g ∙ sym (shr-shr x (8 * (pos / 8)) 64)

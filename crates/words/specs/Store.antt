@@ -2,7 +2,7 @@
 use mathlib.Core.Path.{_≡_, sym, ap, ap₂, _∙_}
 use mathlib.Core.List.{List}
 use Prim.Native.Nat.{ℕ, _+_, _-_, _*_, _/_, _%_, _^_, _≤_, _<_}
-use native.Mathlib.Nat.{add-zero, lt-of-lt-of-le, lt-of-le-of-lt, mod-eq-of-lt, mod-le}
+use native.Mathlib.Nat.{add-zero, mul-one, lt-of-lt-of-le, lt-of-le-of-lt, mod-eq-of-lt, mod-le}
 use native.Mathlib.Omega.{arith}
 use lib.ListN.{length, getD}
 use lib.Pow.{split, pow-mono, shr-lt}
@@ -28,9 +28,9 @@ last-lt r b w n m h e k =
     o = omega arith
 
 -- the check bits are added below the data, where nothing stands
-pub under : (d v w m x : ℕ) → d % 2 ^ w ≡ 0 → v < 2 ^ w → w ≤ m → x ≡ xor d (v % 2 ^ m) → x ≡ d + v
+pub under : (d v w m x : ℕ) → d % 2 ^ w ≡ 0 → v < 2 ^ w → w ≤ m → x ≡ xor d (v % 2 ^ m * 1) → x ≡ d + v
 under d v w m x z h k e =
-    e ∙ ap₂ xor whole (mod-eq-of-lt (lt-of-lt-of-le h (pow-mono {i = w} {j = m} k))) ∙ sym (join (d / 2 ^ w) w v h) ∙ ap (λ (n : ℕ). n + v) (sym whole)
+    e ∙ ap₂ xor whole (mul-one (v % 2 ^ m) ∙ mod-eq-of-lt (lt-of-lt-of-le h (pow-mono {i = w} {j = m} k))) ∙ sym (join (d / 2 ^ w) w v h) ∙ ap (λ (n : ℕ). n + v) (sym whole)
   where
     whole : d ≡ d / 2 ^ w * 2 ^ w
     whole = sym (split d w) ∙ rw z (add-zero (d / 2 ^ w * 2 ^ w))

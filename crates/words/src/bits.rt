@@ -59,6 +59,16 @@ pub fn word_in(s: &[u8], at: usize) -> u64
     eight_in(s, at)
 }
 
+// The 64 coefficients from bit sh of byte `at` on, out of two words.
+pub fn window_in(s: &[u8], at: usize, sh: usize) -> u64
+    requires { ⌜ (at + 16 ≤ length (now s)) × (sh < 64) ⌝ }
+    ensures { λ r. ⌜ r ≡ value 8 (now (s .entry)) / 2 ^ (8 * at + sh) % 2 ^ 64 ⌝ }
+{
+    let lo = word_in(s, at);
+    let hi = word_in(s, at + 8);
+    (lo >> sh) + ((hi << 1) << (63 - sh))
+}
+
 // The `count` coefficients from x^pos on.
 pub fn bits(s: &[u8], pos: usize, count: usize) -> u64
     requires { ⌜ (pos < 1000000) × (1 ≤ count) × (count ≤ 64) ⌝ }

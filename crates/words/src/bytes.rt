@@ -10,6 +10,7 @@ ghost use Rattle.polynomial.specs.Xor.{xor};
 ghost use Rattle.words.specs.Row.{D};
 use crate::bits::bits;
 use crate::bits::bits_up;
+use crate::bits::window_in;
 use crate::bits::word_in;
 
 // The 8 bytes at `at` are set to v.
@@ -25,42 +26,6 @@ pub fn put_word(dst: &mut [u8], at: usize, v: u64)
     dst[at + 5] = (v / 1099511627776 % 256) as u8;
     dst[at + 6] = (v / 281474976710656 % 256) as u8;
     dst[at + 7] = (v / 72057594037927936 % 256) as u8;
-}
-
-// src moved down by w places is copied to dst, 64 coefficients at a time and then 8.
-pub fn copy_down(dst: &mut [u8], src: &[u8], w: usize)
-    requires { ⌜ (w < 8192) × (length (now dst) < 8192) ⌝ }
-    ensures { λ x. ⌜ value 8 (now (dst .exit)) ≡ value 8 (now (src .entry)) / 2 ^ w % 2 ^ (8 * length (now (dst .entry))) ⌝ }
-{
-    let mut i: usize = 0;
-    while i + 8 <= dst.len() {
-        let v = bits(src, w + 8 * i, 64);
-        put_word(dst, i, v);
-        i += 8;
-    }
-    while i < dst.len() {
-        let b = bits(src, w + 8 * i, 8);
-        dst[i] = b as u8;
-        i += 1;
-    }
-}
-
-// src moved up by w places is copied to dst, 64 coefficients at a time and then 8; what passes dst's end is lost.
-pub fn copy_up(dst: &mut [u8], src: &[u8], w: usize)
-    requires { ⌜ length (now dst) < 8192 ⌝ }
-    ensures { λ x. ⌜ value 8 (now (dst .exit)) ≡ value 8 (now (src .entry)) * 2 ^ w % 2 ^ (8 * length (now (dst .entry))) ⌝ }
-{
-    let mut i: usize = 0;
-    while i + 8 <= dst.len() {
-        let v = bits_up(src, w, 8 * i, 64);
-        put_word(dst, i, v);
-        i += 8;
-    }
-    while i < dst.len() {
-        let b = bits_up(src, w, 8 * i, 8);
-        dst[i] = b as u8;
-        i += 1;
-    }
 }
 
 // v is added from byte `at` on.
@@ -86,21 +51,118 @@ pub fn add_bytes(acc: &mut [u8], at: usize, v: u64)
     }
 }
 
-// x moved up by s places is added into acc, 64 coefficients at a time; what passes acc's end is lost.
+// How many whole words stand from byte `at` on.
+fn words_from(len: usize, at: usize) -> usize
+    ensures { λ r. ⌜ 8 * r ≤ len - at ⌝ }
+{
+    if len < at {
+        return 0;
+    }
+    (len - at) / 8
+}
+
+// The smaller number.
+fn fewer(a: usize, b: usize) -> usize
+    ensures { λ r. ⌜ (r ≤ a) × (r ≤ b) ⌝ }
+{
+    if a < b {
+        return a;
+    }
+    b
+}
+
+// `count` words of x · x^up, from x^pos on, are added from byte `from` on.
+fn add_words(acc: &mut [u8], from: usize, x: &[u8], up: usize, pos: usize, count: usize)
+    requires { ⌜ (from + 8 * count ≤ length (now acc)) × (pos + 64 * count < 1000000) ⌝ }
+    ensures { λ r. ⌜ value 8 (now (acc .exit)) ≡ xor (value 8 (now (acc .entry))) (value 8 (now (x .entry)) * 2 ^ up / 2 ^ pos % 2 ^ (8 * (8 * count)) * 2 ^ (8 * from)) ⌝ }
+{
+    let mut k: usize = 0;
+    while k < count {
+        let v = bits_up(x, up, pos + 64 * k, 64);
+        add_word(acc, from + 8 * k, v);
+        k += 1;
+    }
+}
+
+// `count` words of x, from bit sh of byte `at` on, are added from byte `from` on; 8 bytes of x follow them. No test in the loop: compiled, it takes two words at a time.
+fn add_windows(acc: &mut [u8], from: usize, x: &[u8], at: usize, sh: usize, count: usize)
+    requires { ⌜ (from + 8 * count ≤ length (now acc)) × (8 * count ≤ length (now x) - (at + 8)) × (sh < 64) ⌝ }
+    ensures { λ r. ⌜ value 8 (now (acc .exit)) ≡ xor (value 8 (now (acc .entry))) (value 8 (now (x .entry)) / 2 ^ (8 * at + sh) % 2 ^ (8 * (8 * count)) * 2 ^ (8 * from)) ⌝ }
+{
+    let mut k: usize = 0;
+    while k < count {
+        let v = window_in(x, at + 8 * k, sh);
+        add_word(acc, from + 8 * k, v);
+        k += 1;
+    }
+}
+
+// x · x^up, from x^pos on, is added from byte `from` on; what passes acc's end is lost.
+fn add_rest(acc: &mut [u8], from: usize, x: &[u8], up: usize, pos: usize)
+    requires { ⌜ (from ≤ length (now acc)) × (length (now acc) < 8192) × (pos < 500000) ⌝ }
+    ensures { λ r. ⌜ value 8 (now (acc .exit)) ≡ xor (value 8 (now (acc .entry))) (value 8 (now (x .entry)) * 2 ^ up / 2 ^ pos % 2 ^ (8 * (length (now (acc .entry)) - from)) * 2 ^ (8 * from)) ⌝ }
+{
+    let n = acc.len() - from;
+    let c = n / 8;
+    add_words(acc, from, x, up, pos, c);
+    if n % 8 == 0 {
+        return;
+    }
+    let v = bits_up(x, up, pos + 64 * c, 8 * (n % 8));
+    add_bytes(acc, from + 8 * c, v);
+}
+
+// x moved up by s places is added into acc; what passes acc's end is lost. From byte o on each byte has 8 coefficients of x: the words from there on as far as x has two words for each are added by windows.
 pub fn add_up(acc: &mut [u8], x: &[u8], s: usize)
     requires { ⌜ length (now acc) < 8192 ⌝ }
     ensures { λ r. ⌜ value 8 (now (acc .exit)) ≡ xor (value 8 (now (acc .entry))) (value 8 (now (x .entry)) * 2 ^ s % 2 ^ (8 * length (now (acc .entry)))) ⌝ }
 {
-    let mut i: usize = 0;
-    while i + 8 <= acc.len() {
-        let v = bits_up(x, s, 8 * i, 64);
-        add_word(acc, i, v);
-        i += 8;
+    let o = s / 8 + (s % 8 + 7) / 8;
+    let h = (o + 7) / 8;
+    if acc.len() < 8 * h {
+        add_rest(acc, 0, x, s, 0);
+        return;
     }
-    if i < acc.len() {
-        let v = bits_up(x, s, 8 * i, 8 * (acc.len() - i));
-        add_bytes(acc, i, v);
+    let from = 8 * h;
+    let at = from - o;
+    let c = fewer(words_from(acc.len(), from), words_from(x.len(), at + 8));
+    add_words(acc, 0, x, s, 0, h);
+    add_windows(acc, from, x, at, 8 * o - s, c);
+    let end = from + 8 * c;
+    add_rest(acc, end, x, s, 8 * end);
+}
+
+// The bytes from `from` on are set to 0.
+fn clear_bytes(acc: &mut [u8], from: usize)
+    requires { ⌜ from ≤ length (now acc) ⌝ }
+    ensures { λ x. ⌜ value 8 (now (acc .exit)) ≡ value 8 (take from (now (acc .entry))) ⌝ }
+{
+    let mut i = from;
+    while i < acc.len() {
+        acc[i] = 0;
+        i += 1;
     }
+}
+
+// src moved up by w places is copied to dst; what passes dst's end is lost.
+pub fn copy_up(dst: &mut [u8], src: &[u8], w: usize)
+    requires { ⌜ length (now dst) < 8192 ⌝ }
+    ensures { λ x. ⌜ value 8 (now (dst .exit)) ≡ value 8 (now (src .entry)) * 2 ^ w % 2 ^ (8 * length (now (dst .entry))) ⌝ }
+{
+    clear_bytes(dst, 0);
+    add_up(dst, src, w);
+}
+
+// src moved down by w places is copied to dst.
+pub fn copy_down(dst: &mut [u8], src: &[u8], w: usize)
+    requires { ⌜ (w < 8192) × (length (now dst) < 8192) ⌝ }
+    ensures { λ x. ⌜ value 8 (now (dst .exit)) ≡ value 8 (now (src .entry)) / 2 ^ w % 2 ^ (8 * length (now (dst .entry))) ⌝ }
+{
+    let at = w / 8;
+    let c = fewer(dst.len() / 8, words_from(src.len(), at + 8));
+    clear_bytes(dst, 0);
+    add_windows(dst, 0, src, at, w % 8, c);
+    add_rest(dst, 8 * c, src, 0, w + 64 * c);
 }
 
 // The w check coefficients in r are put below the data in dst, whose own w lowest are 0.
@@ -138,11 +200,7 @@ fn clear_from(acc: &mut [u8], n: usize)
 {
     let k = n / 8;
     acc[k] = acc[k] % 128;
-    let mut i = k + 1;
-    while i < acc.len() {
-        acc[i] = 0;
-        i += 1;
-    }
+    clear_bytes(acc, k + 1);
 }
 
 // acc is folded modulo x^n + 1: what stands from x^n on is added below.

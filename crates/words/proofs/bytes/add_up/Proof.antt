@@ -1,98 +1,108 @@
--- The loop: the i lowest bytes of x * 2 ^ s are added. Then the rest in one go.
-use Prim.Native.Nat.{_-_, _*_, _^_}
-use native.Mathlib.Nat.{mod-lt}
+-- The parts, one after the other: up-law.
 use native.Mathlib.Omega.{arith}
 use lib.ListN.{length}
-use lib.Pow.{pow-pos}
 use borrow.Author.Needs.{needs}
 use Rattle.polynomial.specs.Digits.{value}
-use Rattle.words.specs.Add.{Added, added-start, added-word, added-rest, added-all}
+use Rattle.words.specs.Add.{all-law, up-law}
 use Rattle.words.proofs.bytes.add_up.Statement.{statement}
 use Rattle.words.proofs.bytes.add_up.Tie as tie
 
-abbrev Inv-loop : tie.InvT-loop
-Inv-loop acc₀ x s i₀ acc i = Added acc₀ acc (value 8 x * 2 ^ s) i
+add-o : tie.Need-add-o
+add-o c = search needs
 
-abbrev μ-loop : tie.MeasureT-loop
-μ-loop acc₀ x s i₀ acc i = length acc - i
+add-o-2 : tie.Need-add-o-2
+add-o-2 c = search needs
 
-loop-holds : tie.Need-loop-holds Inv-loop μ-loop
-loop-holds c = added-start _ _
+add-h : tie.Need-add-h
+add-h c = search needs
 
-add-loop : tie.Need-add-loop Inv-loop μ-loop
-add-loop c = search needs
+mul-if1 : tie.Need-mul-if1
+mul-if1 c = search needs
 
-mul-bits-up : tie.Need-mul-bits-up Inv-loop μ-loop
-mul-bits-up c = search needs
+add-rest-requires : tie.Need-add-rest-requires
+add-rest-requires c κs = search needs
 
-bits-up-requires : tie.Need-bits-up-requires Inv-loop μ-loop
-bits-up-requires c κs = search needs
-
-add-word-requires : tie.Need-add-word-requires Inv-loop μ-loop
-add-word-requires c κs = search needs
-
-add-i : tie.Need-add-i Inv-loop μ-loop
-add-i c = search needs
-
-loop-less : tie.Need-loop-less Inv-loop μ-loop
-loop-less c = search needs
-
-loop-again : tie.Need-loop-again Inv-loop μ-loop
-loop-again c =
-    let l = c .before .before .before .before .before .before .loop in
-    added-word _ (l .acc) _ _ (l .i) _ (c .before .before .add-word .ensures) (omega arith) (c .before .before .add-word .kept .0) (c .before .before .before .before .bits-up .ensures) (l .inv)
-
-mul-bits-up-2 : tie.Need-mul-bits-up-2 Inv-loop μ-loop
-mul-bits-up-2 c = search needs
-
-sub-bits-up : tie.Need-sub-bits-up Inv-loop μ-loop
-sub-bits-up c = search needs
-
-mul-bits-up-3 : tie.Need-mul-bits-up-3 Inv-loop μ-loop
-mul-bits-up-3 c = search needs
-
-bits-up-requires-2 : tie.Need-bits-up-requires-2 Inv-loop μ-loop
-bits-up-requires-2 c κs = search needs
-
-add-bytes-requires : tie.Need-add-bytes-requires Inv-loop μ-loop
-add-bytes-requires c κs = (omega arith, rw (c .before .bits-up2 .ensures) (mod-lt _ (pow-pos _)))
-
-same-length : tie.Need-same-length Inv-loop μ-loop
+same-length : tie.Need-same-length
 same-length c = search needs
 
-returns : tie.Need-returns Inv-loop μ-loop
+returns : tie.Need-returns
 returns c =
-    let l = c .before .before .before .before .before .before .before .loop in
-    added-rest _ (l .acc) _ _ (l .i) _ (c .before .before .add-bytes .ensures) _ (l .inv .same) (omega arith) (c .before .before .before .before .bits-up2 .ensures) (l .inv)
+    all-law _ _ _ _ (length (c .before .before .before .before .before .before .before .args .acc .now)) (omega arith) (c .before .before .add-rest .ensures)
 
-same-length-2 : tie.Need-same-length-2 Inv-loop μ-loop
+mul-from : tie.Need-mul-from
+mul-from c = search needs
+
+sub-at : tie.Need-sub-at
+sub-at c = search needs
+
+words-from-requires : tie.Need-words-from-requires
+words-from-requires c κs = search needs
+
+add-words-from : tie.Need-add-words-from
+add-words-from c = search needs
+
+words-from-requires-2 : tie.Need-words-from-requires-2
+words-from-requires-2 c κs = search needs
+
+fewer-requires : tie.Need-fewer-requires
+fewer-requires c κs = search needs
+
+add-words-requires : tie.Need-add-words-requires
+add-words-requires c κs = search needs
+
+mul-add-windows : tie.Need-mul-add-windows
+mul-add-windows c = search needs
+
+sub-add-windows : tie.Need-sub-add-windows
+sub-add-windows c = search needs
+
+add-windows-requires : tie.Need-add-windows-requires
+add-windows-requires c κs = search needs
+
+mul-end : tie.Need-mul-end
+mul-end c = search needs
+
+add-end : tie.Need-add-end
+add-end c = search needs
+
+mul-add-rest : tie.Need-mul-add-rest
+mul-add-rest c = search needs
+
+add-rest-requires-2 : tie.Need-add-rest-requires-2
+add-rest-requires-2 c κs = search needs
+
+same-length-2 : tie.Need-same-length-2
 same-length-2 c = search needs
 
-returns-2 : tie.Need-returns-2 Inv-loop μ-loop
+returns-2 : tie.Need-returns-2
 returns-2 c =
-    let l = c .before .before .loop in
-    added-all _ (l .acc) _ (l .i) _ (omega arith) (l .inv .same) (l .inv)
+    let a = c .before .before .before .before .before .before .before .before .before .before .before .before .before .before .before .before .before .before .args in
+    up-law (value 8 (a .x .now)) (a .s) _ _ _ _ (length (a .acc .now)) _ _ _ _ (omega arith) (omega arith) (c .before .before .before .before .before .before .before .before .before .before .add-words .ensures) (c .before .before .before .before .before .before .add-windows .ensures) (c .before .before .add-rest2 .ensures)
 
 pub add-up-spec : {M : Type 1} → statement M
 add-up-spec =
     tie.close
     (tie.spec
-    Inv-loop
-    μ-loop
-    loop-holds
-    add-loop
-    mul-bits-up
-    bits-up-requires
-    add-word-requires
-    add-i
-    loop-less
-    loop-again
-    mul-bits-up-2
-    sub-bits-up
-    mul-bits-up-3
-    bits-up-requires-2
-    add-bytes-requires
+    add-o
+    add-o-2
+    add-h
+    mul-if1
+    add-rest-requires
     same-length
     returns
+    mul-from
+    sub-at
+    words-from-requires
+    add-words-from
+    words-from-requires-2
+    fewer-requires
+    add-words-requires
+    mul-add-windows
+    sub-add-windows
+    add-windows-requires
+    mul-end
+    add-end
+    mul-add-rest
+    add-rest-requires-2
     same-length-2
     returns-2)

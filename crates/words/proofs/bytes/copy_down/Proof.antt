@@ -1,122 +1,63 @@
--- Both loops: i bytes are written, the lowest of src / 2 ^ w.
-use mathlib.Core.Path.{sym, ap, _∙_}
-use Prim.Native.Nat.{ℕ, _-_, _*_, _/_, _%_, _^_}
+-- Added to nothing, in two parts: down-law.
+use mathlib.Core.Path.{_≡_, _∙_}
 use native.Mathlib.Omega.{arith}
-use lib.ListN.{length, length-set}
-use lib.Pow.{shr-shr}
+use lib.ListN.{length}
 use borrow.Author.Needs.{needs}
 use Rattle.polynomial.specs.Digits.{value}
-use Rattle.words.specs.Write.{Written, written-start, written-word, written-done, written-digit}
+use Rattle.words.specs.Add.{down-law}
+use Rattle.words.specs.Value.{value-nil}
 use Rattle.words.proofs.bytes.copy_down.Statement.{statement}
 use Rattle.words.proofs.bytes.copy_down.Tie as tie
 
-abbrev Inv-loop : tie.InvT-loop
-Inv-loop dst₀ src w i₀ dst i = Written 8 dst₀ dst (value 8 src / 2 ^ w) i
+add-words-from : tie.Need-add-words-from
+add-words-from c = search needs
 
-abbrev μ-loop : tie.MeasureT-loop
-μ-loop dst₀ src w i₀ dst i = length dst - i
+words-from-requires : tie.Need-words-from-requires
+words-from-requires c κs = search needs
 
-abbrev Inv-loop2 : tie.InvT-loop2
-Inv-loop2 dst₀ src w i₀ dst i = Written 8 dst₀ dst (value 8 src / 2 ^ w) i
+fewer-requires : tie.Need-fewer-requires
+fewer-requires c κs = search needs
 
-abbrev μ-loop2 : tie.MeasureT-loop2
-μ-loop2 dst₀ src w i₀ dst i = length dst - i
+clear-bytes-requires : tie.Need-clear-bytes-requires
+clear-bytes-requires c κs = search needs
 
-loop-holds : tie.Need-loop-holds Inv-loop μ-loop Inv-loop2 μ-loop2
-loop-holds c = written-start 8 _ _
+add-windows-requires : tie.Need-add-windows-requires
+add-windows-requires c κs = search needs
 
-add-loop : tie.Need-add-loop Inv-loop μ-loop Inv-loop2 μ-loop2
-add-loop c = search needs
+mul-add-rest : tie.Need-mul-add-rest
+mul-add-rest c = search needs
 
-mul-bits : tie.Need-mul-bits Inv-loop μ-loop Inv-loop2 μ-loop2
-mul-bits c = search needs
+mul-add-rest-2 : tie.Need-mul-add-rest-2
+mul-add-rest-2 c = search needs
 
-add-bits : tie.Need-add-bits Inv-loop μ-loop Inv-loop2 μ-loop2
-add-bits c = search needs
+add-add-rest : tie.Need-add-add-rest
+add-add-rest c = search needs
 
-bits-requires : tie.Need-bits-requires Inv-loop μ-loop Inv-loop2 μ-loop2
-bits-requires c κs = search needs
+add-rest-requires : tie.Need-add-rest-requires
+add-rest-requires c κs = search needs
 
-put-word-requires : tie.Need-put-word-requires Inv-loop μ-loop Inv-loop2 μ-loop2
-put-word-requires c κs = search needs
-
-add-i : tie.Need-add-i Inv-loop μ-loop Inv-loop2 μ-loop2
-add-i c = search needs
-
-loop-less : tie.Need-loop-less Inv-loop μ-loop Inv-loop2 μ-loop2
-loop-less c = search needs
-
-loop-again : tie.Need-loop-again Inv-loop μ-loop Inv-loop2 μ-loop2
-loop-again c =
-    let l = c .before .before .before .before .before .before .loop in
-    let a = c .before .before .before .before .before .before .before .before .before .args in
-    written-word _ (l .dst) _ (value 8 (a .src .now) / 2 ^ a .w) (l .i) _ (omega arith) (c .before .before .put-word .kept .0) (c .before .before .put-word .ensures)
-    (c .before .before .before .before .bits .ensures ∙ ap (λ (n : ℕ). n % 2 ^ 64) (sym (shr-shr (value 8 (a .src .now)) (a .w) (8 * l .i)))) (l .inv)
-
-loop2-holds : tie.Need-loop2-holds Inv-loop μ-loop Inv-loop2 μ-loop2
-loop2-holds c = search needs
-
-mul-bits-2 : tie.Need-mul-bits-2 Inv-loop μ-loop Inv-loop2 μ-loop2
-mul-bits-2 c = search needs
-
-add-bits-2 : tie.Need-add-bits-2 Inv-loop μ-loop Inv-loop2 μ-loop2
-add-bits-2 c = search needs
-
-bits-requires-2 : tie.Need-bits-requires-2 Inv-loop μ-loop Inv-loop2 μ-loop2
-bits-requires-2 c κs = search needs
-
-cast-dst : tie.Need-cast-dst Inv-loop μ-loop Inv-loop2 μ-loop2
-cast-dst c = search needs
-
-slice-write-dst : tie.Need-slice-write-dst Inv-loop μ-loop Inv-loop2 μ-loop2
-slice-write-dst c = search needs
-
-add-i-2 : tie.Need-add-i-2 Inv-loop μ-loop Inv-loop2 μ-loop2
-add-i-2 c = search needs
-
-loop2-less : tie.Need-loop2-less Inv-loop μ-loop Inv-loop2 μ-loop2
-loop2-less c = simp length-set (omega arith)
-
-loop2-again : tie.Need-loop2-again Inv-loop μ-loop Inv-loop2 μ-loop2
-loop2-again c =
-    let l = c .before .before .loop2 in
-    let a = c .before .before .before .before .before .before .before .args in
-    written-digit 8 _ (l .dst) (value 8 (a .src .now) / 2 ^ a .w) (l .i) _ (omega arith)
-    (c .bits2 .ensures ∙ ap (λ (n : ℕ). n % 2 ^ 8) (sym (shr-shr (value 8 (a .src .now)) (a .w) (8 * l .i)))) (l .inv)
-
-same-length : tie.Need-same-length Inv-loop μ-loop Inv-loop2 μ-loop2
+same-length : tie.Need-same-length
 same-length c = search needs
 
-returns : tie.Need-returns Inv-loop μ-loop Inv-loop2 μ-loop2
+returns : tie.Need-returns
 returns c =
-    let l = c .before .loop2 in
-    written-done 8 _ (l .dst) _ (l .i) _ (omega arith) (omega arith) (l .inv)
+    let a = c .before .before .before .before .before .before .before .before .before .before .before .before .before .before .before .before .args in
+    let q = c .before .before .before .before .before .before .before .before .before .before .clear-bytes in
+    let z : value 8 _ ≡ 0 = q .ensures ∙ value-nil 8 in
+    down-law (value 8 (a .src .now)) (a .w) _ _ _ _ (length (a .dst .now)) _ _ (omega arith) (omega arith) (omega arith) (rw z at (c .before .before .before .before .before .before .add-windows .ensures)) (c .before .before .add-rest .ensures)
 
 pub copy-down-spec : {M : Type 1} → statement M
 copy-down-spec =
     tie.close
     (tie.spec
-    Inv-loop
-    μ-loop
-    Inv-loop2
-    μ-loop2
-    loop-holds
-    add-loop
-    mul-bits
-    add-bits
-    bits-requires
-    put-word-requires
-    add-i
-    loop-less
-    loop-again
-    loop2-holds
-    mul-bits-2
-    add-bits-2
-    bits-requires-2
-    cast-dst
-    slice-write-dst
-    add-i-2
-    loop2-less
-    loop2-again
+    add-words-from
+    words-from-requires
+    fewer-requires
+    clear-bytes-requires
+    add-windows-requires
+    mul-add-rest
+    mul-add-rest-2
+    add-add-rest
+    add-rest-requires
     same-length
     returns)

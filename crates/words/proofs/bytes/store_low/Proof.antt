@@ -1,23 +1,24 @@
 -- The loop: k words of r are added. Below the data the sum is +: under.
 use mathlib.Core.Path.{_≡_, refl}
 use Prim.Native.Nat.{_+_, _-_, _*_, _/_, _≤_}
+use native.Mathlib.Nat.{zero-add}
 use native.Mathlib.Omega.{arith}
 use borrow.Author.Needs.{needs}
 use Rattle.polynomial.specs.Digits.{value}
-use Rattle.words.specs.Add.{Added, added-start, added-word, added-next}
+use Rattle.words.specs.Add.{Added, added-start, added-word, bytes-law}
 use Rattle.words.specs.Store.{word-digit, last-lt, under}
 use Rattle.words.specs.Value.{Bounded}
 use Rattle.words.proofs.bytes.store_low.Statement.{statement}
 use Rattle.words.proofs.bytes.store_low.Tie as tie
 
 abbrev Inv-loop : tie.InvT-loop
-Inv-loop dst₀ r w n k₀ dst k = (k ≤ n) × Added dst₀ dst (value 64 r) (8 * k)
+Inv-loop dst₀ r w n k₀ dst k = (k ≤ n) × Added dst₀ dst 0 (value 64 r) (8 * k)
 
 abbrev μ-loop : tie.MeasureT-loop
 μ-loop dst₀ r w n k₀ dst k = n - k
 
 loop-holds : tie.Need-loop-holds Inv-loop μ-loop
-loop-holds c = (omega arith, added-start _ _)
+loop-holds c = (omega arith, added-start _ 0 _ (omega arith))
 
 mul-add-word : tie.Need-mul-add-word Inv-loop μ-loop
 mul-add-word c = search needs
@@ -43,8 +44,7 @@ loop-again c =
     let r = c .before .before .before .before .before .before .before .before .before .args .r .now in
     let b : Bounded 64 r = λ k. c .before .before .before .before .before .before .before .shared-slice-known .given k .fits in
     let q = c .before .before .add-word in
-    let e : 8 * l .k + 8 ≡ 8 * (l .k + 1) = omega arith in
-    (omega arith, rw e at (added-word _ (l .dst) _ _ (8 * l .k) _ (q .ensures) (omega arith) (q .kept .0) (word-digit r b (l .k)) (l .inv .1)))
+    (omega arith, added-word _ (l .dst) _ 0 _ (l .k) _ (rw zero-add (q .ensures)) (omega arith) (q .kept .0) (word-digit r b (l .k)) (l .inv .1))
 
 mul-add-bytes : tie.Need-mul-add-bytes Inv-loop μ-loop
 mul-add-bytes c = search needs
@@ -75,8 +75,8 @@ returns c =
     let n = w / 64 in
     let b : Bounded 64 r = λ k. c .before .before .before .before .before .before .before .before .shared-slice-known .given k .fits in
     let e : l .k ≡ n = omega arith in
-    under (value 8 (s .args .dst .now)) (value 64 r) w (64 + 8 * (8 * n)) _ (s .pre .3) (s .pre .2) (omega arith)
-    (added-next _ (l .dst) _ _ (8 * n) _ (c .before .before .add-bytes .ensures) 64 (word-digit r b n) (rw e at (l .inv .1)))
+    under (value 8 (s .args .dst .now)) (value 64 r) w (8 * (8 * n + 8)) _ (s .pre .3) (s .pre .2) (omega arith)
+    (bytes-law _ _ _ 0 _ (8 * n) 8 (8 * n + 8) _ refl (rw e at (l .inv .1 .done)) (word-digit r b n) (rw zero-add (c .before .before .add-bytes .ensures)))
 
 same-length-2 : tie.Need-same-length-2 Inv-loop μ-loop
 same-length-2 c = search needs
