@@ -5,7 +5,9 @@ ghost use Prim.Native.Nat.{_+_, _*_, _%_, _^_, _≤_, _<_};
 ghost use lib.ListN.{length};
 ghost use Rattle.polynomial.specs.Digits.{value};
 ghost use Rattle.polynomial.specs.Xor.{xor};
+ghost use Rattle.words.specs.Reduce.{TopAdded};
 ghost use Rattle.words.specs.Row.{D};
+ghost use Rattle.words.specs.Sum.{Copied};
 ghost use Rattle.words.specs.Table.{RemainderBy, rowAt, four, Reduced};
 use crate::bits::bits;
 use crate::row::clear;
@@ -13,35 +15,55 @@ use crate::row::insert;
 use crate::row::lower;
 use crate::row::shift;
 
-// Four rows are added, which stand at a, b, c and d.
-fn add_rows(r: &mut [u64], t: &[u64], a: usize, b: usize, c: usize, d: usize)
-    requires { ⌜ (length (now r) ≡ 13) × (length (now t) ≡ 3072) × (a + 12 ≤ 3072) × (b + 12 ≤ 3072) × (c + 12 ≤ 3072) × (d + 12 ≤ 3072) ⌝ }
-    ensures { λ x. ⌜ value 64 (now (r .exit)) ≡ xor (value 64 (now (r .entry))) (xor (rowAt (now (t .entry)) a) (xor (rowAt (now (t .entry)) b) (xor (rowAt (now (t .entry)) c) (rowAt (now (t .entry)) d)))) ⌝ }
+// The lower 12 words of src are copied to dst.
+fn copy(dst: &mut [u64], src: &[u64])
+    requires { ⌜ (12 ≤ length (now dst)) × (12 ≤ length (now src)) ⌝ }
+    ensures { λ x. ⌜ Copied (now (dst .entry)) (now (dst .exit)) (now (src .entry)) 12 ⌝ }
 {
-    // The sums are made aside and then copied, so that no store stands between two loads: the compiler takes two words at a time.
-    let mut v = [0u64; 12];
-    let mut j: usize = 0;
-    while j < 12 {
-        v[j] = r[j] ^ t[a + j] ^ t[b + j] ^ t[c + j] ^ t[d + j];
-        j += 1;
-    }
     let mut i: usize = 0;
     while i < 12 {
-        r[i] = v[i];
+        dst[i] = src[i];
         i += 1;
     }
 }
 
-// Four rows are added, which v's four hex digits choose among the 64 rows from `base` on.
-fn add_four(r: &mut [u64], t: &[u64], base: usize, v: u64)
-    requires { ⌜ (length (now r) ≡ 13) × (length (now t) ≡ 3072) × (base + 64 ≤ 256) ⌝ }
-    ensures { λ x. ⌜ value 64 (now (r .exit)) ≡ xor (value 64 (now (r .entry))) (four (now (t .entry)) base v) ⌝ }
+// Four rows are added, which stand at a, b, c and d.
+fn add_rows(v: &mut [u64], t: &[u64], a: usize, b: usize, c: usize, d: usize)
+    requires { ⌜ (length (now v) ≡ 12) × (length (now t) ≡ 3072) × (a + 12 ≤ 3072) × (b + 12 ≤ 3072) × (c + 12 ≤ 3072) × (d + 12 ≤ 3072) ⌝ }
+    ensures { λ x. ⌜ value 64 (now (v .exit)) ≡ xor (value 64 (now (v .entry))) (xor (rowAt (now (t .entry)) a) (xor (rowAt (now (t .entry)) b) (xor (rowAt (now (t .entry)) c) (rowAt (now (t .entry)) d)))) ⌝ }
 {
-    let a = base + (v % 16) as usize;
-    let b = base + 16 + (v / 16 % 16) as usize;
-    let c = base + 32 + (v / 256 % 16) as usize;
-    let d = base + 48 + (v / 4096 % 16) as usize;
-    add_rows(r, t, a * 12, b * 12, c * 12, d * 12);
+    let mut j: usize = 0;
+    while j < 12 {
+        v[j] = v[j] ^ t[a + j] ^ t[b + j] ^ t[c + j] ^ t[d + j];
+        j += 1;
+    }
+}
+
+// Four rows are added, which u's four lowest hex digits choose among the 64 rows from 64 k on.
+fn add_four(v: &mut [u64], t: &[u64], k: usize, u: u64)
+    requires { ⌜ (length (now v) ≡ 12) × (length (now t) ≡ 3072) × (k < 4) ⌝ }
+    ensures { λ x. ⌜ value 64 (now (v .exit)) ≡ xor (value 64 (now (v .entry))) (four (now (t .entry)) (64 * k) u) ⌝ }
+{
+    let at = k * 768;
+    let a = at + (u % 16) as usize * 12;
+    let b = at + 192 + (u / 16 % 16) as usize * 12;
+    let c = at + 384 + (u / 256 % 16) as usize * 12;
+    let d = at + 576 + (u / 4096 % 16) as usize * 12;
+    add_rows(v, t, a, b, c, d);
+}
+
+// The remainder of top · x^768 is added: the rows that top's hex digits choose, up to its highest that is not 0.
+fn add_top(v: &mut [u64], t: &[u64], top: u64)
+    requires { ⌜ (length (now v) ≡ 12) × (length (now t) ≡ 3072) ⌝ }
+    ensures { λ x. ⌜ TopAdded (now (t .entry)) (value 64 (now (v .entry))) top (value 64 (now (v .exit))) ⌝ }
+{
+    let mut u = top;
+    let mut k: usize = 0;
+    while u != 0 {
+        add_four(v, t, k, u);
+        u = u / 65536;
+        k += 1;
+    }
 }
 
 // What stands in the 13th word is reduced.
@@ -51,10 +73,11 @@ fn reduce(r: &mut [u64], t: &[u64])
 {
     let top = r[12];
     r[12] = 0;
-    add_four(r, t, 0, top);
-    add_four(r, t, 64, top / 65536);
-    add_four(r, t, 128, top / 4294967296);
-    add_four(r, t, 192, top / 281474976710656);
+    // The sum is made aside, so that no store stands between two loads: the compiler holds it in registers, two words in each.
+    let mut v = [0u64; 12];
+    copy(&mut v, r);
+    add_top(&mut v, t, top);
+    copy(r, &v);
 }
 
 // One step: the register is moved up by l places, u is added at place p, and what passes x^768 is reduced.
