@@ -1,15 +1,15 @@
 -- The word above x^768 reduced by the rows that its hex digits choose, four at a time.
 --   TopAdded t n v m      m is n with the remainder of v · x^768 added, by whichever G has t as its table
 --   TopLeft t n v m u k   that is so once the remainder of u · x^(768 + 16 k) is added to m too
-use mathlib.Core.Path.{_≡_, refl, sym, ap, _∙_}
-use mathlib.Core.List.{List}
+use mathlib.Core.Path.{_≡_, refl, sym, ap, ap₂, _∙_}
+use mathlib.Core.List.{List, [], _∷_}
 use mathlib.Core.Logic.{_⊎_, inl, inr}
-use Prim.Native.Nat.{ℕ, _+_, _-_, _*_, _/_, _%_, _^_, _≤_, _<_}
+use Prim.Native.Nat.{ℕ, zero, suc, _+_, _-_, _*_, _/_, _%_, _^_, _≤_, _<_}
 use native.Mathlib.Nat as Nat
 use native.Mathlib.Omega.{arith}
-use lib.ListN.{length, getD, take, set}
+use lib.ListN.{length, getD, take, set, replicate}
 use lib.Pow.{pow-add, shr-lt, split}
-use lib.Seq.{take-all, take-set-le, getD-set-same}
+use lib.Seq.{take-all, take-take, take-set-le, length-take-le, getD-set-same}
 use Rattle.polynomial.specs.Digits.{value}
 use Rattle.polynomial.specs.Division.{rem, rem-zero}
 use Rattle.polynomial.specs.Xor.{xor, xor-assoc, xor-comm, xor-zero-r}
@@ -18,7 +18,7 @@ use Rattle.words.specs.Row.{D, by-top, low-lt}
 use Rattle.words.specs.Shift.{join}
 use Rattle.words.specs.Sum.{Copied}
 use Rattle.words.specs.Table.{Table, four, quarter, Reduced}
-use Rattle.words.specs.Value.{Bounded, same-at}
+use Rattle.words.specs.Value.{Bounded, value-nil, value-cons, take-mod, same-at}
 
 abbrev pub TopAdded : List ℕ → ℕ → ℕ → ℕ → Type 0
 TopAdded t n v m = (G : ℕ) → Table G t → m ≡ xor n (rem G D (v * 2 ^ D))
@@ -62,6 +62,29 @@ top-turn t n v m m′ u k h e s = record {
 pub top-done : (t : List ℕ) (n v m u k : ℕ) → u ≡ 0 → TopLeft t n v m u k → TopAdded t n v m
 top-done t n v m u k z s G T = sym (xor-zero-r m) ∙ ap (xor m) (sym (rem-zero G D)) ∙ rw (z, Nat.zero-mul (2 ^ (16 * k)), Nat.zero-mul (2 ^ D)) at (s .sum G T)
 
+-- ---- the words that are 0 need no copy
+zeros : (l : List ℕ) → value 64 l ≡ 0 → l ≡ replicate (length l) 0
+zeros [] z = refl
+zeros (x ∷ l) z =
+    let e : value 64 l * 2 ^ 64 + x ≡ 0 = sym (value-cons 64 x l) ∙ z in
+    let a : x ≡ 0 = omega arith in
+    let b : value 64 l ≡ 0 = omega arith in
+    ap₂ _∷_ a (zeros l b)
+
+zeros-clear : (n f : ℕ) → value 64 (take f (replicate n 0)) ≡ 0
+zeros-clear zero zero = value-nil 64
+zeros-clear zero (suc f) = value-nil 64
+zeros-clear (suc n) zero = value-nil 64
+zeros-clear (suc n) (suc f) = value-cons 64 0 (take f (replicate n 0)) ∙ rw (zeros-clear n f) refl
+
+pub clear-in : (r : List ℕ) (f : ℕ) → Bounded 64 r → length r ≡ 13 → f ≤ 12 → value 64 r % 2 ^ (64 * f) ≡ 0 → take f (replicate 12 0) ≡ take f (set r 12 0)
+clear-in r f d l h z =
+    zeros (take f (replicate 12 0)) (zeros-clear 12 f) ∙ ap (λ (n : ℕ). replicate n 0) (length-take-le f (replicate 12 0) h ∙ sym (length-take-le f r (omega arith)))
+    ∙ sym (zeros (take f r) (take-mod 64 r d f (omega arith) ∙ z)) ∙ sym (take-set-le f r 12 0 h)
+
+pub clear-out : (r v₀ v m : List ℕ) (f : ℕ) → f ≤ 12 → Copied v₀ v (set r 12 0) 12 → take f m ≡ take f v → take f (set r 12 0) ≡ take f m
+clear-out r v₀ v m f h p e = sym (e ∙ sym (take-take f 12 v h) ∙ ap (take f) (p .done) ∙ take-take f 12 (set r 12 0) h)
+
 -- r's lower 12 words are copied to v; with the word above added v is m, which is copied back
 pub reduce-law : (t r v₀ v m r′ : List ℕ) → Bounded 64 r → length r ≡ 13 → Bounded 64 r′ → length r′ ≡ 13 → length v ≡ 12 → length m ≡ 12
     → Copied v₀ v (set r 12 0) 12 → TopAdded t (value 64 v) (getD r 12 0) (value 64 m) → Copied (set r 12 0) r′ m 12
@@ -73,10 +96,10 @@ reduce-law t r v₀ v m r′ dr hr dr′ hr′ hv hm p q p′ =
     })
   where
     in-v : value 64 v ≡ value 64 (take 12 r)
-    in-v = ap (value 64) (sym (take-all 12 v (omega arith))) ∙ p .done ∙ ap (value 64) (take-set-le 12 r 12 0 (omega arith))
+    in-v = ap (value 64) (sym (take-all 12 v (omega arith)) ∙ p .done ∙ take-set-le 12 r 12 0 (omega arith))
 
     out : value 64 (take 12 r′) ≡ value 64 m
-    out = p′ .done ∙ ap (value 64) (take-all 12 m (omega arith))
+    out = ap (value 64) (p′ .done ∙ take-all 12 m (omega arith))
 
     back : value 64 r′ ≡ value 64 (take 12 r′)
     back =

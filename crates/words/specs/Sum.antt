@@ -2,18 +2,19 @@
 --   rows-of t a b c e j    the sum of the first j words of the four rows at a, b, c and e
 --   Copied r₀ r v i        i words of r₀ are replaced by v's, which makes r
 use mathlib.Core.Path.{_≡_, refl, sym, ap, _∙_}
-use mathlib.Core.List.{List}
+use mathlib.Core.List.{List, [], _∷_, _++_}
 use Prim.Native.Nat.{ℕ, _+_, _*_, _^_, _<_}
+use native.Mathlib.Numerals.{add-one}
 use native.Mathlib.Omega.{arith}
 use lib.Bits.{bitXor}
 use lib.ListN.{length, getD, take, drop, set, length-drop}
-use lib.Seq.{getD-drop}
+use lib.Seq.{take-suc-set, take-suc, getD-drop}
 use Rattle.polynomial.specs.Digits.{value}
 use Rattle.polynomial.specs.Division.{xor-lt}
 use Rattle.polynomial.specs.Xor.{xor, xors, xor-is, xor-assoc}
 use Rattle.words.specs.Shift.{xor-shl}
-use Rattle.words.specs.Table.{rowAt}
-use Rattle.words.specs.Value.{drop-next, Bounded, value-nil, take-more, take-more-set, take-xor, set-xor, bounded-drop}
+use Rattle.words.specs.Table.{rowAt, Clear}
+use Rattle.words.specs.Value.{drop-next, Bounded, take-xor, set-xor, bounded-drop}
 
 -- a digit of r has one digit added
 pub add-turn : (k n : ℕ) (r A : List ℕ) (j : ℕ) → Bounded k r → Bounded k A → j < length r → j < length A
@@ -27,9 +28,9 @@ add-turn k n r A j hr ha lr la e =
 unfoldable pub rows-of : List ℕ → ℕ → ℕ → ℕ → ℕ → ℕ → ℕ
 rows-of t a b c e j = xor (value 64 (take j (drop a t))) (xor (value 64 (take j (drop b t))) (xor (value 64 (take j (drop c t))) (value 64 (take j (drop e t)))))
 
-pub rows-start : (t : List ℕ) (a b c e n : ℕ) → n ≡ xor n (rows-of t a b c e 0)
+pub rows-start : (t : List ℕ) (a b c e f n : ℕ) → Clear t a f → Clear t b f → Clear t c f → Clear t e f → n ≡ xor n (rows-of t a b c e f)
 unfolding rows-of
-rows-start t a b c e n = sym (simp (value-nil 64, xors))
+rows-start t a b c e f n ha hb hc he = sym (rw (ha, hb, hc, he) (simp xors))
 
 pub rows-turn : (t : List ℕ) (a b c e n : ℕ) (v : List ℕ) (j : ℕ) → Bounded 64 v → Bounded 64 t
     → j < length v → a + j < length t → b + j < length t → c + j < length t → e + j < length t → value 64 v ≡ xor n (rows-of t a b c e j)
@@ -55,7 +56,7 @@ rows-done t a b c e n m j h s = rw h at s
 -- ---- words copied
 pub record Copied (r₀ r v : List ℕ) (i : ℕ) : Type 0 where
   pub left : drop i r ≡ drop i r₀
-  pub done : value 64 (take i r) ≡ value 64 (take i v)
+  pub done : take i r ≡ take i v
 
 pub copy-start : (r v : List ℕ) → Copied r r v 0
 copy-start r v = record { left = refl; done = refl }
@@ -63,5 +64,5 @@ copy-start r v = record { left = refl; done = refl }
 pub copy-turn : (r₀ r v : List ℕ) (i : ℕ) → i < length r → i < length v → Copied r₀ r v i → Copied r₀ (set r i (getD v i 0)) v (i + 1)
 copy-turn r₀ r v i lr lv p = record {
   left = drop-next r r₀ i (getD v i 0) (p .left);
-  done = take-more-set 64 r i (getD v i 0) lr ∙ ap (λ (x : ℕ). getD v i 0 * 2 ^ (64 * i) + x) (p .done) ∙ sym (take-more 64 v i lv);
+  done = rw add-one (take-suc-set r i (getD v i 0) lr ∙ ap (λ (l : List ℕ). l ++ (getD v i 0 ∷ [])) (p .done) ∙ sym (take-suc v i 0 lv));
 }

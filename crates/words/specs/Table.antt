@@ -3,6 +3,8 @@
 --   row t n         row n
 --   hex n           the digit n % 16 at the digits' place n / 16: what row n stands for
 --   Table G t       t is G's table: row n is the remainder of hex n · x^768
+--   Clear t at f    the f words from `at` on are 0
+--   MovedUp t s     t is the table of a multiple of x^s
 --   four t base v   the sum of the four rows that v's four lowest hex digits choose, from row `base` on
 --   Reduced t f r   r is below 2^768, and is the remainder of f by whichever G has t as its table
 --   RemainderBy t s f r    r is the remainder of f by whichever g, moved up by s to degree 768, has t as its table
@@ -10,15 +12,18 @@ use mathlib.Core.Path.{_≡_, refl, sym, ap, ap₂, _∙_}
 use mathlib.Core.List.{List}
 use Prim.Native.Nat.{ℕ, _+_, _-_, _*_, _/_, _%_, _^_, _≤_, _<_}
 use native.Mathlib.Nat.{mul-assoc, mul-one}
+use native.Mathlib.Nat as Nat
 use native.Mathlib.Omega.{arith}
-use lib.ListN.{take, drop}
+use lib.ListN.{length, take, drop, length-drop}
 use lib.Pow.{pow-add, shr-lt}
+use lib.Seq.{take-take, length-take-le}
 use Rattle.polynomial.specs.Digits.{value}
 use Rattle.polynomial.specs.Division.{Deg, rem}
 use Rattle.polynomial.specs.Xor.{xor, xors}
-use Rattle.words.specs.Remainder.{rem-four, rem-up, rem-down}
+use Rattle.words.specs.Remainder.{rem-four, rem-up, rem-down, rem-low}
 use Rattle.words.specs.Row.{D, D-is}
-use Rattle.words.specs.Shift.{xor-shl, part}
+use Rattle.words.specs.Shift.{xor-shl, part, low-less, up-all}
+use Rattle.words.specs.Value.{Bounded, bounded-take, bounded-drop, take-mod}
 
 unfoldable pub rowAt : List ℕ → ℕ → ℕ
 rowAt t at = value 64 (take 12 (drop at t))
@@ -54,9 +59,39 @@ hex-at k b h =
     let f : (16 * k + b) / 16 ≡ k = omega arith in
     rw (e, f) refl
 
+-- ---- the words that are 0
+abbrev pub Clear : List ℕ → ℕ → ℕ → Type 0
+Clear t at f = value 64 (take f (drop at t)) ≡ 0
+
+pub record MovedUp (t : List ℕ) (s : ℕ) : Type 0 where
+  pub G : ℕ
+  pub table : Table G t
+  pub low : G % 2 ^ s ≡ 0
+
+pub moved-up : (g s : ℕ) (t : List ℕ) → Table (g * 2 ^ s) t → MovedUp t s
+moved-up g s t T = record { G = g * 2 ^ s; table = T; low = Nat.mul-mod-left g (2 ^ s) }
+
+pub moved-less : (t : List ℕ) (s k : ℕ) → k ≤ s → MovedUp t s → MovedUp t k
+moved-less t s k h M = record { G = M .G; table = M .table; low = low-less (M .G) s k h (M .low) }
+
+pub row-clear : (t : List ℕ) (f : ℕ) → MovedUp t (64 * f) → Bounded 64 t → length t ≡ 3072 → f ≤ 12 → (n at : ℕ) → n < 256 → at ≡ n * 12 → Clear t at f
+unfolding row rowAt
+row-clear t f M d l h n at i e =
+    rw e (ap (value 64) (sym (take-take f 12 (drop (n * 12) t) h))
+    ∙ take-mod 64 (take 12 (drop (n * 12) t)) (bounded-take 64 (drop (n * 12) t) (bounded-drop 64 t d (n * 12)) 12) f (rw (length-take-le 12 (drop (n * 12) t) (rw (length-drop (n * 12) t) (omega arith))) h)
+    ∙ ap (λ (x : ℕ). x % 2 ^ (64 * f)) (M .table .rows n i)
+    ∙ rem-low (M .G) D (64 * f) (hex n * 2 ^ D) (M .table .deg) k (M .low) (up-all (hex n) D (64 * f) k))
+  where
+    k : 64 * f ≤ D
+    k = omega (arith, D-is)
+
 pub record Reduced (t : List ℕ) (v r : ℕ) : Type 0 where
   pub small : r < 2 ^ D
   pub rest : (G : ℕ) → Table G t → r ≡ rem G D v
+
+pub reduced-low : (t : List ℕ) (s v r : ℕ) → s < 768 → MovedUp t s → v % 2 ^ s ≡ 0 → Reduced t v r → r % 2 ^ s ≡ 0
+reduced-low t s v r h M z q =
+    ap (λ (x : ℕ). x % 2 ^ s) (q .rest (M .G) (M .table)) ∙ rem-low (M .G) D s v (M .table .deg) (omega (arith, D-is)) (M .low) z
 
 row-at : (G : ℕ) (t : List ℕ) → Table G t → (s k i b n : ℕ) → n ≡ 16 * k + b → k < 16 → b < 16 → 4 * k ≡ i + s → row t n ≡ rem G D (b * 2 ^ i * 2 ^ s * 2 ^ D)
 row-at G t T s k i b n e hk hb f =

@@ -1,8 +1,9 @@
 -- The loop: the first j words of the rows are added.
-use mathlib.Core.Path.{_≡_, _∙_}
+use mathlib.Core.Path.{_≡_, refl, _∙_}
 use Prim.Native.Nat.{_-_, _≤_}
 use native.Mathlib.Omega.{arith}
-use lib.ListN.{length, length-set}
+use lib.ListN.{length, take, length-set}
+use lib.Seq.{take-set-le}
 use borrow.Author.Needs.{needs}
 use Rattle.polynomial.specs.Digits.{value}
 use Rattle.polynomial.specs.Xor.{xor}
@@ -11,13 +12,16 @@ use Rattle.words.proofs.remainder.add_rows.Statement.{statement}
 use Rattle.words.proofs.remainder.add_rows.Tie as tie
 
 abbrev Inv-loop : tie.InvT-loop
-Inv-loop v₀ t a b c d j₀ v j = (j ≤ 12) × (length v ≡ 12) × (value 64 v ≡ xor (value 64 v₀) (rows-of t a b c d j))
+Inv-loop v₀ t a b c d from j₀ v j = (from ≤ j) × (take from v ≡ take from v₀) × (j ≤ 12) × (length v ≡ 12) × (value 64 v ≡ xor (value 64 v₀) (rows-of t a b c d j))
 
 abbrev μ-loop : tie.MeasureT-loop
-μ-loop v₀ t a b c d j₀ v j = 12 - j
+μ-loop v₀ t a b c d from j₀ v j = 12 - j
 
 loop-holds : tie.Need-loop-holds Inv-loop μ-loop
-loop-holds c = let a = c .args in (omega arith, c .pre .0, rows-start (a .t .now) (a .a) (a .b) (a .c) (a .d) _)
+loop-holds c =
+    let a = c .args in
+    let q = c .pre .6 in
+    (omega arith, refl, c .pre .6, c .pre .0, rows-start (a .t .now) (a .a) (a .b) (a .c) (a .d) (a .from) _ (c .pre .7) (c .pre .8) (c .pre .9) (c .pre .10))
 
 mul-v : tie.Need-mul-v Inv-loop μ-loop
 mul-v c = search needs
@@ -78,9 +82,11 @@ loop-again c =
     let l = c .before .before .before .before .before .before .loop in
     let a = c .before .before .before .before .before .before .before .args in (
       omega arith,
-      length-set (l .v) (l .j) _ ∙ l .inv .1,
+      take-set-le (a .from) (l .v) (l .j) _ (l .inv .0) ∙ l .inv .1,
+      omega arith,
+      length-set (l .v) (l .j) _ ∙ l .inv .3,
       rows-turn (a .t .now) (a .a) (a .b) (a .c) (a .d) _ (l .v) (l .j) (λ k. c .before .before .before .before .slice-known .given k .fits) (λ k. c .shared-slice-known4 .given k .fits)
-          (omega arith) (omega arith) (omega arith) (omega arith) (omega arith) (l .inv .2),
+          (omega arith) (omega arith) (omega arith) (omega arith) (omega arith) (l .inv .4),
     )
 
 same-length : tie.Need-same-length Inv-loop μ-loop
@@ -90,7 +96,7 @@ returns : tie.Need-returns Inv-loop μ-loop
 returns c =
     let l = c .before .loop in
     let a = c .before .before .args in
-    rows-done (a .t .now) (a .a) (a .b) (a .c) (a .d) _ _ (l .j) (omega arith) (l .inv .2)
+    (rows-done (a .t .now) (a .a) (a .b) (a .c) (a .d) _ _ (l .j) (omega arith) (l .inv .4), l .inv .1)
 
 pub add-rows-spec : {M : Type 1} → statement M
 add-rows-spec =

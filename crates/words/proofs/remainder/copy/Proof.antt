@@ -4,18 +4,18 @@ use Prim.Native.Nat.{_-_, _≤_}
 use native.Mathlib.Omega.{arith}
 use lib.ListN.{length, length-set}
 use borrow.Author.Needs.{needs}
-use Rattle.words.specs.Sum.{Copied, copy-start, copy-turn}
+use Rattle.words.specs.Sum.{Copied, copy-turn}
 use Rattle.words.proofs.remainder.copy.Statement.{statement}
 use Rattle.words.proofs.remainder.copy.Tie as tie
 
 abbrev Inv-loop : tie.InvT-loop
-Inv-loop dst₀ src i₀ dst i = (i ≤ 12) × (length dst ≡ length dst₀) × Copied dst₀ dst src i
+Inv-loop dst₀ src from i₀ dst i = (i ≤ 12) × (length dst ≡ length dst₀) × Copied dst₀ dst src i
 
 abbrev μ-loop : tie.MeasureT-loop
-μ-loop dst₀ src i₀ dst i = 12 - i
+μ-loop dst₀ src from i₀ dst i = 12 - i
 
 loop-holds : tie.Need-loop-holds Inv-loop μ-loop
-loop-holds c = (omega arith, refl, copy-start _ _)
+loop-holds c = (c .pre .2, refl, record { left = refl; done = c .pre .3 })
 
 mul-dst : tie.Need-mul-dst Inv-loop μ-loop
 mul-dst c = search needs

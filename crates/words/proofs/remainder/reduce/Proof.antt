@@ -3,7 +3,7 @@ use mathlib.Core.Path.{_∙_}
 use native.Mathlib.Omega.{arith}
 use lib.ListN.{length-set}
 use borrow.Author.Needs.{needs}
-use Rattle.words.specs.Reduce.{reduce-law}
+use Rattle.words.specs.Reduce.{clear-in, clear-out, reduce-law}
 use Rattle.words.specs.Value.{Bounded}
 use Rattle.words.proofs.remainder.reduce.Statement.{statement}
 use Rattle.words.proofs.remainder.reduce.Tie as tie
@@ -18,7 +18,9 @@ slice-aggregate-copy : tie.Need-slice-aggregate-copy
 slice-aggregate-copy c = search needs
 
 copy-requires : tie.Need-copy-requires
-copy-requires c κs = (search needs, rw (length-set (c .before .before .before .before .before .args .r .now) 12 0) (omega (arith, c .before .before .before .before .before .pre .0)))
+copy-requires c κs =
+    let s = c .before .before .before .before .before in
+    (search needs, rw (length-set (s .args .r .now) 12 0) (omega (arith, s .pre .0)), s .pre .2, clear-in (s .args .r .now) (s .args .from) (λ k. c .before .before .before .before .slice-known .given k .fits) (s .pre .0) (s .pre .2) (s .pre .4))
 
 slice-aggregate-add-top : tie.Need-slice-aggregate-add-top
 slice-aggregate-add-top c = search needs
@@ -32,8 +34,10 @@ slice-aggregate-copy-2 c = search needs
 copy-requires-2 : tie.Need-copy-requires-2
 copy-requires-2 c κs =
     let s = c .before .before .before .before .before .before .before .before .before .before .before .before in
-    let k = c .before .before .before .add-top .kept .0 ∙ c .before .before .before .before .before .before .copy .kept .0 in
-    (rw (length-set (s .args .r .now) 12 0) (omega (arith, s .pre .0)), omega (arith, k))
+    let i = c .before .before .before .before .before .before .copy in
+    let a = c .before .before .before .add-top in
+    let k = a .kept .0 ∙ i .kept .0 in
+    (rw (length-set (s .args .r .now) 12 0) (omega (arith, s .pre .0)), omega (arith, k), s .pre .2, clear-out (s .args .r .now) _ (i .last .0) (a .last .0) (s .args .from) (s .pre .2) (i .ensures) (a .ensures .1))
 
 same-length : tie.Need-same-length
 same-length c = c .before .before .copy2 .kept .0 ∙ length-set (c .before .before .before .before .before .before .before .before .before .before .before .before .before .before .before .args .r .now) 12 0
@@ -46,7 +50,7 @@ returns c =
     let a = c .before .before .before .before .before .before .add-top in
     let o = c .before .before .copy2 in
     reduce-law (s .args .t .now) (s .args .r .now) _ (i .last .0) (a .last .0) (o .last .0) r (s .pre .0) (λ k. c .slice-known3 .given k .fits)
-    (o .kept .0 ∙ length-set (s .args .r .now) 12 0 ∙ s .pre .0) (i .kept .0) (a .kept .0 ∙ i .kept .0) (i .ensures) (a .ensures) (o .ensures)
+    (o .kept .0 ∙ length-set (s .args .r .now) 12 0 ∙ s .pre .0) (i .kept .0) (a .kept .0 ∙ i .kept .0) (i .ensures) (a .ensures .0) (o .ensures)
 
 pub reduce-spec : {M : Type 1} → statement M
 reduce-spec =
