@@ -16,7 +16,7 @@ use Rattle.polynomial.specs.Division.{Deg, deg, deg-is, deg-unique, lt-of-deg}
 use Rattle.polynomial.specs.Multiple.{deg-pos}
 use Rattle.words.specs.Move.{align-deg}
 use Rattle.words.specs.Row.{D, D-is}
-use Rattle.words.specs.Table.{Table, RemainderBy}
+use Rattle.words.specs.Table.{Table, MovedUp, moved-up, RemainderBy}
 use Rattle.code.specs.declared.Parameters.{Parameters}
 use Rattle.code.specs.Accepted.{Rules, accepted, lawful, degree-high}
 use Rattle.code.specs.Buffers.{row-back, row-length}
@@ -32,6 +32,10 @@ pub record RowOf (p : Parameters) (a : ℕ) (g : List ℕ) : Type 0 where
 pub record Prepared (p : Parameters) (a : ℕ) (t : List ℕ) : Type 0 where
   pub words : length t ≡ 3072
   pub table : Table (gen p a * 2 ^ (768 - degree p a)) t
+
+-- the generator is moved up
+pub prepared-up : (p : Parameters) (a w : ℕ) (t : List ℕ) → w ≡ degree p a → Prepared p a t → MovedUp t (768 - w)
+prepared-up p a w t e P = rw e (moved-up (gen p a) (768 - degree p a) t (P .table))
 
 module _ (p : Parameters) (A : Accepted p) where
   R : Rules p

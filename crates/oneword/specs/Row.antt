@@ -10,7 +10,7 @@ use lib.Pow.{pow-mono}
 use Rattle.polynomial.specs.Division.{Deg, rem, rem-lt, lt-of-deg}
 use Rattle.words.specs.Move.{align-deg}
 use Rattle.words.specs.Row.{D, D-is}
-use Rattle.words.specs.Table.{Table, RemainderBy}
+use Rattle.words.specs.Table.{Table, MovedUp, moved-up, RemainderBy}
 
 -- the row and its degree as they are defined, of a polynomial below x^n
 pub row-as : (g w x k c n m r : ℕ) → g ≡ x → w ≡ k → n ≡ m → c < 2 ^ m → r ≡ rem g w (c % 2 ^ n) → r ≡ rem x k c
@@ -32,6 +32,9 @@ module _ (g w : ℕ) (d : Deg g w) where
   module _ (x : ℕ) (h : w ≤ 768) (e : x ≡ g * 2 ^ (768 - w)) where
     pub aligned-deg : Deg x D
     aligned-deg = rw e (align-deg g w d h)
+
+    pub row-up : (t : List ℕ) → Table x t → MovedUp t (768 - w)
+    row-up t T = moved-up g (768 - w) t (rw e at T)
 
     pub row-remainder : (f r : ℕ) (t : List ℕ) → Table x t → RemainderBy t (768 - w) f r → r ≡ rem g w f
     row-remainder f r t T Q =

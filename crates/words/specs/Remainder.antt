@@ -1,12 +1,13 @@
 -- Remainders of polynomials that are moved up and added.
 use mathlib.Core.Path.{_≡_, sym, ap, _∙_}
-use Prim.Native.Nat.{ℕ, _+_, _*_, _/_, _^_, _<_}
+use Prim.Native.Nat.{ℕ, _+_, _-_, _*_, _/_, _%_, _^_, _≤_, _<_}
 use native.Mathlib.Nat as Nat
-use lib.Pow.{pow-pos, pow-add, shl-shr}
+use native.Mathlib.Omega.{arith}
+use lib.Pow.{pow-pos, pow-add, shl-shr, shr-shr}
 use Rattle.polynomial.specs.Clmul.{clmul, clmul-pow, clmul-left-comm, clmul-one-l}
 use Rattle.polynomial.specs.Division.{Deg, rem, rem-lt, rem-of, rem-small, rem-xor, rem-clmul-r, division, xor-shr, lt-of-shr}
 use Rattle.polynomial.specs.Xor.{xor, xors, xor-comm, xor-self}
-use Rattle.words.specs.Shift.{join, xor-shl}
+use Rattle.words.specs.Shift.{join, whole, xor-shl}
 
 module _ (g k : ℕ) (d : Deg g k) where
   -- what stands from x^k up is reduced by itself
@@ -54,3 +55,12 @@ module _ (g w s : ℕ) (d : Deg g w) where
   -- and the remainder moved down again
   pub rem-down : (f : ℕ) → rem (g * 2 ^ s) (w + s) (f * 2 ^ s) / 2 ^ s ≡ rem g w f
   rem-down f = ap (λ (x : ℕ). x / 2 ^ s) (rem-up f) ∙ shl-shr (rem g w f) s
+
+-- G and f multiples of x^s
+pub rem-low : (G k s f : ℕ) → Deg G k → s ≤ k → G % 2 ^ s ≡ 0 → f % 2 ^ s ≡ 0 → rem G k f % 2 ^ s ≡ 0
+rem-low G k s f d h g e =
+    let i : s + (k - s) ≡ k = omega arith in
+    let j : (k - s) + s ≡ k = omega arith in
+    let q : Deg (G / 2 ^ s) (k - s) = shr-shr G s (k - s) ∙ rw i d in
+    let a : rem (G / 2 ^ s * 2 ^ s) ((k - s) + s) (f / 2 ^ s * 2 ^ s) % 2 ^ s ≡ 0 = ap (λ (x : ℕ). x % 2 ^ s) (rem-up (G / 2 ^ s) (k - s) s q (f / 2 ^ s)) ∙ Nat.mul-mod-left (rem (G / 2 ^ s) (k - s) (f / 2 ^ s)) (2 ^ s) in
+    rw (whole G s g, whole f s e, j) at a

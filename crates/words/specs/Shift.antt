@@ -5,7 +5,7 @@ use native.Mathlib.Nat.{mod-lt}
 use native.Mathlib.Nat as Nat
 use native.Mathlib.Omega.{arith}
 use lib.Bits as Bits
-use lib.Pow.{pow-add, shl-shr, shr-shr, shl-exact, pow-pos, mod-pow-add}
+use lib.Pow.{pow-add, shl-shr, shr-shr, shl-exact, pow-pos, mod-pow-add, mod-mod-pow, split}
 use Rattle.polynomial.specs.Clmul.{clmul-pow, clmul-xor-r}
 use Rattle.polynomial.specs.Xor.{xor}
 
@@ -53,3 +53,18 @@ pub up-some : (x d c : ℕ) → d ≤ c → c ≤ 64 → x % 2 ^ (c - d) * 2 ^ d
 up-some x d c h k =
     let e : (c - d) + d ≡ c = omega arith in
     shl-exact (c - d) d 64 (mod-lt x (pow-pos (c - d))) (omega arith) ∙ sym (ap (λ (n : ℕ). x * 2 ^ d % 2 ^ n) (sym e) ∙ up-mod x (c - d) d)
+
+-- ---- multiples of 2 ^ k
+pub whole : (x k : ℕ) → x % 2 ^ k ≡ 0 → x / 2 ^ k * 2 ^ k ≡ x
+whole x k z = sym (Nat.add-zero (x / 2 ^ k * 2 ^ k)) ∙ ap (λ (y : ℕ). x / 2 ^ k * 2 ^ k + y) (sym z) ∙ split x k
+
+pub low-less : (x s k : ℕ) → k ≤ s → x % 2 ^ s ≡ 0 → x % 2 ^ k ≡ 0
+low-less x s k h z =
+    let e : (s - k) + k ≡ s = omega arith in
+    sym (mod-mod-pow x (s - k) k) ∙ rw (e, z) (Nat.zero-mod (2 ^ k))
+
+-- moved up by l, and a number added at place k
+pub low-fed : (x u l k : ℕ) → x % 2 ^ k ≡ 0 → xor (x * 2 ^ l) (u * 2 ^ k) % 2 ^ k ≡ 0
+low-fed x u l k z =
+    ap (λ (y : ℕ). y % 2 ^ k) (ap (λ (y : ℕ). xor (y * 2 ^ l) (u * 2 ^ k)) (sym (whole x k z)) ∙ ap (λ (y : ℕ). xor y (u * 2 ^ k)) (Nat.mul-right-comm (x / 2 ^ k) (2 ^ k) (2 ^ l))
+    ∙ sym (xor-shl k (x / 2 ^ k * 2 ^ l) u)) ∙ Nat.mul-mod-left (xor (x / 2 ^ k * 2 ^ l) u) (2 ^ k)

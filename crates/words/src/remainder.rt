@@ -2,74 +2,102 @@
 // by which the generator was moved up; for the plain remainder the register is moved down again by p.
 ghost use mathlib.Core.Path.{_≡_};
 ghost use Prim.Native.Nat.{_+_, _*_, _%_, _^_, _≤_, _<_};
-ghost use lib.ListN.{length};
+ghost use lib.ListN.{length, take};
 ghost use Rattle.polynomial.specs.Digits.{value};
 ghost use Rattle.polynomial.specs.Xor.{xor};
+ghost use Rattle.words.specs.Reduce.{TopAdded};
 ghost use Rattle.words.specs.Row.{D};
-ghost use Rattle.words.specs.Table.{RemainderBy, rowAt, four, Reduced};
+ghost use Rattle.words.specs.Sum.{Copied};
+ghost use Rattle.words.specs.Table.{Clear, MovedUp, RemainderBy, rowAt, four, Reduced};
 use crate::bits::bits;
 use crate::row::clear;
 use crate::row::insert;
 use crate::row::lower;
 use crate::row::shift;
 
-// Four rows are added, which stand at a, b, c and d.
-fn add_rows(r: &mut [u64], t: &[u64], a: usize, b: usize, c: usize, d: usize)
-    requires { ⌜ (length (now r) ≡ 13) × (length (now t) ≡ 3072) × (a + 12 ≤ 3072) × (b + 12 ≤ 3072) × (c + 12 ≤ 3072) × (d + 12 ≤ 3072) ⌝ }
-    ensures { λ x. ⌜ value 64 (now (r .exit)) ≡ xor (value 64 (now (r .entry))) (xor (rowAt (now (t .entry)) a) (xor (rowAt (now (t .entry)) b) (xor (rowAt (now (t .entry)) c) (rowAt (now (t .entry)) d)))) ⌝ }
+// The words of src from `from` on, below the 13th, are copied to dst.
+fn copy(dst: &mut [u64], src: &[u64], from: usize)
+    requires { ⌜ (12 ≤ length (now dst)) × (12 ≤ length (now src)) × (from ≤ 12) × (take from (now dst) ≡ take from (now src)) ⌝ }
+    ensures { λ x. ⌜ Copied (now (dst .entry)) (now (dst .exit)) (now (src .entry)) 12 ⌝ }
 {
-    // The sums are made aside and then copied, so that no store stands between two loads: the compiler takes two words at a time.
-    let mut v = [0u64; 12];
-    let mut j: usize = 0;
-    while j < 12 {
-        v[j] = r[j] ^ t[a + j] ^ t[b + j] ^ t[c + j] ^ t[d + j];
-        j += 1;
-    }
-    let mut i: usize = 0;
+    let mut i = from;
     while i < 12 {
-        r[i] = v[i];
+        dst[i] = src[i];
         i += 1;
     }
 }
 
-// Four rows are added, which v's four hex digits choose among the 64 rows from `base` on.
-fn add_four(r: &mut [u64], t: &[u64], base: usize, v: u64)
-    requires { ⌜ (length (now r) ≡ 13) × (length (now t) ≡ 3072) × (base + 64 ≤ 256) ⌝ }
-    ensures { λ x. ⌜ value 64 (now (r .exit)) ≡ xor (value 64 (now (r .entry))) (four (now (t .entry)) base v) ⌝ }
+// Four rows are added, which stand at a, b, c and d; their words below `from` are 0.
+fn add_rows(v: &mut [u64], t: &[u64], a: usize, b: usize, c: usize, d: usize, from: usize)
+    requires { ⌜ (length (now v) ≡ 12) × (length (now t) ≡ 3072) × (a + 12 ≤ 3072) × (b + 12 ≤ 3072) × (c + 12 ≤ 3072) × (d + 12 ≤ 3072) × (from ≤ 12) × Clear (now t) a from × Clear (now t) b from × Clear (now t) c from × Clear (now t) d from ⌝ }
+    ensures { λ x. ⌜ (value 64 (now (v .exit)) ≡ xor (value 64 (now (v .entry))) (xor (rowAt (now (t .entry)) a) (xor (rowAt (now (t .entry)) b) (xor (rowAt (now (t .entry)) c) (rowAt (now (t .entry)) d))))) × (take from (now (v .exit)) ≡ take from (now (v .entry))) ⌝ }
 {
-    let a = base + (v % 16) as usize;
-    let b = base + 16 + (v / 16 % 16) as usize;
-    let c = base + 32 + (v / 256 % 16) as usize;
-    let d = base + 48 + (v / 4096 % 16) as usize;
-    add_rows(r, t, a * 12, b * 12, c * 12, d * 12);
+    let mut j = from;
+    while j < 12 {
+        v[j] = v[j] ^ t[a + j] ^ t[b + j] ^ t[c + j] ^ t[d + j];
+        j += 1;
+    }
 }
 
-// What stands in the 13th word is reduced.
-fn reduce(r: &mut [u64], t: &[u64])
-    requires { ⌜ (length (now r) ≡ 13) × (length (now t) ≡ 3072) ⌝ }
+// Four rows are added, which u's four lowest hex digits choose among the 64 rows from 64 k on.
+fn add_four(v: &mut [u64], t: &[u64], k: usize, u: u64, from: usize)
+    requires { ⌜ (length (now v) ≡ 12) × (length (now t) ≡ 3072) × (k < 4) × (from ≤ 12) × MovedUp (now t) (64 * from) ⌝ }
+    ensures { λ x. ⌜ (value 64 (now (v .exit)) ≡ xor (value 64 (now (v .entry))) (four (now (t .entry)) (64 * k) u)) × (take from (now (v .exit)) ≡ take from (now (v .entry))) ⌝ }
+{
+    let at = k * 768;
+    let a = at + (u % 16) as usize * 12;
+    let b = at + 192 + (u / 16 % 16) as usize * 12;
+    let c = at + 384 + (u / 256 % 16) as usize * 12;
+    let d = at + 576 + (u / 4096 % 16) as usize * 12;
+    add_rows(v, t, a, b, c, d, from);
+}
+
+// The remainder of top · x^768 is added: the rows that top's hex digits choose, up to its highest that is not 0.
+fn add_top(v: &mut [u64], t: &[u64], top: u64, from: usize)
+    requires { ⌜ (length (now v) ≡ 12) × (length (now t) ≡ 3072) × (from ≤ 12) × MovedUp (now t) (64 * from) ⌝ }
+    ensures { λ x. ⌜ TopAdded (now (t .entry)) (value 64 (now (v .entry))) top (value 64 (now (v .exit))) × (take from (now (v .exit)) ≡ take from (now (v .entry))) ⌝ }
+{
+    let mut u = top;
+    let mut k: usize = 0;
+    while u != 0 {
+        add_four(v, t, k, u, from);
+        u = u / 65536;
+        k += 1;
+    }
+}
+
+// What stands in the 13th word is reduced; the words below `from` are 0, and stay it.
+fn reduce(r: &mut [u64], t: &[u64], from: usize)
+    requires { ⌜ (length (now r) ≡ 13) × (length (now t) ≡ 3072) × (from ≤ 12) × MovedUp (now t) (64 * from) × (value 64 (now r) % 2 ^ (64 * from) ≡ 0) ⌝ }
     ensures { λ x. ⌜ Reduced (now (t .entry)) (value 64 (now (r .entry))) (value 64 (now (r .exit))) ⌝ }
 {
     let top = r[12];
     r[12] = 0;
-    add_four(r, t, 0, top);
-    add_four(r, t, 64, top / 65536);
-    add_four(r, t, 128, top / 4294967296);
-    add_four(r, t, 192, top / 281474976710656);
+    // The sum is made aside, so that no store stands between two loads: the compiler holds it in registers, two words in each.
+    let mut v = [0u64; 12];
+    copy(&mut v, r, from);
+    add_top(&mut v, t, top, from);
+    copy(r, &v, from);
 }
 
-// One step: the register is moved up by l places, u is added at place p, and what passes x^768 is reduced.
+// One step: the register is moved up by l places, u is added at place p, and what passes x^768 is reduced. All is a multiple of x^p: from p = 384 on the lower
+// six words are 0. Each call has its own number, so that the compiler makes straight code of the loops over words.
 pub fn step(r: &mut [u64], t: &[u64], u: u64, l: usize, p: usize)
-    requires { ⌜ (length (now r) ≡ 13) × (length (now t) ≡ 3072) × (1 ≤ l) × (l ≤ 64) × (p < 768) × (value 64 (now r) < 2 ^ D) ⌝ }
+    requires { ⌜ (length (now r) ≡ 13) × (length (now t) ≡ 3072) × (1 ≤ l) × (l ≤ 64) × (p < 768) × (value 64 (now r) < 2 ^ D) × MovedUp (now t) p × (value 64 (now r) % 2 ^ p ≡ 0) ⌝ }
     ensures { λ x. ⌜ Reduced (now (t .entry)) (xor (value 64 (now (r .entry)) * 2 ^ l) (u * 2 ^ p)) (value 64 (now (r .exit))) ⌝ }
 {
     shift(r, l);
     insert(r, u, p);
-    reduce(r, t);
+    if 384 <= p {
+        reduce(r, t, 6);
+        return;
+    }
+    reduce(r, t, 0);
 }
 
 // The n lowest coefficients of s are fed to the register, l at a time, the short chunk last. l is not in the result.
 pub fn feed(r: &mut [u64], t: &[u64], s: &[u8], n: usize, l: usize, p: usize)
-    requires { ⌜ (length (now r) ≡ 13) × (length (now t) ≡ 3072) × (1 ≤ l) × (l ≤ 64) × (p < 768) × (value 64 (now r) < 2 ^ D) × (n < 1000000) ⌝ }
+    requires { ⌜ (length (now r) ≡ 13) × (length (now t) ≡ 3072) × (1 ≤ l) × (l ≤ 64) × (p < 768) × (value 64 (now r) < 2 ^ D) × (n < 1000000) × MovedUp (now t) p × (value 64 (now r) % 2 ^ p ≡ 0) ⌝ }
     ensures { λ x. ⌜ Reduced (now (t .entry)) (xor (value 64 (now (r .entry)) * 2 ^ n) (value 8 (now (s .entry)) % 2 ^ n * 2 ^ p)) (value 64 (now (r .exit))) ⌝ }
 {
     let mut pos = n;
@@ -86,7 +114,7 @@ pub fn feed(r: &mut [u64], t: &[u64], s: &[u8], n: usize, l: usize, p: usize)
 
 // The n lowest coefficients of s, moved up by p, are reduced into r.
 pub fn aligned_of(r: &mut [u64], t: &[u64], s: &[u8], n: usize, l: usize, p: usize)
-    requires { ⌜ (length (now r) ≡ 13) × (length (now t) ≡ 3072) × (1 ≤ l) × (l ≤ 64) × (p < 768) × (n < 1000000) ⌝ }
+    requires { ⌜ (length (now r) ≡ 13) × (length (now t) ≡ 3072) × (1 ≤ l) × (l ≤ 64) × (p < 768) × (n < 1000000) × MovedUp (now t) p ⌝ }
     ensures { λ x. ⌜ Reduced (now (t .entry)) (value 8 (now (s .entry)) % 2 ^ n * 2 ^ p) (value 64 (now (r .exit))) ⌝ }
 {
     clear(r);
@@ -95,7 +123,7 @@ pub fn aligned_of(r: &mut [u64], t: &[u64], s: &[u8], n: usize, l: usize, p: usi
 
 // The remainder of the n lowest coefficients of s by the generator itself, in the lowest words of r.
 pub fn remainder_of(r: &mut [u64], t: &[u64], s: &[u8], n: usize, l: usize, p: usize)
-    requires { ⌜ (length (now r) ≡ 13) × (length (now t) ≡ 3072) × (1 ≤ l) × (l ≤ 64) × (p < 768) × (n < 1000000) ⌝ }
+    requires { ⌜ (length (now r) ≡ 13) × (length (now t) ≡ 3072) × (1 ≤ l) × (l ≤ 64) × (p < 768) × (n < 1000000) × MovedUp (now t) p ⌝ }
     ensures { λ x. ⌜ RemainderBy (now (t .entry)) p (value 8 (now (s .entry)) % 2 ^ n) (value 64 (now (r .exit))) ⌝ }
 {
     aligned_of(r, t, s, n, l, p);

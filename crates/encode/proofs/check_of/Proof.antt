@@ -7,7 +7,7 @@ use lib.ListN.{length}
 use Rattle.polynomial.specs.Digits.{value}
 use Rattle.words.specs.Value.{value-lt}
 use Rattle.code.specs.Code.{remainder}
-use Rattle.level.specs.Ready.{degree-low, degree-most, table-remainder}
+use Rattle.level.specs.Ready.{degree-low, degree-most, prepared-up, table-remainder}
 use Rattle.encode.proofs.check_of.Statement.{statement}
 use Rattle.encode.proofs.check_of.Tie as tie
 
@@ -22,7 +22,7 @@ sub-remainder-of c =
 remainder-of-requires : tie.Need-remainder-of-requires
 remainder-of-requires c κs =
     let s = c .before .before .before .before in
-    (s .pre .4, s .pre .3 .words, s .pre .6, s .pre .7, omega (arith, s .pre .2, degree-low (s .args .p) (s .pre .0) (s .args .a) (s .pre .1)), omega (arith, s .pre .5))
+    (s .pre .4, s .pre .3 .words, s .pre .6, s .pre .7, omega (arith, s .pre .2, degree-low (s .args .p) (s .pre .0) (s .args .a) (s .pre .1)), omega (arith, s .pre .5), prepared-up (s .args .p) (s .args .a) (s .args .w) (s .args .t .now) (s .pre .2) (s .pre .3))
 
 same-length : tie.Need-same-length
 same-length c = search needs

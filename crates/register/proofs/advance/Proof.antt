@@ -1,6 +1,9 @@
 use borrow.Author.Needs.{needs}
 use mathlib.Core.Path.{ap, _∙_}
+use Prim.Native.Nat.{_-_, _^_}
+use native.Mathlib.Nat.{mul-mod-left}
 use Rattle.polynomial.specs.Digits.{digits, value}
+use Rattle.level.specs.Ready.{prepared-up}
 use Rattle.register.specs.Advance.{below-next, place-lt, degree-fits, aligned-lt, stepped}
 use Rattle.register.proofs.advance.Statement.{statement}
 use Rattle.register.proofs.advance.Tie as tie
@@ -41,6 +44,8 @@ step-requires c κs =
       s .pre .6,
       place-lt _ (s .pre .0) _ _ (s .pre .2) (s .pre .3),
       aligned-lt _ (s .pre .0) _ _ (s .pre .2) (s .pre .3) _ _ (s .pre .4) (al .align .ensures),
+      prepared-up (s .args .p) (s .args .a) (s .args .w) _ (s .pre .3) (al .before .before .before .before .prepare .ensures),
+      rw (al .align .ensures) (mul-mod-left _ (2 ^ (768 - s .args .w))),
     )
 
 slice-aggregate-lower : tie.Need-slice-aggregate-lower

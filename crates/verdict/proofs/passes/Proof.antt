@@ -5,7 +5,7 @@ use Prim.Native.Nat.{ℕ, _-_, _%_, _^_}
 use Rattle.polynomial.specs.Digits.{value}
 use Rattle.words.specs.Table.{RemainderBy}
 use Rattle.layout.specs.Sizes.{stored-high}
-use Rattle.level.specs.Ready.{degree-low, degree-most}
+use Rattle.level.specs.Ready.{degree-low, degree-most, prepared-up}
 use Rattle.verdict.specs.Words.{passes-is}
 use Rattle.verdict.proofs.passes.Statement.{statement}
 use Rattle.verdict.proofs.passes.Tie as tie
@@ -30,6 +30,7 @@ remainder-of-requires c κs =
       omega arith,
       omega (arith, s .pre .2, degree-most (s .args .p) (s .pre .0) (s .args .a) (s .pre .1), degree-low (s .args .p) (s .pre .0) (s .args .a) (s .pre .1)),
       omega (arith, c .before .stored-of .ensures, stored-high (s .args .p) (s .pre .0)),
+      prepared-up (s .args .p) (s .args .a) (s .args .w) (s .args .t .now) (s .pre .2) (s .pre .3),
     )
 
 slice-aggregate-is-zero : tie.Need-slice-aggregate-is-zero

@@ -1,7 +1,7 @@
 use borrow.Author.Needs.{needs}
 use mathlib.Core.Path.{_≡_}
 use native.Mathlib.Omega.{arith}
-use Rattle.oneword.specs.Row.{row-lt, unit-remainder, aligned-deg, row-remainder}
+use Rattle.oneword.specs.Row.{row-lt, unit-remainder, aligned-deg, row-up, row-remainder}
 use Rattle.oneword.proofs.divide.remainder_by.Statement.{statement}
 use Rattle.oneword.proofs.divide.remainder_by.Tie as tie
 
@@ -43,7 +43,11 @@ sub-remainder-of : tie.Need-sub-remainder-of
 sub-remainder-of c = search needs
 
 remainder-of-requires : tie.Need-remainder-of-requires
-remainder-of-requires c κs = search needs
+remainder-of-requires c κs =
+    let b = c .before .before .before in
+    let al = b .before .before .before .before in
+    let s = al .before .before .before .before .before .before in
+    (s .pre .0, search needs, omega arith, omega arith, omega arith, s .pre .3, row-up _ (s .args .w) (s .pre .1) _ (s .pre .2) (al .align .ensures) _ (b .build .ensures))
 
 same-length-2 : tie.Need-same-length-2
 same-length-2 c = search needs

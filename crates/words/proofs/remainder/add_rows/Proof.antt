@@ -1,132 +1,102 @@
--- The first loop: j words of the sum are made aside. The second: i of them are copied.
-use mathlib.Core.Path.{_≡_, _∙_}
+-- The loop: the first j words of the rows are added.
+use mathlib.Core.Path.{_≡_, refl, _∙_}
 use Prim.Native.Nat.{_-_, _≤_}
 use native.Mathlib.Omega.{arith}
-use lib.ListN.{length, length-set}
+use lib.ListN.{length, take, length-set}
+use lib.Seq.{take-set-le}
 use borrow.Author.Needs.{needs}
-use Rattle.words.specs.Sum.{Copied, Sum4, copy-start, copy-turn, rows-done, sum-start, sum-turn}
+use Rattle.polynomial.specs.Digits.{value}
+use Rattle.polynomial.specs.Xor.{xor}
+use Rattle.words.specs.Sum.{rows-of, rows-start, rows-turn, rows-done}
 use Rattle.words.proofs.remainder.add_rows.Statement.{statement}
 use Rattle.words.proofs.remainder.add_rows.Tie as tie
 
 abbrev Inv-loop : tie.InvT-loop
-Inv-loop r t a b c d v₀ j₀ v j = (j ≤ 12) × (length v ≡ 12) × Sum4 r t a b c d v j
+Inv-loop v₀ t a b c d from j₀ v j = (from ≤ j) × (take from v ≡ take from v₀) × (j ≤ 12) × (length v ≡ 12) × (value 64 v ≡ xor (value 64 v₀) (rows-of t a b c d j))
 
 abbrev μ-loop : tie.MeasureT-loop
-μ-loop r t a b c d v₀ j₀ v j = 12 - j
+μ-loop v₀ t a b c d from j₀ v j = 12 - j
 
-abbrev Inv-loop2 : tie.InvT-loop2
-Inv-loop2 r₀ t a b c d v j i₀ r i = (i ≤ 12) × (length r ≡ 13) × (length v ≡ 12) × Sum4 r₀ t a b c d v 12 × Copied r₀ r v i
+loop-holds : tie.Need-loop-holds Inv-loop μ-loop
+loop-holds c =
+    let a = c .args in
+    let q = c .pre .6 in
+    (omega arith, refl, c .pre .6, c .pre .0, rows-start (a .t .now) (a .a) (a .b) (a .c) (a .d) (a .from) _ (c .pre .7) (c .pre .8) (c .pre .9) (c .pre .10))
 
-abbrev μ-loop2 : tie.MeasureT-loop2
-μ-loop2 r₀ t a b c d v j i₀ r i = 12 - i
-
-loop-holds : tie.Need-loop-holds Inv-loop μ-loop Inv-loop2 μ-loop2
-loop-holds c = let a = c .args in (omega arith, search needs, sum-start (a .r .now) (a .t .now) (a .a) (a .b) (a .c) (a .d) _)
-
-mul-v : tie.Need-mul-v Inv-loop μ-loop Inv-loop2 μ-loop2
+mul-v : tie.Need-mul-v Inv-loop μ-loop
 mul-v c = search needs
 
-slice-read-v : tie.Need-slice-read-v Inv-loop μ-loop Inv-loop2 μ-loop2
+slice-read-v : tie.Need-slice-read-v Inv-loop μ-loop
 slice-read-v c = search needs
 
-add-v : tie.Need-add-v Inv-loop μ-loop Inv-loop2 μ-loop2
+add-v : tie.Need-add-v Inv-loop μ-loop
 add-v c = search needs
 
-mul-v-2 : tie.Need-mul-v-2 Inv-loop μ-loop Inv-loop2 μ-loop2
+mul-v-2 : tie.Need-mul-v-2 Inv-loop μ-loop
 mul-v-2 c = search needs
 
-shared-slice-read-v : tie.Need-shared-slice-read-v Inv-loop μ-loop Inv-loop2 μ-loop2
+shared-slice-read-v : tie.Need-shared-slice-read-v Inv-loop μ-loop
 shared-slice-read-v c = search needs
 
-add-v-2 : tie.Need-add-v-2 Inv-loop μ-loop Inv-loop2 μ-loop2
+add-v-2 : tie.Need-add-v-2 Inv-loop μ-loop
 add-v-2 c = search needs
 
-mul-v-3 : tie.Need-mul-v-3 Inv-loop μ-loop Inv-loop2 μ-loop2
+mul-v-3 : tie.Need-mul-v-3 Inv-loop μ-loop
 mul-v-3 c = search needs
 
-shared-slice-read-v-2 : tie.Need-shared-slice-read-v-2 Inv-loop μ-loop Inv-loop2 μ-loop2
+shared-slice-read-v-2 : tie.Need-shared-slice-read-v-2 Inv-loop μ-loop
 shared-slice-read-v-2 c = search needs
 
-add-v-3 : tie.Need-add-v-3 Inv-loop μ-loop Inv-loop2 μ-loop2
+add-v-3 : tie.Need-add-v-3 Inv-loop μ-loop
 add-v-3 c = search needs
 
-mul-v-4 : tie.Need-mul-v-4 Inv-loop μ-loop Inv-loop2 μ-loop2
+mul-v-4 : tie.Need-mul-v-4 Inv-loop μ-loop
 mul-v-4 c = search needs
 
-shared-slice-read-v-3 : tie.Need-shared-slice-read-v-3 Inv-loop μ-loop Inv-loop2 μ-loop2
+shared-slice-read-v-3 : tie.Need-shared-slice-read-v-3 Inv-loop μ-loop
 shared-slice-read-v-3 c = search needs
 
-add-v-4 : tie.Need-add-v-4 Inv-loop μ-loop Inv-loop2 μ-loop2
+add-v-4 : tie.Need-add-v-4 Inv-loop μ-loop
 add-v-4 c = search needs
 
-mul-v-5 : tie.Need-mul-v-5 Inv-loop μ-loop Inv-loop2 μ-loop2
+mul-v-5 : tie.Need-mul-v-5 Inv-loop μ-loop
 mul-v-5 c = search needs
 
-shared-slice-read-v-4 : tie.Need-shared-slice-read-v-4 Inv-loop μ-loop Inv-loop2 μ-loop2
+shared-slice-read-v-4 : tie.Need-shared-slice-read-v-4 Inv-loop μ-loop
 shared-slice-read-v-4 c = search needs
 
-mul-v-6 : tie.Need-mul-v-6 Inv-loop μ-loop Inv-loop2 μ-loop2
+mul-v-6 : tie.Need-mul-v-6 Inv-loop μ-loop
 mul-v-6 c = search needs
 
-array-write-v : tie.Need-array-write-v Inv-loop μ-loop Inv-loop2 μ-loop2
-array-write-v c = search needs
+slice-write-v : tie.Need-slice-write-v Inv-loop μ-loop
+slice-write-v c = search needs
 
-add-j : tie.Need-add-j Inv-loop μ-loop Inv-loop2 μ-loop2
+add-j : tie.Need-add-j Inv-loop μ-loop
 add-j c = search needs
 
-loop-less : tie.Need-loop-less Inv-loop μ-loop Inv-loop2 μ-loop2
+loop-less : tie.Need-loop-less Inv-loop μ-loop
 loop-less c = search needs
 
-loop-again : tie.Need-loop-again Inv-loop μ-loop Inv-loop2 μ-loop2
+loop-again : tie.Need-loop-again Inv-loop μ-loop
 loop-again c =
     let l = c .before .before .before .before .before .before .loop in
-    let s = c .before .before .before .before .before .before .before in
-    let a = s .args in (
+    let a = c .before .before .before .before .before .before .before .args in (
       omega arith,
-      length-set (l .v) (l .j) _ ∙ l .inv .1,
-      sum-turn (a .r .now) (a .t .now) (a .a) (a .b) (a .c) (a .d) (l .v) (l .j) (λ k. c .before .before .before .before .slice-known .given k .fits) (λ k. c .shared-slice-known4 .given k .fits)
-          (omega arith) (omega arith) (omega arith) (omega arith) (omega arith) (omega arith) (l .inv .2),
+      take-set-le (a .from) (l .v) (l .j) _ (l .inv .0) ∙ l .inv .1,
+      omega arith,
+      length-set (l .v) (l .j) _ ∙ l .inv .3,
+      rows-turn (a .t .now) (a .a) (a .b) (a .c) (a .d) _ (l .v) (l .j) (λ k. c .before .before .before .before .slice-known .given k .fits) (λ k. c .shared-slice-known4 .given k .fits)
+          (omega arith) (omega arith) (omega arith) (omega arith) (omega arith) (l .inv .4),
     )
 
-loop2-holds : tie.Need-loop2-holds Inv-loop μ-loop Inv-loop2 μ-loop2
-loop2-holds c =
-    let l = c .before .loop in
-    let e : l .j ≡ 12 = omega arith in
-    (omega arith, c .before .before .pre .0, l .inv .1, rw e at (l .inv .2), copy-start _ _)
-
-mul-r : tie.Need-mul-r Inv-loop μ-loop Inv-loop2 μ-loop2
-mul-r c = search needs
-
-array-read-r : tie.Need-array-read-r Inv-loop μ-loop Inv-loop2 μ-loop2
-array-read-r c = search needs
-
-mul-r-2 : tie.Need-mul-r-2 Inv-loop μ-loop Inv-loop2 μ-loop2
-mul-r-2 c = search needs
-
-slice-write-r : tie.Need-slice-write-r Inv-loop μ-loop Inv-loop2 μ-loop2
-slice-write-r c = search needs
-
-add-i : tie.Need-add-i Inv-loop μ-loop Inv-loop2 μ-loop2
-add-i c = search needs
-
-loop2-less : tie.Need-loop2-less Inv-loop μ-loop Inv-loop2 μ-loop2
-loop2-less c = search needs
-
-loop2-again : tie.Need-loop2-again Inv-loop μ-loop Inv-loop2 μ-loop2
-loop2-again c =
-    let l = c .before .loop2 in
-    let v = c .before .before .before .loop .v in
-    (omega arith, length-set (l .r) (l .i) _ ∙ l .inv .1, l .inv .2, l .inv .3, copy-turn (c .before .before .before .before .args .r .now) (l .r) v (l .i) (omega arith) (omega arith) (l .inv .4))
-
-same-length : tie.Need-same-length Inv-loop μ-loop Inv-loop2 μ-loop2
+same-length : tie.Need-same-length Inv-loop μ-loop
 same-length c = search needs
 
-returns : tie.Need-returns Inv-loop μ-loop Inv-loop2 μ-loop2
+returns : tie.Need-returns Inv-loop μ-loop
 returns c =
-    let l = c .before .loop2 in
-    let s = c .before .before .before .before in
-    let a = s .args in
-    rows-done (a .r .now) (a .t .now) (a .a) (a .b) (a .c) (a .d) (c .before .before .before .loop .v) (l .r) (l .i) (omega arith) (s .pre .0) (l .inv .1) (l .inv .3) (l .inv .4)
+    let l = c .before .loop in
+    let a = c .before .before .args in
+    (rows-done (a .t .now) (a .a) (a .b) (a .c) (a .d) _ _ (l .j) (omega arith) (l .inv .4), l .inv .1)
 
 pub add-rows-spec : {M : Type 1} → statement M
 add-rows-spec =
@@ -134,8 +104,6 @@ add-rows-spec =
     (tie.spec
     Inv-loop
     μ-loop
-    Inv-loop2
-    μ-loop2
     loop-holds
     mul-v
     slice-read-v
@@ -152,17 +120,9 @@ add-rows-spec =
     mul-v-5
     shared-slice-read-v-4
     mul-v-6
-    array-write-v
+    slice-write-v
     add-j
     loop-less
     loop-again
-    loop2-holds
-    mul-r
-    array-read-r
-    mul-r-2
-    slice-write-r
-    add-i
-    loop2-less
-    loop2-again
     same-length
     returns)

@@ -1,5 +1,7 @@
 -- Fed to a register of 0: fed-zero.
 use mathlib.Core.Path.{_∙_}
+use Prim.Native.Nat.{_^_}
+use native.Mathlib.Nat.{zero-mod}
 use lib.Pow.{pow-pos}
 use borrow.Author.Needs.{needs}
 use Rattle.polynomial.specs.Digits.{value}
@@ -15,7 +17,7 @@ feed-requires : tie.Need-feed-requires
 feed-requires c κs =
     let s = c .before .before .before .before .before .before .before .before in
     let q = c .before .before .before .clear in
-    (q .kept .0 ∙ s .pre .0, s .pre .1, s .pre .2, s .pre .3, s .pre .4, rw (q .ensures) (pow-pos D), s .pre .5)
+    (q .kept .0 ∙ s .pre .0, s .pre .1, s .pre .2, s .pre .3, s .pre .4, rw (q .ensures) (pow-pos D), s .pre .5, s .pre .6, rw (q .ensures) (zero-mod (2 ^ s .args .p)))
 
 same-length : tie.Need-same-length
 same-length c = search needs

@@ -7,7 +7,8 @@ use borrow.Author.Needs.{needs}
 use Rattle.polynomial.specs.Digits.{value}
 use Rattle.polynomial.specs.Xor.{xor}
 use Rattle.words.specs.Feed.{end-fed, start-fed, turn-fed}
-use Rattle.words.specs.Table.{Reduced}
+use Rattle.words.specs.Shift.{low-fed}
+use Rattle.words.specs.Table.{Reduced, reduced-low}
 use Rattle.words.proofs.remainder.feed.Statement.{statement}
 use Rattle.words.proofs.remainder.feed.Tie as tie
 
@@ -29,7 +30,7 @@ step-requires : tie.Need-step-requires Inv-loop μ-loop
 step-requires c κs =
     let s = c .before .before .before .before .before .before .before in
     let l = c .before .before .before .loop in
-    (l .inv .1, s .pre .1, s .pre .2, s .pre .3, s .pre .4, l .inv .2 .small)
+    (l .inv .1, s .pre .1, s .pre .2, s .pre .3, s .pre .4, l .inv .2 .small, s .pre .7, reduced-low _ (s .args .p) _ _ (s .pre .4) (s .pre .7) (low-fed (value 64 (s .args .r .now)) _ _ (s .args .p) (s .pre .8)) (l .inv .2))
 
 loop-less : tie.Need-loop-less Inv-loop μ-loop
 loop-less c = search needs
@@ -52,7 +53,7 @@ step-requires-2 : tie.Need-step-requires-2 Inv-loop μ-loop
 step-requires-2 c κs =
     let s = c .before .before .before .before .before .before .before .before in
     let l = c .before .before .before .before .loop in
-    (l .inv .1, s .pre .1, omega arith, omega arith, s .pre .4, l .inv .2 .small)
+    (l .inv .1, s .pre .1, omega arith, omega arith, s .pre .4, l .inv .2 .small, s .pre .7, reduced-low _ (s .args .p) _ _ (s .pre .4) (s .pre .7) (low-fed (value 64 (s .args .r .now)) _ _ (s .args .p) (s .pre .8)) (l .inv .2))
 
 same-length : tie.Need-same-length Inv-loop μ-loop
 same-length c = c .before .before .step2 .kept .0 ∙ c .before .before .before .before .before .before .before .loop .inv .1 ∙ sym (c .before .before .before .before .before .before .before .before .before .before .before .pre .0)

@@ -1,10 +1,9 @@
--- Sixteen rows make the remainder of the 13th word: reduce-law.
+-- The lower words are copied, the 13th's remainder is added, and they are copied back: reduce-law.
 use mathlib.Core.Path.{_∙_}
-use native.Mathlib.Numerals.{add-four}
 use native.Mathlib.Omega.{arith}
 use lib.ListN.{length-set}
 use borrow.Author.Needs.{needs}
-use Rattle.words.specs.Reduce.{reduce-law}
+use Rattle.words.specs.Reduce.{clear-in, clear-out, reduce-law}
 use Rattle.words.specs.Value.{Bounded}
 use Rattle.words.proofs.remainder.reduce.Statement.{statement}
 use Rattle.words.proofs.remainder.reduce.Tie as tie
@@ -15,41 +14,43 @@ slice-read-top c = search needs
 slice-write-r : tie.Need-slice-write-r
 slice-write-r c = search needs
 
-add-four-requires : tie.Need-add-four-requires
-add-four-requires c κs = search needs
+slice-aggregate-copy : tie.Need-slice-aggregate-copy
+slice-aggregate-copy c = search needs
 
-add-four-requires-2 : tie.Need-add-four-requires-2
-add-four-requires-2 c κs =
-    let s = c .before .before .before .before .before .before .before .before in
-    (c .before .before .before .add-four .kept .0 ∙ length-set (s .args .r .now) 12 0 ∙ s .pre .0, s .pre .1, omega arith)
+copy-requires : tie.Need-copy-requires
+copy-requires c κs =
+    let s = c .before .before .before .before .before in
+    (search needs, rw (length-set (s .args .r .now) 12 0) (omega (arith, s .pre .0)), s .pre .2, clear-in (s .args .r .now) (s .args .from) (λ k. c .before .before .before .before .slice-known .given k .fits) (s .pre .0) (s .pre .2) (s .pre .4))
 
-add-four-requires-3 : tie.Need-add-four-requires-3
-add-four-requires-3 c κs =
+slice-aggregate-add-top : tie.Need-slice-aggregate-add-top
+slice-aggregate-add-top c = search needs
+
+add-top-requires : tie.Need-add-top-requires
+add-top-requires c κs = search needs
+
+slice-aggregate-copy-2 : tie.Need-slice-aggregate-copy-2
+slice-aggregate-copy-2 c = search needs
+
+copy-requires-2 : tie.Need-copy-requires-2
+copy-requires-2 c κs =
     let s = c .before .before .before .before .before .before .before .before .before .before .before .before in
-    let k = c .before .before .before .before .before .before .before .add-four .kept .0 ∙ length-set (s .args .r .now) 12 0 ∙ s .pre .0 in
-    (c .before .before .before .add-four2 .kept .0 ∙ k, s .pre .1, omega arith)
-
-add-four-requires-4 : tie.Need-add-four-requires-4
-add-four-requires-4 c κs =
-    let s = c .before .before .before .before .before .before .before .before .before .before .before .before .before .before .before .before in
-    let k = c .before .before .before .before .before .before .before .before .before .before .before .add-four .kept .0 ∙ length-set (s .args .r .now) 12 0 ∙ s .pre .0 in
-    (c .before .before .before .add-four3 .kept .0 ∙ c .before .before .before .before .before .before .before .add-four2 .kept .0 ∙ k, s .pre .1, omega arith)
+    let i = c .before .before .before .before .before .before .copy in
+    let a = c .before .before .before .add-top in
+    let k = a .kept .0 ∙ i .kept .0 in
+    (rw (length-set (s .args .r .now) 12 0) (omega (arith, s .pre .0)), omega (arith, k), s .pre .2, clear-out (s .args .r .now) _ (i .last .0) (a .last .0) (s .args .from) (s .pre .2) (i .ensures) (a .ensures .1))
 
 same-length : tie.Need-same-length
-same-length c =
-    let k = c .before .before .before .before .before .before .before .before .before .before .before .before .before .before .add-four .kept .0 ∙ length-set (c .before .before .before .before .before .before .before .before .before .before .before .before .before .before .before .before .before .before .before .args .r .now) 12 0 in
-    c .before .before .add-four4 .kept .0 ∙ c .before .before .before .before .before .before .add-four3 .kept .0 ∙ c .before .before .before .before .before .before .before .before .before .before .add-four2 .kept .0 ∙ k
+same-length c = c .before .before .copy2 .kept .0 ∙ length-set (c .before .before .before .before .before .before .before .before .before .before .before .before .before .before .before .args .r .now) 12 0
 
 returns : tie.Need-returns
 returns c =
-    let s = c .before .before .before .before .before .before .before .before .before .before .before .before .before .before .before .before .before .before .before in
-    let t : Bounded 64 (s .args .t .now) = λ k. c .before .before .before .before .before .before .before .before .before .before .before .before .before .before .before .before .before .shared-slice-known .given k .fits in
-    let r : Bounded 64 (s .args .r .now) = λ k. c .before .before .before .before .before .before .before .before .before .before .before .before .before .before .before .before .before .before .slice-known .given k .fits in
-    reduce-law (s .args .t .now) (s .args .r .now) _ _ _ _ t (s .pre .1) r (s .pre .0)
-    (c .before .before .before .before .before .before .before .before .before .before .before .before .before .before .add-four .ensures)
-    (c .before .before .before .before .before .before .before .before .before .before .add-four2 .ensures)
-    (c .before .before .before .before .before .before .add-four3 .ensures)
-    (c .before .before .add-four4 .ensures)
+    let s = c .before .before .before .before .before .before .before .before .before .before .before .before .before .before .before in
+    let r : Bounded 64 (s .args .r .now) = λ k. c .before .before .before .before .before .before .before .before .before .before .before .before .before .before .slice-known .given k .fits in
+    let i = c .before .before .before .before .before .before .before .before .before .copy in
+    let a = c .before .before .before .before .before .before .add-top in
+    let o = c .before .before .copy2 in
+    reduce-law (s .args .t .now) (s .args .r .now) _ (i .last .0) (a .last .0) (o .last .0) r (s .pre .0) (λ k. c .slice-known3 .given k .fits)
+    (o .kept .0 ∙ length-set (s .args .r .now) 12 0 ∙ s .pre .0) (i .kept .0) (a .kept .0 ∙ i .kept .0) (i .ensures) (a .ensures .0) (o .ensures)
 
 pub reduce-spec : {M : Type 1} → statement M
 reduce-spec =
@@ -57,9 +58,11 @@ reduce-spec =
     (tie.spec
     slice-read-top
     slice-write-r
-    add-four-requires
-    add-four-requires-2
-    add-four-requires-3
-    add-four-requires-4
+    slice-aggregate-copy
+    copy-requires
+    slice-aggregate-add-top
+    add-top-requires
+    slice-aggregate-copy-2
+    copy-requires-2
     same-length
     returns)
