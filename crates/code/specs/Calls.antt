@@ -20,7 +20,7 @@ use Rattle.code.specs.Lists.{range}
 use Rattle.code.specs.Parameters.{nestedBytes, strength, sheetRefusal}
 use Rattle.code.specs.Code.{gen, degree, remainder, nested, N, shortRemainder, syndromes, verdict}
 use Rattle.code.specs.Layout.{wordsOf, pageOf, dataOf}
-use Rattle.code.specs.Refusals.{writeRefusal, readRefusal, judgeRefusal, wordRefusal, remainderRefusal, shortRefusal, nestedRefusal, syndromesRefusal, nestedSyndromesRefusal, openRefusal, feedRefusal, nestingRefusal}
+use Rattle.code.specs.Refusals.{writeRefusal, readRefusal, judgeRefusal, remainderRefusal, shortRefusal, nestedRefusal, syndromesRefusal, nestedSyndromesRefusal, openRefusal, feedRefusal, nestingRefusal}
 
 -- ---- numbers and values of the answers
 abbrev pub outcomeNumber : Outcome → ℕ

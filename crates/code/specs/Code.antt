@@ -12,10 +12,9 @@
 --   syndromes p k c     S_1 to S_k of a word
 --   divisor p l         g_(v-l) / g_0; shortRemainder p l cs is the remainder of nested word l by it
 --   distance p          the smallest of (v + 1)(2 t_0 + 1) and b (2 t_(v-b+1) + 1), b from 1 to v
-use mathlib.Core.Path.{_≡_}
-use mathlib.Core.Bool.{Bool, true, false, not, cond}
+use mathlib.Core.Bool.{not, cond}
 use mathlib.Core.List.{List, [], _∷_, map}
-use Prim.Native.Nat.{ℕ, zero, suc, _+_, _-_, _*_, _/_, _%_, _^_, _<_, min}
+use Prim.Native.Nat.{ℕ, zero, suc, _+_, _-_, _*_, _/_, _^_, _<_, min}
 use lib.Dec.{eqb, ltb}
 use lib.ListN.{getD}
 use Rattle.polynomial.specs.Clmul.{clmul}

@@ -1,13 +1,13 @@
 -- Members by their words, and what judge names.
 --   First Q i o f    f is the first number from i on, below o, that passes the test Q, or o if none does
-use mathlib.Core.Path.{_≡_, refl, sym, ap, ap₂, _∙_}
+use mathlib.Core.Path.{_≡_, refl, sym, ap, _∙_}
 use mathlib.Core.Logic.{_≢_, _↔_, _⊎_, inl, inr}
-use mathlib.Core.Bool.{Bool, true, false, not, _&&_, _||_, cond}
-use mathlib.Core.List.{List, [], _∷_}
-use Prim.Native.Nat.{ℕ, zero, suc, _+_, _-_, _*_, _^_, _≤_, _<_, zero-le, suc-le-suc}
+use mathlib.Core.Bool.{Bool, true, false, not, cond}
+use mathlib.Core.List.{List}
+use Prim.Native.Nat.{ℕ, zero, suc, _+_, _-_, _*_, _^_, _≤_, _<_, zero-le}
 use native.Mathlib.Nat as Nat
 use native.Mathlib.Omega.{arith}
-use lib.Dec.{T, eqb, leb, ltb, eqb→eq, eqb-refl, ltb→lt, lt→ltb, nltb→le, not-T, T-not}
+use lib.Dec.{T, eqb, ltb, eqb→eq, ltb→lt, lt→ltb, nltb→le, not-T, T-not}
 use lib.ListN.{length, getD}
 use Rattle.polynomial.specs.Division.{rem-zero-iff}
 use Rattle.polynomial.specs.Lists.{all-at, at-all}

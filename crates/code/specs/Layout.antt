@@ -11,9 +11,9 @@
 --   coefficientOf p x i k the coefficient of x^k of sub-word i, blockBit p b i r bit r of block i: both literally, as bits of bytes
 --   differences p x y     the number of pairs of a sub-word i and a place k at which the coefficients of two pages differ
 use mathlib.Core.Path.{_≡_}
-use mathlib.Core.Bool.{Bool, true, false, not}
-use mathlib.Core.List.{List, [], _∷_, map}
-use Prim.Native.Nat.{ℕ, zero, suc, _+_, _-_, _*_, _/_, _%_, _<_}
+use mathlib.Core.Bool.{Bool, not}
+use mathlib.Core.List.{List, map}
+use Prim.Native.Nat.{ℕ, _+_, _-_, _*_, _/_, _%_, _<_}
 use lib.Dec.{T, eqb}
 use lib.ListN.{length, getD, replicate, take}
 use Rattle.polynomial.specs.Bits.{coefficient}

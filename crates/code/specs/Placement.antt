@@ -1,12 +1,12 @@
 -- Placement, literally over bytes: where a sub-word's coefficients, a block's bits and the check bits stand.
-use mathlib.Core.Path.{_≡_, refl, sym, ap, ap₂, _∙_}
+use mathlib.Core.Path.{_≡_, refl, sym, ap, _∙_}
 use mathlib.Core.List.{List, [], _∷_, _++_, map}
 use Prim.Native.Nat.{ℕ, zero, suc, _+_, _-_, _*_, _/_, _%_, _^_, _≤_, _<_, zero-le, suc-le-suc}
 use native.Mathlib.Nat as Nat
 use native.Mathlib.Omega.{arith}
 use lib.Bits as Bits
-use lib.ListN.{length, getD, take, drop, replicate, length-append, List·getD-append, getD-replicate}
-use lib.Pow.{pow-pos, shr-shr}
+use lib.ListN.{length, getD, take, drop, replicate, List·getD-append, getD-replicate}
+use lib.Pow.{shr-shr}
 use lib.Seq.{getD-take, getD-drop, getD-append-add}
 use Rattle.polynomial.specs.Bits.{coefficient}
 use Rattle.polynomial.specs.Digits.{digits, digits-coefficient, length-digits, value-coefficient}

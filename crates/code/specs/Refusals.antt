@@ -1,8 +1,8 @@
 -- The refusal of each call: of the conditions that it can meet, in the order of document 01's table, the first that holds; 0 for none.
 -- A chain takes lengths where lengths suffice, and looks at nothing behind an earlier refusal.
-use mathlib.Core.Bool.{Bool, true, false, not, _||_}
-use mathlib.Core.List.{List, [], _∷_}
-use Prim.Native.Nat.{ℕ, zero, suc, _+_, _-_, _*_, _/_, _^_}
+use mathlib.Core.Bool.{Bool, not, _||_}
+use mathlib.Core.List.{List}
+use Prim.Native.Nat.{ℕ, _+_, _-_, _*_, _/_, _^_}
 use lib.Dec.{eqb, leb, ltb}
 use lib.ListN.{length}
 use Rattle.polynomial.specs.Digits.{value}

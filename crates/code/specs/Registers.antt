@@ -3,15 +3,14 @@
 --   feedings p r parts        the register after the parts are fed in turn
 --   AllDone p r parts         no feeding of them is refused
 --   holding a k f             the register of level a with count k and the remainder f
-use mathlib.Core.Path.{_≡_, refl, sym, ap, ap₂, _∙_}
+use mathlib.Core.Path.{_≡_, refl, sym, ap, _∙_}
 use mathlib.Core.Bool.{Bool, true, false, not, _||_}
 use mathlib.Core.List.{List, [], _∷_}
-use Prim.Native.Nat.{ℕ, zero, suc, _+_, _*_, _/_, _%_, _^_, _≤_, _<_, zero-le}
+use Prim.Native.Nat.{ℕ, _+_, _*_, _/_, _%_, _^_, _≤_, _<_}
 use native.Mathlib.Nat as Nat
 use native.Mathlib.Omega.{arith}
 use lib.Bits.{xor-shifted}
 use lib.Dec.{T, leb, ltb, leb→le, ltb→lt, not-T}
-use lib.ListN.{replicate}
 use lib.Pow.{pow-pos, pow-mono, shr-shr, split}
 use Rattle.polynomial.specs.Clmul.{clmul-pow}
 use Rattle.polynomial.specs.Digits.{digits, value, value-digits}

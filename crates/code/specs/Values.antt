@@ -1,7 +1,7 @@
 -- The values of nested words at powers of α, and what the theorems on pages rest on.
 --   weigh F x f i cs    Σ f(k) × c_k(x), the list's first word being c_i
 --   Lawful F α C        α has order n in F, the generators are known by their roots, and there is no clash
-use mathlib.Core.Path.{_≡_, refl, sym, ap, _∙_}
+use mathlib.Core.Path.{_≡_, refl, _∙_}
 use mathlib.Core.Logic.{_≢_, _↔_}
 use mathlib.Core.List.{List, [], _∷_}
 use Prim.Native.Nat.{ℕ, zero, suc, _+_, _*_, _^_, _≤_, _<_}

@@ -16,7 +16,7 @@ use Rattle.polynomial.specs.Lists.{at-all}
 use Rattle.polynomial.specs.Xor.{xor, xor-is}
 use Rattle.code.specs.declared.Parameters.{Parameters}
 use Rattle.code.specs.Accepted.{accepted, lawful}
-use Rattle.code.specs.Code.{carried, checkBits, checked, degree, gen, level, remainder}
+use Rattle.code.specs.Code.{carried, checkBits, checked, gen, level, remainder}
 use Rattle.code.specs.Encode.{Sized}
 use Rattle.code.specs.Layout.{Fits, blockOffset, blocksClear, blocksOf, dataBits, dataBytes, wordsOf}
 use Rattle.code.specs.Pages.{blocks-blocks}

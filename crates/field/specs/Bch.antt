@@ -1,20 +1,19 @@
 -- The BCH bound: a binary word of n bits with at most t ones, that vanishes at α, α², .., α^t, for an α of order at least n, is zero.
 --   weight c       the number of ones of c
 --   ones F α n c p the ones of c among its n lowest bits as Vandermonde's pairs (p α^k, p α^k)
-use mathlib.Core.Path.{_≡_, refl, sym, ap, ap₂, _∙_}
+use mathlib.Core.Path.{_≡_, refl, sym, ap, _∙_}
 use mathlib.Core.Logic.{_≢_}
 use mathlib.Core.List.{List, [], _∷_}
-use Prim.Native.Nat.{ℕ, zero, suc, _+_, _*_, _/_, _%_, _^_, _≤_, _<_, zero-le, suc-le-suc}
-use native.Mathlib.Nat.{not-suc-le-zero, le-of-suc-le-suc, le-trans, div-lt-iff-lt-mul}
+use Prim.Native.Nat.{ℕ, zero, suc, _+_, _/_, _%_, _^_, _≤_, _<_, zero-le, suc-le-suc}
 use native.Mathlib.Nat as N
 use native.Mathlib.Omega.{arith}
-use lib.Arith.{bin-ind, lt-one}
+use lib.Arith.{lt-one}
 use lib.ListN.{length}
 use Rattle.polynomial.specs.Bits.{fold, fold-step, half-lt}
 use Rattle.polynomial.specs.Lists.{All}
 use Rattle.polynomial.specs.Xor.{bit-ind, halves}
 use Rattle.field.specs.Eval.{eval, eval-eq, eval-zero, bit, bit0, bit1}
-use Rattle.field.specs.Field.{Field2, ring, add-zero, add-self, mul-comm, mul-one, mul-add, mul-zero, add-eq-zero, mul-eq-zero, pow, pow-zero, pow-suc, mul-pow}
+use Rattle.field.specs.Field.{Field2, ring, add-self, mul-comm, mul-one, mul-add, mul-zero, add-eq-zero, mul-eq-zero, pow, pow-zero, pow-suc, mul-pow}
 use Rattle.field.specs.Vandermonde.{Distinct, sum, sum-nil, sum-cons, vandermonde}
 
 -- the number of ones

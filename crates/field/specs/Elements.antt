@@ -12,8 +12,8 @@ use native.Mathlib.Omega.{arith}
 use lib.Arith.{bin-ind}
 use Rattle.polynomial.specs.Bits.{fold, fold-step, coefficient}
 use Rattle.polynomial.specs.Clmul.{clmul, clmul-zero-r}
-use Rattle.polynomial.specs.Division.{rem, rem-zero}
-use Rattle.polynomial.specs.Xor.{xor, xors, odd-ind}
+use Rattle.polynomial.specs.Division.{rem}
+use Rattle.polynomial.specs.Xor.{xor, odd-ind}
 use Rattle.field.specs.Eval.{eval, eval-zero, eval-eq, eval-total, total, total-zero, total-suc, bit, bit0, bit1}
 use Rattle.field.specs.Field.{Field2, zero-mul, one-mul, pow, pow-zero, pow-suc, pow-mul}
 use Rattle.field.specs.Fields.{BinaryField, Known, fieldOf, fieldPolynomial, fieldOf-polynomial, fieldOf-exponent, fieldOf-length}

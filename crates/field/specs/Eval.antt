@@ -13,7 +13,7 @@ use Rattle.polynomial.specs.Bits.{fold, fold-step, coefficient}
 use Rattle.polynomial.specs.Clmul.{clmul, clmul-step, clmul-zero-l, clmul-pow}
 use Rattle.polynomial.specs.Division.{Deg, rem, division, unity-xor}
 use Rattle.polynomial.specs.Xor.{xor, xor-is, xor-comm, odd-ind, dbl-half, dbl-odd, xor-odd, xor-half, xor-zero-l}
-use Rattle.field.specs.Field.{Field2, ring, add-zero, add-self, mul-comm, mul-one, mul-add, mul-zero, pow, pow-zero, pow-suc}
+use Rattle.field.specs.Field.{Field2, ring, mul-comm, mul-zero, pow, pow-zero, pow-suc}
 
 module _ (F : Field2) where
   open Field2 F using (K, 𝟘, 𝟙, _⊕_, _⊗_)

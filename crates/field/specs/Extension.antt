@@ -1,17 +1,17 @@
 -- GF(2^k): the remainders by an irreducible polynomial g of degree k.
 --   El k       its elements: numbers below 2^k
 --   gf g k ..  the field
-use mathlib.Core.Path.{_≡_, refl, sym, ap, ap₂, _∙_}
+use mathlib.Core.Path.{_≡_, sym, ap, _∙_}
 use mathlib.Core.Logic.{_≢_, _⊎_, inl, inr}
 use mathlib.Core.HLevel.{Σ-prop-path, Σ-prop-discrete}
-use Prim.Native.Nat.{ℕ, zero, suc, _^_, _≤_, _<_, zero-le, suc-le-suc}
-use native.Mathlib.Nat.{eq-zero-or-pos, lt-of-lt-of-le}
+use Prim.Native.Nat.{ℕ, zero, _^_, _<_}
+use native.Mathlib.Nat.{eq-zero-or-pos}
 use native.Mathlib.Decide.{ℕ-discrete}
 use native.Mathlib.Omega.{arith}
 use lib.Pow.{pow-pos, pow-lt}
-use lib.Dec.{T, T-prop, ltb, ltb→lt, lt→ltb, lit<}
-use Rattle.polynomial.specs.Clmul.{clmul, clmul-xor-r, clmul-zero-r, clmul-one-r, clmul-comm, clmul-assoc}
-use Rattle.polynomial.specs.Division.{Deg, rem, rem-lt, rem-small, rem-xor, rem-zero, rem-clmul-l, rem-clmul-r, xor-lt}
+use lib.Dec.{T, T-prop, ltb, ltb→lt, lt→ltb}
+use Rattle.polynomial.specs.Clmul.{clmul, clmul-xor-r, clmul-one-r, clmul-comm, clmul-assoc}
+use Rattle.polynomial.specs.Division.{Deg, rem, rem-lt, rem-small, rem-xor, rem-clmul-l, rem-clmul-r, xor-lt}
 use Rattle.polynomial.specs.Xor.{xor, xor-zero-r, xor-self, xor-comm, xor-assoc}
 use Rattle.field.specs.Field.{Field2}
 use Rattle.field.specs.Irreducible.{NoFactor, inverse}

@@ -1,18 +1,18 @@
 -- Irreducible polynomials: modulo one, each smaller polynomial but 0 has an inverse; the test for factors computes.
 --   NoFactor g n    no polynomial a with 1 < a < n divides g (as numbers; n = 2^k: none of degree below k)
 --   test g n        the same as a computed test
-use mathlib.Core.Path.{_≡_, refl, sym, ap, ap₂, _∙_}
+use mathlib.Core.Path.{_≡_, sym, ap, _∙_}
 use mathlib.Core.Logic.{_≢_, _⊎_, inl, inr}
 use mathlib.Core.Bool.{Bool, true, false, not, _&&_, _||_}
-use Prim.Native.Nat.{ℕ, zero, suc, _+_, _-_, _*_, _/_, _%_, _^_, _≤_, _<_, zero-le, suc-le-suc}
-use native.Mathlib.Nat.{le-refl, le-trans, lt-of-lt-of-le, lt-of-le-of-lt, not-suc-le-zero, one-mul, le-div-iff-mul-le, le-of-eq, eq-zero-or-pos, lt-of-not-le, not-le-of-lt, le-of-suc-le-suc, eq-or-lt-of-le, le-antisymm}
+use Prim.Native.Nat.{ℕ, zero, suc, _+_, _-_, _^_, _<_}
+use native.Mathlib.Nat.{le-refl, lt-of-lt-of-le, not-suc-le-zero, eq-zero-or-pos, lt-of-not-le, not-le-of-lt, le-of-suc-le-suc, eq-or-lt-of-le}
 use native.Mathlib.Decide.{decLt}
 use native.Mathlib.Omega.{arith}
 use lib.Pow.{pow-pos, pow-mono}
-use lib.Dec.{T, leb, ltb, eqb, leb→le, lit<, eqb-refl, T-not}
+use lib.Dec.{T, leb, eqb, leb→le, eqb-refl, T-not}
 use Rattle.polynomial.specs.Clmul.{clmul, clmul-xor-l, clmul-zero-l, clmul-one-l, clmul-one-r, clmul-comm, clmul-assoc, clmul-left-comm}
-use Rattle.polynomial.specs.Division.{Deg, deg, deg-is, deg-mul, lt-of-deg, rem, division, rem-lt, rem-small, rem-xor, rem-multiple, rem-zero-iff, le-of-deg, deg-unique, deg-le-of-lt}
-use Rattle.polynomial.specs.Xor.{xor, xors, xor-zero-l, xor-zero-r, xor-self, xor-comm, xor-assoc, xor-left-comm, xor-cancel, xor-eq-zero}
+use Rattle.polynomial.specs.Division.{Deg, deg, deg-is, deg-mul, lt-of-deg, rem, division, rem-lt, rem-small, rem-xor, rem-multiple, rem-zero-iff, le-of-deg, deg-unique}
+use Rattle.polynomial.specs.Xor.{xor, xors, xor-zero-l}
 
 abbrev pub NoFactor : ℕ → ℕ → Type 0
 NoFactor g n = (a : ℕ) → 1 < a → a < n → rem a (deg a) g ≢ 0

@@ -3,15 +3,15 @@
 --   quotient F r l    the quotient of c ∷ l by X + r, whatever c
 --   Zeros F l         every coefficient is 0
 --   Apart F xs        no element stands twice
-use mathlib.Core.Path.{_≡_, refl, sym, ap, ap₂, _∙_}
+use mathlib.Core.Path.{_≡_, refl, sym, ap, _∙_}
 use mathlib.Core.Logic.{_≢_}
 use mathlib.Core.List.{List, [], _∷_}
-use Prim.Native.Nat.{ℕ, zero, suc, _≤_, _<_}
-use native.Mathlib.Nat.{le-of-suc-le-suc, not-suc-le-zero, lt-of-not-le}
+use Prim.Native.Nat.{suc, _≤_, _<_}
+use native.Mathlib.Nat.{not-suc-le-zero, lt-of-not-le}
 use native.Mathlib.Omega.{arith}
 use lib.ListN.{length}
 use Rattle.polynomial.specs.Lists.{All}
-use Rattle.field.specs.Field.{Field2, ring, add-zero, add-self, mul-comm, mul-one, mul-add, mul-zero, add-eq-zero, mul-eq-zero}
+use Rattle.field.specs.Field.{Field2, ring, add-zero, mul-comm, add-eq-zero, mul-eq-zero}
 
 module _ (F : Field2) where
   open Field2 F using (K, 𝟘, 𝟙, _⊕_, _⊗_)

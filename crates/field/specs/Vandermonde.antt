@@ -1,15 +1,15 @@
 -- Vandermonde: weights at distinct nodes whose power sums vanish, as many as there are nodes, vanish.
 --   sum F l j       the j-th power sum of the pairs (node, weight): Σ weight × node^j
 --   Distinct F l    no node stands twice
-use mathlib.Core.Path.{_≡_, refl, sym, ap, ap₂, _∙_}
+use mathlib.Core.Path.{_≡_, refl, sym, _∙_}
 use mathlib.Core.Logic.{_≢_}
 use mathlib.Core.List.{List, [], _∷_, map}
 use Prim.Native.Nat.{ℕ, zero, suc, _<_, suc-le-suc, zero-le}
-use native.Mathlib.Nat.{le-of-suc-le-suc, suc-inj, suc-ne-zero}
+use native.Mathlib.Nat.{suc-inj, suc-ne-zero}
 use native.Mathlib.Omega.{arith}
 use lib.ListN.{length, length-map}
 use Rattle.polynomial.specs.Lists.{All}
-use Rattle.field.specs.Field.{Field2, ring, add-zero, add-self, mul-comm, mul-one, mul-add, mul-zero, add-eq-zero, mul-eq-zero, pow, pow-zero, pow-suc}
+use Rattle.field.specs.Field.{Field2, ring, add-eq-zero, mul-eq-zero, pow, pow-zero, pow-suc}
 
 module _ (F : Field2) where
   open Field2 F using (K, 𝟘, 𝟙, _⊕_, _⊗_)

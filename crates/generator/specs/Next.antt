@@ -1,12 +1,12 @@
 -- The next generator: one more factor where 2t + 1 leads its coset. By it the degree is at most q t, and a program works the generators out.
-use mathlib.Core.Path.{_≡_, refl, sym, ap, _∙_}
+use mathlib.Core.Path.{_≡_, refl, sym, _∙_}
 use mathlib.Core.Bool.{Bool, true, false}
 use mathlib.Core.List.{List, _++_}
 use Prim.Native.Nat.{ℕ, zero, suc, _+_, _*_, _%_, _^_, _≤_, _<_, zero-le, suc-le-suc}
 use native.Mathlib.Omega.{arith}
 use lib.ListN.{length, length-append}
 use Rattle.polynomial.specs.Clmul.{clmul}
-use Rattle.polynomial.specs.Division.{Deg, deg-mul, deg-unique}
+use Rattle.polynomial.specs.Division.{deg-mul, deg-unique}
 use Rattle.field.specs.Fields.{BinaryField}
 use Rattle.field.specs.Powers.{n-pos}
 use Rattle.generator.specs.Exponents.{row, values, coset, coset-ind, exponents, exponents-mem, exponents-mono, Orbit, orbit-coset, orbit-exponents, orbit-join, row-mem, length-row}

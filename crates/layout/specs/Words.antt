@@ -1,18 +1,18 @@
 -- Sub-words as parts of a page, and the numbers they are.
 --   partOf x i k    the k bytes from i × k on, as the program takes them
-use mathlib.Core.Path.{_≡_, refl, sym, ap, _∙_}
+use mathlib.Core.Path.{_≡_, sym, ap, _∙_}
 use mathlib.Core.List.{List}
-use Prim.Native.Nat.{ℕ, zero, suc, _+_, _-_, _*_, _^_, _≤_, _<_}
+use Prim.Native.Nat.{ℕ, _+_, _-_, _*_, _^_, _≤_, _<_}
 use native.Mathlib.Nat as Nat
 use native.Mathlib.Omega.{arith}
 use lib.Dec.{T}
 use lib.ListN.{length, getD, take, drop}
 use Rattle.polynomial.specs.Digits.{value}
-use Rattle.polynomial.specs.Lists.{All, all-at, at-all}
+use Rattle.polynomial.specs.Lists.{all-at, at-all}
 use Rattle.code.specs.declared.Parameters.{Parameters}
 use Rattle.code.specs.Accepted.{accepted}
 use Rattle.code.specs.Layout.{IsPage, pageBytes, pageClear, wordsOf}
-use Rattle.code.specs.Pages.{IsWords, page-words}
+use Rattle.code.specs.Pages.{page-words}
 use Rattle.code.specs.Parameters.{Accepted, len, stored, subWordBytes}
 use Rattle.layout.specs.Parts.{word-at, word-room}
 use Rattle.layout.specs.Sizes.{page-high}

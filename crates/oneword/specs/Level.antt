@@ -1,5 +1,5 @@
 -- Remainders and syndromes by a level's generator.
-use mathlib.Core.Path.{_≡_, refl, sym, ap, ap₂, _∙_}
+use mathlib.Core.Path.{_≡_, sym, ap, ap₂, _∙_}
 use mathlib.Core.List.{List, map}
 use Prim.Native.Nat.{ℕ, suc, _-_, _*_, _^_, _≤_, _<_, zero-le, suc-le-suc}
 use native.Mathlib.Nat as Nat
@@ -10,8 +10,8 @@ use Rattle.polynomial.specs.Digits.{value}
 use Rattle.polynomial.specs.Division.{Deg, rem-lt}
 use Rattle.field.specs.Elements.{syndrome, syndrome-num}
 use Rattle.field.specs.Eval.{eval, eval-rem}
-use Rattle.field.specs.Field.{Field2, pow}
-use Rattle.field.specs.Fields.{BinaryField, fieldOf}
+use Rattle.field.specs.Field.{pow}
+use Rattle.field.specs.Fields.{fieldOf}
 use Rattle.generator.specs.Generator.{generator-roots}
 use Rattle.words.specs.Row.{D}
 use Rattle.code.specs.declared.Parameters.{Parameters}

@@ -1,12 +1,11 @@
 -- The quotient of two rows, a coefficient a step. f is divided by g, of degree w; A and G are f and g moved up to degree 768, D.
 --   Stepped G q r q′ r′     one step takes the quotient q and the rest r to q′ and r′: r′ is the rest of r · x
 --   Dividing G A j q r      after j steps q and r are quotient and rest of A · x^j
-use mathlib.Core.Path.{_≡_, refl, sym, ap, ap₂, _∙_}
+use mathlib.Core.Path.{_≡_, refl, sym, ap, _∙_}
 use mathlib.Core.Logic.{_⊎_, inl, inr}
 use mathlib.Core.List.{List}
-use Prim.Native.Nat.{ℕ, zero, suc, _+_, _-_, _*_, _/_, _^_, _≤_, _<_}
+use Prim.Native.Nat.{ℕ, zero, _+_, _-_, _*_, _/_, _^_, _≤_, _<_}
 use native.Mathlib.Nat as Nat
-use native.Mathlib.Numerals.{add-one}
 use native.Mathlib.Omega.{arith}
 use lib.ListN.{length, getD}
 use lib.Pow.{pow-add, pow-mono, pow-pos}
@@ -14,7 +13,7 @@ use Rattle.polynomial.specs.Clmul.{clmul, clmul-dbl-l, clmul-one-l, clmul-pow, 
 use Rattle.polynomial.specs.Digits.{value}
 use Rattle.polynomial.specs.Division.{Deg, deg, deg-is, deg-mul, lt-of-shr, quot, quot-is, rem, rem-lt, unique, xor-shr}
 use Rattle.polynomial.specs.Multiple.{deg-pos}
-use Rattle.polynomial.specs.Xor.{xor, xors, xor-dbl, xor-eq-zero, xor-half, xor-inj, xor-self, xor-zero-r, dbl-half}
+use Rattle.polynomial.specs.Xor.{xor, xors, xor-dbl, xor-eq-zero, xor-half, xor-self, xor-zero-r, dbl-half}
 use Rattle.words.specs.Build.{times-high, times-low}
 use Rattle.words.specs.Remainder.{deg-up}
 use Rattle.words.specs.Row.{D, D-is}

@@ -1,6 +1,6 @@
 -- The blocks of a page, taken one by one.
 --   Taken p x i b    the first i blocks of b are those of the page x
-use mathlib.Core.Path.{_≡_, refl, sym, ap, ap₂, _∙_}
+use mathlib.Core.Path.{_≡_, sym, ap, ap₂, _∙_}
 use mathlib.Core.Logic.{_⊎_, inl, inr}
 use mathlib.Core.List.{List}
 use Prim.Native.Nat.{ℕ, zero, suc, _+_, _-_, _*_, _/_, _%_, _^_, _≤_, _<_, zero-le}
@@ -9,10 +9,10 @@ use native.Mathlib.Omega.{arith}
 use lib.ListN.{length, getD, take, drop}
 use lib.Pow.{pow-mono, shr-lt}
 use Rattle.polynomial.specs.Digits.{value, digits, digits-value, length-digits}
-use Rattle.polynomial.specs.Lists.{All, all-at, at-all}
+use Rattle.polynomial.specs.Lists.{at-all}
 use Rattle.code.specs.declared.Parameters.{Parameters}
-use Rattle.code.specs.Accepted.{Rules, accepted}
-use Rattle.code.specs.Code.{checkBits, dataFrom, dataWords}
+use Rattle.code.specs.Accepted.{accepted}
+use Rattle.code.specs.Code.{checkBits, dataWords}
 use Rattle.code.specs.Layout.{IsPage, dataBits, dataBytes, dataOf, blockOffset, wordsOf}
 use Rattle.code.specs.Pages.{dataOf-eq, length-data, page-words, whole}
 use Rattle.code.specs.Parameters.{Accepted, len, stored}

@@ -1,13 +1,13 @@
 -- The product of polynomials over GF(2): the carry-less product of numbers.
 --   clmul a b    the product, by the bits of a
 --   polys        the laws of the ring as a set: `simp polys` decides its equations
-use mathlib.Core.Path.{_≡_, refl, sym, ap, ap₂, _∙_}
-use Prim.Native.Nat.{ℕ, zero, suc, _+_, _-_, _*_, _/_, _%_, _^_, _≤_, _<_}
-use native.Mathlib.Nat.{le-refl, not-suc-le-zero, zero-mul, one-mul, mul-zero, mul-one, mul-assoc, zero-div, zero-mod, pow-suc, mod-lt, add-mod, add-comm, div-add-mod'}
+use mathlib.Core.Path.{_≡_, refl, sym, ap, _∙_}
+use Prim.Native.Nat.{ℕ, zero, suc, _+_, _-_, _*_, _/_, _%_, _^_}
+use native.Mathlib.Nat.{zero-mul, one-mul, mul-zero, mul-one, mul-assoc, pow-suc, add-mod, add-comm, div-add-mod'}
 use native.Mathlib.Omega.{arith}
 use lib.Arith.{bin-ind}
 use Rattle.polynomial.specs.Bits.{fold, fold-step}
-use Rattle.polynomial.specs.Xor.{xor, xors, halves, bit-ind, odd-ind, dbl-half, dbl-odd, xor-odd, xor-half, xor-dbl, xor-zero-l, xor-zero-r, xor-self, xor-comm, xor-assoc, xor-left-comm, xor-cancel}
+use Rattle.polynomial.specs.Xor.{xor, xors, halves, odd-ind, dbl-half, dbl-odd, xor-odd, xor-half, xor-dbl}
 
 -- one bit of the first factor, `a`'s lowest, over the product `r` with the others
 mul-step : ℕ → ℕ → ℕ → ℕ

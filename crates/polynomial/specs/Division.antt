@@ -5,16 +5,16 @@
 --   quot g k f    the quotient
 --   2 ^ n + 1     the polynomial x^n + 1
 use mathlib.Core.Path.{_≡_, refl, sym, ap, ap₂, _∙_}
-use mathlib.Core.Logic.{_≢_, _⊎_, inl, inr, _↔_}
+use mathlib.Core.Logic.{_⊎_, inl, inr, _↔_}
 use Prim.Native.Nat.{ℕ, zero, suc, _+_, _-_, _*_, _/_, _%_, _^_, _≤_, _<_, zero-le, suc-le-suc}
-use native.Mathlib.Nat.{le-refl, lt-of-lt-of-le, lt-of-le-of-lt, pow-succ', not-suc-le-zero, zero-mul, one-mul, zero-div, div-one, pow-suc, mod-lt, div-eq-of-lt, eq-zero-or-pos, add-suc, zero-add, suc-add, div-lt-iff-lt-mul, mul-div-mul-right, div-div-eq-div-mul, mul-comm, lt-irrefl, le-add-left, pos-of-ne-zero, le-trans, le-of-eq, le-antisymm, le-of-suc-le-suc, lt-of-not-le, not-le-of-lt, le-div-iff-mul-le}
+use native.Mathlib.Nat.{le-refl, lt-of-lt-of-le, lt-of-le-of-lt, pow-succ', not-suc-le-zero, zero-mul, one-mul, zero-div, div-one, pow-suc, div-eq-of-lt, eq-zero-or-pos, zero-add, suc-add, div-lt-iff-lt-mul, mul-div-mul-right, div-div-eq-div-mul, mul-comm, le-add-left, le-trans, le-of-eq, le-antisymm, le-of-suc-le-suc, lt-of-not-le, not-le-of-lt, le-div-iff-mul-le}
 use native.Mathlib.Omega.{arith}
-use lib.Arith.{bin-ind, lt-one}
+use lib.Arith.{bin-ind}
 use lib.Pow.{pow-pos, pow-mono, pow-lt, high}
 use lib.Bits as B
 use Rattle.polynomial.specs.Bits.{fold, fold-step}
-use Rattle.polynomial.specs.Clmul.{clmul, polys, clmul-step, clmul-xor-l, clmul-xor-r, clmul-zero-l, clmul-zero-r, clmul-one-l, clmul-one-r, clmul-dbl-l, clmul-comm, clmul-assoc, clmul-left-comm, split-bit, bit-join}
-use Rattle.polynomial.specs.Xor.{xor, xor-is, xors, halves, bit-ind, odd-ind, dbl-half, dbl-odd, xor-odd, xor-half, xor-dbl, xor-zero-l, xor-zero-r, xor-self, xor-comm, xor-assoc, xor-left-comm, xor-cancel, xor-eq-zero}
+use Rattle.polynomial.specs.Clmul.{clmul, polys, clmul-step, clmul-xor-l, clmul-xor-r, clmul-zero-l, clmul-one-l, clmul-dbl-l, clmul-comm, clmul-assoc, split-bit, bit-join}
+use Rattle.polynomial.specs.Xor.{xor, xor-is, xors, bit-ind, odd-ind, xor-dbl, xor-zero-l, xor-zero-r, xor-self, xor-comm, xor-eq-zero}
 
 pub xor-lt : (k a b : ℕ) → a < 2 ^ k → b < 2 ^ k → xor a b < 2 ^ k
 unfolding xor

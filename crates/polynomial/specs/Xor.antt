@@ -1,12 +1,12 @@
 -- The sum of polynomials over GF(2).
 --   xor a b    the sum; the library's bitXor, shut: it computes at numerals under `unfolding xor`, elsewhere a proof sees the laws below
 --   xors       the laws as a set: `simp xors` brings sums to one form
-use mathlib.Core.Path.{_≡_, refl, sym, ap, ap₂, _∙_}
-use Prim.Native.Nat.{ℕ, zero, suc, _+_, _-_, _*_, _/_, _%_, _^_, _≤_, _<_}
-use native.Mathlib.Nat.{div-add-mod', mod-lt, le-refl, not-suc-le-zero, le-of-suc-le-suc, mod-add-mod, add-mod-mod, add-assoc, mul-div-cancel}
+use mathlib.Core.Path.{_≡_, refl, sym, ap, _∙_}
+use Prim.Native.Nat.{ℕ, zero, suc, _+_, _-_, _*_, _/_, _%_, _<_}
+use native.Mathlib.Nat.{div-add-mod', not-suc-le-zero, le-of-suc-le-suc, mod-add-mod, add-mod-mod, add-assoc}
 use native.Mathlib.Omega.{arith}
 use lib.Bits as B
-use lib.Bits.{bitXor, bitAnd, xor-add-and, xor-shr}
+use lib.Bits.{bitXor, xor-add-and, xor-shr}
 use lib.Arith.{bin-ind}
 
 unfoldable pub xor : ℕ → ℕ → ℕ

@@ -3,7 +3,7 @@
 --   anyFrom P i k         some of i, i + 1, .., k of them, pass the test P
 --   Searching P last j    a search of 1 to last for one that passes P has come to j
 use mathlib.Core.Path.{_≡_, refl, sym, ap, _∙_}
-use mathlib.Core.Bool.{Bool, true, false, _||_}
+use mathlib.Core.Bool.{Bool, true, false}
 use Prim.Native.Nat.{ℕ, zero, suc, _+_, _-_, _*_, _%_, _≤_, _<_}
 use native.Mathlib.Nat as Nat
 use native.Mathlib.Omega.{arith}

@@ -1,12 +1,12 @@
 -- The nesting coefficients as 64-bit numbers, for i and l up to 7.
-use mathlib.Core.Path.{_≡_, refl, sym, ap, ap₂, _∙_}
+use mathlib.Core.Path.{_≡_, refl, sym, _∙_}
 use Prim.Native.Nat.{ℕ, zero, suc, _+_, _-_, _*_, _%_, _^_, _≤_, _<_}
 use native.Mathlib.Nat as Nat
 use native.Mathlib.Omega.{arith}
 use lib.Bits.{bitXor}
 use lib.Pow.{pow-mono, shl-lt, shl-exact}
 use Rattle.polynomial.specs.Division.{xor-lt}
-use Rattle.polynomial.specs.Xor.{xor, xor-is}
+use Rattle.polynomial.specs.Xor.{xor-is}
 use borrow.Author.Tests.{lt-ltb, le-ltb}
 use Rattle.code.specs.declared.Nesting.{Nesting}
 use Rattle.code.specs.Calls.{nesting, nestingBy}

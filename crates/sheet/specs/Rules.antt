@@ -1,10 +1,10 @@
 -- The rules on the parameters, test by test: what a program's tests show of each definition.
 use mathlib.Core.Path.{_≡_, refl, sym, ap, _∙_}
 use mathlib.Core.Bool.{Bool, true, false, not, _&&_, _||_, cond}
-use Prim.Native.Nat.{ℕ, zero, suc, _+_, _-_, _*_, _^_, _≤_, _<_}
+use Prim.Native.Nat.{ℕ, zero, suc, _-_, _*_, _^_, _≤_, _<_}
 use native.Mathlib.Omega.{arith}
-use lib.Dec.{T, eqb, leb, ltb, leb→le, ltb→lt, eqb→eq}
-use borrow.Author.Tests.{lt-ltb, le-ltb, le-leb, lt-leb, eq-eqb, ne-eqb, eqb-true}
+use lib.Dec.{T, eqb, leb, ltb, leb→le, ltb→lt}
+use borrow.Author.Tests.{lt-ltb, le-ltb, le-leb, lt-leb, eqb-true}
 use Rattle.field.specs.Irreducible.{both}
 use Rattle.code.specs.declared.Parameters.{Parameters}
 use Rattle.code.specs.declared.Tested.{Tested}
@@ -13,7 +13,7 @@ use Rattle.code.specs.Parameters.{len, strength, fieldKnown, shapeFits, placeFi
 use Rattle.code.specs.Refused.{sheet-le}
 use Rattle.tables.specs.declared.Chosen.{Chosen}
 use Rattle.tables.specs.declared.Entry.{Entry}
-use Rattle.tables.specs.Choice.{known, entry, refusal, chosen, chosenBy, ChosenFor}
+use Rattle.tables.specs.Choice.{known, entry, chosen, chosenBy, ChosenFor}
 
 module _ (p : Parameters) where
   -- ---- the shape

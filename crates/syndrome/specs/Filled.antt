@@ -1,17 +1,17 @@
 -- A list of syndromes, filled from S_1 on: those of even number are squares of earlier ones.
 --   Begun q c k l    the first k places of l hold S_1 to S_k of c
-use mathlib.Core.Path.{_≡_, refl, sym, ap, ap₂, _∙_}
+use mathlib.Core.Path.{_≡_, sym, ap, ap₂, _∙_}
 use mathlib.Core.Logic.{_⊎_, inl, inr}
 use mathlib.Core.List.{List, map}
-use Prim.Native.Nat.{ℕ, zero, suc, _+_, _-_, _*_, _/_, _%_, _^_, _≤_, _<_}
+use Prim.Native.Nat.{ℕ, _+_, _-_, _/_, _%_, _^_, _<_}
 use native.Mathlib.Nat as Nat
 use native.Mathlib.Omega.{arith}
-use lib.ListN.{length, getD, set, length-map, length-set}
+use lib.ListN.{length, getD, set, length-map}
 use lib.Seq.{ext-getD, getD-set-same, getD-set-other}
 use Rattle.field.specs.Elements.{times, times-num, syndrome, syndrome-num, syndrome-lt}
 use Rattle.field.specs.Eval.{eval, eval-sq}
 use Rattle.field.specs.Field.{pow, pow-add}
-use Rattle.field.specs.Fields.{BinaryField, Known, fieldOf}
+use Rattle.field.specs.Fields.{Known, fieldOf}
 use Rattle.element.specs.Lent.{size-most}
 use Rattle.code.specs.Lists.{range}
 use Rattle.code.specs.Pages.{length-range}

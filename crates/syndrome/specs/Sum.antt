@@ -1,14 +1,14 @@
 -- One syndrome, coefficient by coefficient: c_k α^(j k), the exponent carried along modulo n.
 --   partSum q c j k    Σ c_i α^(j i), i below k
 --   Summing q c j k e x    after k coefficients: the next exponent is e, the sum x
-use mathlib.Core.Path.{_≡_, refl, sym, ap, ap₂, _∙_}
+use mathlib.Core.Path.{_≡_, sym, ap, ap₂, _∙_}
 use mathlib.Core.List.{List}
-use Prim.Native.Nat.{ℕ, zero, suc, _+_, _-_, _*_, _/_, _%_, _^_, _≤_, _<_}
+use Prim.Native.Nat.{ℕ, zero, suc, _+_, _-_, _*_, _/_, _%_, _^_, _<_}
 use native.Mathlib.Nat as Nat
 use native.Mathlib.Numerals.{add-one}
 use native.Mathlib.Omega.{arith}
 use lib.Bits.{bitXor}
-use lib.ListN.{getD, take}
+use lib.ListN.{getD}
 use lib.Pow.{pow-pos}
 use lib.Seq.{getD-take}
 use Rattle.polynomial.specs.Bits.{coefficient}
@@ -17,7 +17,6 @@ use Rattle.polynomial.specs.Lists.{at-all}
 use Rattle.polynomial.specs.Xor.{xor, xor-is}
 use Rattle.field.specs.Elements.{power, sumBelow, sumBelow-zero, sumBelow-suc, syndrome, syndrome-sum}
 use Rattle.field.specs.Fields.{Known}
-use Rattle.tables.specs.Tables.{Powers}
 use Rattle.element.specs.Exponents.{power-mod}
 use Rattle.element.specs.Lent.{Tables, size-least}
 

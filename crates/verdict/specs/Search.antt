@@ -2,7 +2,7 @@
 --   firstFrom P i k o     the first of i, i + 1, .., k of them, that passes the test P, or o
 --   Seeking P o i         a search of 0 to o - 1 has come to i
 use mathlib.Core.Path.{_≡_, refl, sym, ap, _∙_}
-use mathlib.Core.Bool.{Bool, true, false, cond}
+use mathlib.Core.Bool.{Bool, true, false}
 use Prim.Native.Nat.{ℕ, zero, suc, _+_, _-_, _≤_, _<_}
 use native.Mathlib.Nat as Nat
 use native.Mathlib.Omega.{arith}

@@ -1,24 +1,17 @@
 -- The words of a page as the program meets them, and judge's two searches over them.
 use mathlib.Core.Path.{_≡_, refl, sym, ap, _∙_}
-use mathlib.Core.Bool.{Bool, true, false, not}
+use mathlib.Core.Bool.{Bool, not}
 use mathlib.Core.List.{List}
-use Prim.Native.Nat.{ℕ, zero, suc, _+_, _-_, _*_, _%_, _^_, _≤_, _<_, zero-le}
+use Prim.Native.Nat.{ℕ, _-_, _%_, _^_, _≤_, _<_}
 use native.Mathlib.Nat as Nat
 use native.Mathlib.Omega.{arith}
-use lib.Dec.{T, eqb}
-use lib.ListN.{length, getD, take, drop}
-use Rattle.polynomial.specs.Digits.{value}
-use Rattle.polynomial.specs.Lists.{All, all-at, at-all}
+use lib.Dec.{eqb}
+use lib.ListN.{getD, take}
 use Rattle.words.specs.Table.{RemainderBy}
 use Rattle.code.specs.declared.Parameters.{Parameters}
-use Rattle.code.specs.Accepted.{accepted}
-use Rattle.code.specs.Code.{gen, degree, remainder, nested, failing, failingNested}
-use Rattle.code.specs.Layout.{Bytes, IsPage, pageBytes, pageClear, wordsOf}
-use Rattle.code.specs.Pages.{IsWords, page-words}
-use Rattle.code.specs.Parameters.{Accepted, len, stored, subWordBytes}
-use Rattle.layout.specs.Parts.{word-at, word-room}
-use Rattle.layout.specs.Sizes.{page-high}
-use Rattle.level.specs.Ready.{Prepared, table-remainder, degree-most}
+use Rattle.code.specs.Code.{degree, remainder, nested, failing, failingNested}
+use Rattle.code.specs.Parameters.{Accepted, stored}
+use Rattle.level.specs.Ready.{Prepared, table-remainder}
 use Rattle.verdict.specs.Search.{firstFrom}
 
 -- the tests of judge

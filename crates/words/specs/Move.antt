@@ -2,14 +2,14 @@
 --   Shifted r₀ r l c i    i words of r₀ are moved up by l, which makes r, and c is carried on
 use mathlib.Core.Path.{_≡_, refl, sym, ap, ap₂, _∙_}
 use mathlib.Core.List.{List}
-use Prim.Native.Nat.{ℕ, suc, _+_, _-_, _*_, _/_, _%_, _^_, _≤_, _<_}
+use Prim.Native.Nat.{ℕ, _+_, _-_, _*_, _/_, _%_, _^_, _≤_, _<_}
 use native.Mathlib.Nat.{mul-assoc, mul-comm, add-mul, add-comm, lt-of-lt-of-le, lt-of-le-of-lt, mod-eq-of-lt, div-one}
 use native.Mathlib.Nat as Nat
 use native.Mathlib.Omega.{arith}
 use lib.ListN.{length, getD, take, drop, set}
 use lib.Pow.{pow-pos, pow-add, pow-mono, shl-lt, shr-shr, shr-le}
 use Rattle.polynomial.specs.Digits.{value, value-at}
-use Rattle.polynomial.specs.Division.{Deg, lt-of-deg}
+use Rattle.polynomial.specs.Division.{Deg}
 use Rattle.words.specs.Remainder.{deg-up}
 use Rattle.words.specs.Row.{D, pow-D, set-top, by-top, D-is}
 use Rattle.words.specs.Shift.{up-up}

@@ -3,8 +3,8 @@ use mathlib.Core.Path.{_≡_, refl, sym, ap, _∙_}
 use native.Mathlib.Nat as Nat
 use native.Mathlib.Omega.{arith}
 use Prim.Native.Nat.{ℕ, _+_, _-_, _*_, _/_, _^_, _≤_, _<_}
-use lib.ListN.{length, getD, take, drop}
-use Rattle.polynomial.specs.Digits.{digits, length-digits, value}
+use lib.ListN.{length, take, drop}
+use Rattle.polynomial.specs.Digits.{length-digits, value}
 use Rattle.code.specs.Code.{level}
 use Rattle.code.specs.Layout.{dataBits}
 use Rattle.code.specs.Parameters.{subWordBytes}

@@ -1,7 +1,7 @@
 use borrow.Author.Needs.{needs}
-use mathlib.Core.Path.{_≡_, sym, _∙_}
+use mathlib.Core.Path.{sym, _∙_}
 use native.Mathlib.Omega.{arith}
-use Rattle.level.specs.Ready.{RowOf, row-at, row-deg, level-lt, gen-pos, degree-most}
+use Rattle.level.specs.Ready.{row-at, row-deg, level-lt, gen-pos, degree-most}
 use Rattle.level.proofs.degree_at.Statement.{statement}
 use Rattle.level.proofs.degree_at.Tie as tie
 

@@ -1,8 +1,6 @@
 use borrow.Author.Needs.{needs}
-use mathlib.Core.Path.{_≡_, sym, ap, _∙_}
-use native.Mathlib.Omega.{arith}
-use Prim.Native.Nat.{ℕ, _+_, _^_, _<_}
-use Rattle.level.specs.Ready.{RowOf, row-at, row-lt, level-lt, degree-most, prepared, aligned-deg}
+use mathlib.Core.Path.{sym}
+use Rattle.level.specs.Ready.{row-at, row-lt, level-lt, degree-most, prepared, aligned-deg}
 use Rattle.level.proofs.prepare.Statement.{statement}
 use Rattle.level.proofs.prepare.Tie as tie
 

@@ -1,5 +1,5 @@
 use borrow.Author.Needs.{needs}
-use mathlib.Core.Path.{_≡_, sym, _∙_}
+use mathlib.Core.Path.{sym, _∙_}
 use lib.ListN.{length}
 use Rattle.oneword.specs.Chain.{Unrefused, word-zero, word-refused, word-done}
 use Rattle.oneword.specs.Word.{short-made}

@@ -1,5 +1,5 @@
 use borrow.Author.Needs.{needs}
-use mathlib.Core.Path.{_≡_, sym, _∙_}
+use mathlib.Core.Path.{sym, _∙_}
 use Rattle.refusal.specs.Judging.{sheet-zero, page-exact, page-clear}
 use Rattle.page.specs.Answers.{judged-refused, judged-done}
 use Rattle.page.proofs.judge.Statement.{statement}

@@ -1,5 +1,5 @@
 use borrow.Author.Needs.{needs}
-use mathlib.Core.Path.{_≡_, sym}
+use mathlib.Core.Path.{sym}
 use Rattle.code.specs.Answers.{sheet-pos}
 use Rattle.page.specs.Answers.{read-refused}
 use Rattle.page.specs.Reading.{read-sheet}

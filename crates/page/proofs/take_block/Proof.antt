@@ -1,11 +1,10 @@
 use borrow.Author.Needs.{needs}
-use mathlib.Core.Path.{_≡_, sym, ap, _∙_}
+use mathlib.Core.Path.{_≡_, sym, _∙_}
 use native.Mathlib.Nat as Nat
 use native.Mathlib.Omega.{arith}
-use Prim.Native.Nat.{ℕ, _+_, _-_, _*_, _/_, _^_, _≤_}
+use Prim.Native.Nat.{_+_, _-_, _*_, _/_, _^_, _≤_}
 use lib.ListN.{length, getD, take, drop}
-use Rattle.polynomial.specs.Digits.{digits, length-digits}
-use Rattle.code.specs.Code.{checkBits}
+use Rattle.polynomial.specs.Digits.{length-digits}
 use Rattle.code.specs.Layout.{wordsOf}
 use Rattle.layout.specs.Parts.{block-room, bytes-high}
 use Rattle.layout.specs.Sizes.{check-below, stored-high, data-high}

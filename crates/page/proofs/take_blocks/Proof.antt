@@ -1,7 +1,7 @@
 use borrow.Author.Needs.{needs}
-use mathlib.Core.Path.{_≡_, refl, sym, ap, _∙_}
+use mathlib.Core.Path.{refl, sym, _∙_}
 use native.Mathlib.Omega.{arith}
-use Prim.Native.Nat.{ℕ, _-_, _/_, _^_}
+use Prim.Native.Nat.{_-_, _/_, _^_}
 use lib.ListN.{getD}
 use Rattle.polynomial.specs.Digits.{digits}
 use Rattle.code.specs.Code.{checkBits}

@@ -1,5 +1,5 @@
 use borrow.Author.Needs.{needs}
-use mathlib.Core.Path.{_≡_, sym}
+use mathlib.Core.Path.{sym}
 use Rattle.page.specs.Writing.{write-sheet}
 use Rattle.page.proofs.write.Statement.{statement}
 use Rattle.page.proofs.write.Tie as tie

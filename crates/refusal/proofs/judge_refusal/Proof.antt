@@ -1,5 +1,5 @@
 use borrow.Author.Needs.{needs}
-use mathlib.Core.Path.{_≡_, sym}
+use mathlib.Core.Path.{sym}
 use Rattle.refusal.specs.Judging.{judge-sheet}
 use Rattle.refusal.proofs.judge_refusal.Statement.{statement}
 use Rattle.refusal.proofs.judge_refusal.Tie as tie

@@ -1,5 +1,5 @@
 use borrow.Author.Needs.{needs}
-use mathlib.Core.Path.{_≡_, sym, _∙_}
+use mathlib.Core.Path.{sym, _∙_}
 use Rattle.refusal.specs.Judging.{judge-length, judge-clear, judge-stray, length-exact}
 use Rattle.refusal.proofs.page_refusal.Statement.{statement}
 use Rattle.refusal.proofs.page_refusal.Tie as tie

@@ -1,7 +1,6 @@
 use borrow.Author.Needs.{needs}
 use borrow.Author.Tests.{eq-eqb, ne-eqb}
 use mathlib.Core.Path.{_≡_, sym, _∙_}
-use native.Mathlib.Omega.{arith}
 use Prim.Native.Nat.{_+_, _-_, _*_, _%_, _<_}
 use Rattle.sheet.specs.Clashes.{hits, Searching, search-start, search-found, search-next, search-done, first-multiple, next-multiple}
 use Rattle.sheet.proofs.clash_at.Statement.{statement}

@@ -1,9 +1,9 @@
 use borrow.Author.Needs.{needs}
 use borrow.Author.Tests.{not-true, not-false}
-use mathlib.Core.Path.{_≡_, sym, ap, _∙_}
+use mathlib.Core.Path.{sym, ap, _∙_}
 use native.Mathlib.Omega.{arith}
 use Rattle.tables.specs.declared.Entry.{Entry}
-use Rattle.sheet.specs.Rules.{ShapeFacts, shape-facts, strength-high, FieldFacts, field-facts, field-unknown, test-field, test-shape, test-strengths, test-clash, test-accepted}
+use Rattle.sheet.specs.Rules.{shape-facts, strength-high, field-facts, field-unknown, test-field, test-shape, test-strengths, test-clash, test-accepted}
 use Rattle.sheet.proofs.test.Statement.{statement}
 use Rattle.sheet.proofs.test.Tie as tie
 

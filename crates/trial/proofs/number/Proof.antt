@@ -1,6 +1,5 @@
 use mir.Facts.{fits-widen}
 use borrow.Author.Needs.{needs}
-use native.Mathlib.Omega.{arith}
 use Prim.Native.Nat.{_-_, _≤_}
 use lib.ListN.{length}
 use Rattle.trial.proofs.number.Statement.{statement}

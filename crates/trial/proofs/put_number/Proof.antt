@@ -1,7 +1,5 @@
 use borrow.Author.Needs.{needs}
-use native.Mathlib.Omega.{arith}
 use Prim.Native.Nat.{_-_, _≤_}
-use lib.ListN.{length}
 use Rattle.trial.proofs.put_number.Statement.{statement}
 use Rattle.trial.proofs.put_number.Tie as tie
 

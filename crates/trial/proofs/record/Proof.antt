@@ -1,7 +1,6 @@
 use borrow.Author.Needs.{needs}
-use Prim.Native.Nat.{ℕ, _≤_}
-use mathlib.Core.Path.{_≡_, sym, ap, _∙_}
-use lib.ListN.{length, take, length-take}
+use mathlib.Core.Path.{sym, _∙_}
+use lib.ListN.{length-take}
 use native.Mathlib.Nat as Nat
 use Rattle.trial.proofs.record.Statement.{statement}
 use Rattle.trial.proofs.record.Tie as tie

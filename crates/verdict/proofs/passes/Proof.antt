@@ -1,9 +1,8 @@
 use borrow.Author.Needs.{needs}
-use mathlib.Core.Path.{_≡_, ap, _∙_}
+use mathlib.Core.Path.{ap, _∙_}
 use native.Mathlib.Omega.{arith}
-use Prim.Native.Nat.{ℕ, _-_, _%_, _^_}
+use Prim.Native.Nat.{_-_}
 use Rattle.polynomial.specs.Digits.{value}
-use Rattle.words.specs.Table.{RemainderBy}
 use Rattle.layout.specs.Sizes.{stored-high}
 use Rattle.level.specs.Ready.{degree-low, degree-most, prepared-up}
 use Rattle.verdict.specs.Words.{passes-is}

@@ -1,12 +1,11 @@
 use borrow.Author.Needs.{needs}
-use mathlib.Core.Path.{_≡_, sym, ap, _∙_}
+use mathlib.Core.Path.{sym, ap, _∙_}
 use native.Mathlib.Nat as Nat
 use native.Mathlib.Omega.{arith}
 use Prim.Native.Nat.{ℕ, _+_, _≤_}
-use lib.ListN.{length, length-take}
+use lib.ListN.{length-take}
 use Rattle.code.specs.Judge.{answer-sub, answer-nested, answer-member}
 use Rattle.code.specs.Layout.{wordsOf}
-use Rattle.code.specs.Parameters.{subWordBytes}
 use Rattle.layout.specs.Sizes.{word-high}
 use Rattle.verdict.proofs.verdict_of.Statement.{statement}
 use Rattle.verdict.proofs.verdict_of.Tie as tie

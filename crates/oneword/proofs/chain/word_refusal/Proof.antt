@@ -1,5 +1,5 @@
 use borrow.Author.Needs.{needs}
-use mathlib.Core.Path.{_≡_, sym, _∙_}
+use mathlib.Core.Path.{sym, _∙_}
 use Rattle.oneword.specs.Chain.{word-page, word-index, word-length, word-none}
 use Rattle.oneword.proofs.chain.word_refusal.Statement.{statement}
 use Rattle.oneword.proofs.chain.word_refusal.Tie as tie

@@ -1,6 +1,6 @@
 -- The 13th word says whether g is to be taken away.
 use borrow.Author.Needs.{needs}
-use mathlib.Core.Path.{_≡_, _∙_}
+use mathlib.Core.Path.{_∙_}
 use native.Mathlib.Omega.{arith}
 use Rattle.words.specs.Row.{top-zero}
 use Rattle.oneword.specs.Quotient.{step-low, step-high}

@@ -1,5 +1,4 @@
 use borrow.Author.Needs.{needs}
-use mathlib.Core.Path.{_≡_}
 use native.Mathlib.Omega.{arith}
 use Rattle.oneword.specs.Row.{row-lt, unit-remainder, aligned-deg, row-up, row-remainder}
 use Rattle.oneword.proofs.divide.remainder_by.Statement.{statement}

@@ -1,5 +1,5 @@
 use borrow.Author.Needs.{needs}
-use mathlib.Core.Path.{_≡_, sym}
+use mathlib.Core.Path.{sym}
 use mathlib.Core.List.{[]}
 use Prim.Native.Nat.{zero-le, _≤_}
 use lib.ListN.{getD}

@@ -1,5 +1,5 @@
 use borrow.Author.Needs.{needs}
-use mathlib.Core.Path.{_≡_, ap, _∙_}
+use mathlib.Core.Path.{ap, _∙_}
 use Rattle.polynomial.specs.Digits.{digits}
 use Rattle.oneword.specs.Level.{level-room}
 use Rattle.oneword.proofs.work.remainder_into.Statement.{statement}

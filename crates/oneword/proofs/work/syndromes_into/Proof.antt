@@ -1,5 +1,4 @@
 use borrow.Author.Needs.{needs}
-use mathlib.Core.Path.{_≡_}
 use native.Mathlib.Omega.{arith}
 use Rattle.code.specs.Accepted.{accepted}
 use Rattle.element.specs.Lent.{tables-of}
