@@ -14,7 +14,7 @@ use Rattle.words.specs.Remainder.{deg-up}
 use Rattle.words.specs.Row.{D, pow-D, set-top, by-top, D-is}
 use Rattle.words.specs.Shift.{up-up}
 use Rattle.words.specs.Value.{drop-next, same-at, Bounded, value-nil, take-more, take-more-set, bounded-all, value-lt, drop-shr}
-use Rattle.words.specs.Word.{moved, moved-up, word-sum, carry-lt, mod-mul-mod, window}
+use Rattle.words.specs.Word.{moved, word-up, word-sum, carry-lt, mod-mul-mod, window}
 
 -- ---- up by 1 to 64 places, in place
 alg : (lo c c′ P B T w Q n : ℕ) → T + c * P ≡ n * Q → lo + c′ * B ≡ w * Q → (lo + c) * P + T + c′ * (P * B) ≡ (w * P + n) * Q
@@ -28,13 +28,13 @@ pub record Shifted (r₀ r : List ℕ) (l c i : ℕ) : Type 0 where
   pub left : drop i r ≡ drop i r₀
   pub done : value 64 (take i r) + c * 2 ^ (64 * i) ≡ value 64 (take i r₀) * 2 ^ l
 
-pub shift-turn : (r₀ r : List ℕ) (l c i : ℕ) → Bounded 64 r → 1 ≤ l → l ≤ 64 → i < length r → length r ≡ length r₀ → Shifted r₀ r l c i
-    → Shifted r₀ (set r i (moved (getD r i 0) (l - 1) + c)) l (getD r i 0 / 2 ^ (64 - l)) (i + 1)
-shift-turn r₀ r l c i hr h₁ h₂ li e s = record {
+pub shift-turn : (r₀ r : List ℕ) (l c i : ℕ) → Bounded 64 r → l ≤ 64 → i < length r → length r ≡ length r₀ → Shifted r₀ r l c i
+    → Shifted r₀ (set r i (getD r i 0 * 2 ^ l % 2 ^ 64 + c)) l (getD r i 0 / 2 ^ (64 - l)) (i + 1)
+shift-turn r₀ r l c i hr h li e s = record {
   fits = carry-lt l (64 - l) (omega arith) (hr i);
-  left = drop-next r r₀ i (moved (getD r i 0) (l - 1) + c) (s .left);
+  left = drop-next r r₀ i (getD r i 0 * 2 ^ l % 2 ^ 64 + c) (s .left);
   done =
-      rw (take-more-set 64 r i (moved (getD r i 0) (l - 1) + c) li, take-more 64 r₀ i (omega arith), pow-next i, moved-up (getD r i 0) l h₁ h₂, ← same-at r r₀ i (s .left))
+      rw (take-more-set 64 r i (getD r i 0 * 2 ^ l % 2 ^ 64 + c) li, take-more 64 r₀ i (omega arith), pow-next i, word-up (getD r i 0) l h, ← same-at r r₀ i (s .left))
       (alg (getD r i 0 % 2 ^ (64 - l) * 2 ^ l) c (getD r i 0 / 2 ^ (64 - l)) (2 ^ (64 * i)) (2 ^ 64) (value 64 (take i r)) (getD r i 0) (2 ^ l) (value 64 (take i r₀))
       (s .done) (word-sum (getD r i 0) l (64 - l) (omega arith)));
 }
@@ -43,6 +43,12 @@ shift-turn r₀ r l c i hr h₁ h₂ li e s = record {
     pow-next i =
         let f : 64 * (i + 1) ≡ 64 * i + 64 = omega arith in
         ap (λ (n : ℕ). 2 ^ n) f ∙ pow-add 2 (64 * i) 64
+
+-- by a whole word: what is carried is written as it is
+pub shift-word-turn : (r₀ r : List ℕ) (c i : ℕ) → Bounded 64 r → i < length r → length r ≡ length r₀ → Shifted r₀ r 64 c i → Shifted r₀ (set r i c) 64 (getD r i 0) (i + 1)
+shift-word-turn r₀ r c i hr li e s =
+    let a : getD r i 0 * 2 ^ 64 % 2 ^ 64 + c ≡ c = ap (λ (x : ℕ). x + c) (Nat.mul-mod-left (getD r i 0) (2 ^ 64)) ∙ Nat.zero-add c in
+    rw (a, div-one (getD r i 0)) at (shift-turn r₀ r 64 c i hr (omega arith) li e s)
 
 pub shift-start : (r : List ℕ) (l : ℕ) → Shifted r r l 0 0
 shift-start r l = record { fits = pow-pos l; left = refl; done = simp (value-nil 64, Nat.zero-mul) }

@@ -26,21 +26,19 @@ moved-is x m j e =
     mod-mul-mod (x * 2) (2 ^ m) (2 ^ 64)
     ∙ ap₂ _%_ (mul-assoc x 2 (2 ^ m) ∙ ap (λ (n : ℕ). x * n) (sym (Nat.pow-succ' 2 m))) (pow64 j (suc m) e) ∙ up-mod x j (suc m)
 
--- the same, by l of 1 to 64
-pub moved-up : (x l : ℕ) → 1 ≤ l → l ≤ 64 → moved x (l - 1) ≡ x % 2 ^ (64 - l) * 2 ^ l
-moved-up x l h₁ h₂ =
-    let e : suc (l - 1) ≡ l = omega arith in
-    moved-is x (l - 1) (64 - l) (omega arith) ∙ ap (λ (n : ℕ). x % 2 ^ (64 - l) * 2 ^ n) e
-
 -- what a word takes in from below fits
 pub moved-lt : (x m j c : ℕ) → j + suc m ≡ 64 → c < 2 ^ suc m → moved x m + c < 2 ^ 64
 moved-lt x m j c e h =
     subst (λ (n : ℕ). moved x m + c < n) (sym (pow64 j (suc m) e)) (rw (moved-is x m j e, pow-add 2 j (suc m)) (digits-lt (mod-lt x (pow-pos j)) h))
 
-pub moved-up-lt : (x l c : ℕ) → 1 ≤ l → l ≤ 64 → c < 2 ^ l → moved x (l - 1) + c < 2 ^ 64
-moved-up-lt x l c h₁ h₂ h =
-    let e : suc (l - 1) ≡ l = omega arith in
-    moved-lt x (l - 1) (64 - l) c (omega arith) (rw e h)
+-- by l in one step
+pub word-up : (x l : ℕ) → l ≤ 64 → x * 2 ^ l % 2 ^ 64 ≡ x % 2 ^ (64 - l) * 2 ^ l
+word-up x l h = ap (λ (n : ℕ). x * 2 ^ l % n) (pow64 (64 - l) l (omega arith)) ∙ up-mod x (64 - l) l
+
+pub word-up-lt : (x l c : ℕ) → l ≤ 64 → c < 2 ^ l → x * 2 ^ l % 2 ^ 64 + c < 2 ^ 64
+word-up-lt x l c h k =
+    let e : (64 - l) + l ≡ 64 = omega arith in
+    rw (word-up x l h) (subst (λ (n : ℕ). x % 2 ^ (64 - l) * 2 ^ l + c < n) (sym (pow64 (64 - l) l e)) (rw (pow-add 2 (64 - l) l) (digits-lt (mod-lt x (pow-pos (64 - l))) k)))
 
 -- the word as a sum: what stays and what is carried on
 pub word-sum : (x l h : ℕ) → h + l ≡ 64 → x % 2 ^ h * 2 ^ l + x / 2 ^ h * 2 ^ 64 ≡ x * 2 ^ l

@@ -7,16 +7,36 @@ ghost use Rattle.polynomial.specs.Digits.{value};
 ghost use Rattle.polynomial.specs.Division.{deg};
 ghost use Rattle.polynomial.specs.Xor.{xor};
 
-// r is moved up by l places, 1 to 64, into the 13th word.
-pub fn shift(r: &mut [u64], l: usize)
-    requires { ⌜ (length (now r) ≡ 13) × (1 ≤ l) × (l ≤ 64) × (getD (now r) 12 0 ≡ 0) ⌝ }
-    ensures { λ x. ⌜ value 64 (now (r .exit)) ≡ value 64 (now (r .entry)) * 2 ^ l ⌝ }
+// r is moved up by a whole word.
+fn shift_word(r: &mut [u64])
+    requires { ⌜ (length (now r) ≡ 13) × (getD (now r) 12 0 ≡ 0) ⌝ }
+    ensures { λ x. ⌜ value 64 (now (r .exit)) ≡ value 64 (now (r .entry)) * 2 ^ 64 ⌝ }
 {
     let mut c: u64 = 0;
     let mut i: usize = 0;
     while i < 12 {
         let w = r[i];
-        r[i] = ((w << 1) << (l - 1)) + c;
+        r[i] = c;
+        c = w;
+        i += 1;
+    }
+    r[12] = c;
+}
+
+// r is moved up by l places, 1 to 64, into the 13th word.
+pub fn shift(r: &mut [u64], l: usize)
+    requires { ⌜ (length (now r) ≡ 13) × (1 ≤ l) × (l ≤ 64) × (getD (now r) 12 0 ≡ 0) ⌝ }
+    ensures { λ x. ⌜ value 64 (now (r .exit)) ≡ value 64 (now (r .entry)) * 2 ^ l ⌝ }
+{
+    if l == 64 {
+        shift_word(r);
+        return;
+    }
+    let mut c: u64 = 0;
+    let mut i: usize = 0;
+    while i < 12 {
+        let w = r[i];
+        r[i] = (w << l) + c;
         c = w >> (64 - l);
         i += 1;
     }
