@@ -20,7 +20,7 @@ use lib.Seq.{take-take, length-take-le}
 use Rattle.polynomial.specs.Digits.{value}
 use Rattle.polynomial.specs.Division.{Deg, rem}
 use Rattle.polynomial.specs.Xor.{xor, xors}
-use Rattle.words.specs.Remainder.{rem-four, rem-up, rem-down, rem-low}
+use Rattle.words.specs.Remainder.{rem-four, rem-down, rem-low}
 use Rattle.words.specs.Row.{D, D-is}
 use Rattle.words.specs.Shift.{xor-shl, part, low-less, up-all}
 use Rattle.words.specs.Value.{Bounded, bounded-take, bounded-drop, take-mod}
@@ -117,10 +117,6 @@ quarter G t T q v h =
     ∙ ap (λ (x : ℕ). rem G D (x * 2 ^ D)) (sym (simp xor-shl) ∙ ap (λ (x : ℕ). x * 2 ^ (16 * q)) (digits4 v))
 
 -- ---- a generator g of any degree w, moved up by s to degree 768
--- with f moved up too, what is left is f's remainder by g, moved up
-pub aligned : (t : List ℕ) (g w s f r : ℕ) → Deg g w → w + s ≡ D → Table (g * 2 ^ s) t → Reduced t (f * 2 ^ s) r → r ≡ rem g w f * 2 ^ s
-aligned t g w s f r d e T q = q .rest (g * 2 ^ s) T ∙ ap (λ (n : ℕ). rem (g * 2 ^ s) n (f * 2 ^ s)) (sym e) ∙ rem-up g w s d f
-
 pub record RemainderBy (t : List ℕ) (s f r : ℕ) : Type 0 where
   pub small : r < 2 ^ (D - s)
   pub rest : (g w : ℕ) → Deg g w → w + s ≡ D → Table (g * 2 ^ s) t → r ≡ rem g w f
