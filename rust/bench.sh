@@ -1,0 +1,29 @@
+#!/usr/bin/env bash
+# The benchmark, on a machine that does nothing else: times of the C calls and of the library's leaves into
+# docs/BENCHMARKS.md, and their drawing into docs/benchmarks.svg.
+set -euo pipefail
+cd "$(dirname "$0")"
+mkdir -p target
+(cd .. && rt staticlib board) > target/bench.log
+cargo build --offline --quiet --release -p board
+target/release/bench target/figures.csv > target/calls.md
+./leaves.sh > target/leaves.md
+python3 plot.py target/figures.csv ../docs/benchmarks.svg
+cat > ../docs/BENCHMARKS.md <<TEXT
+# Benchmarks
+
+Made by \`rust/bench.sh\` from the archive that \`rt staticlib\` builds. Everything is worked out afresh in each call: the sheet's test, generators, tables. *Reference* is the independent Rust encoder of \`rust/reference\`, written for
+comparison and not for speed; CRC-32 is a table CRC, a byte at a time.
+
+![Time against width, and against the page's bits](benchmarks.svg)
+
+## The C calls
+
+$(cat target/calls.md)
+
+## Leaves
+
+On the sheet q 12, m 8, v 3, t 28, 32, 39, 58, beside plain versions that take a coefficient or a root at a time, on drawn data.
+
+$(cat target/leaves.md)
+TEXT
