@@ -151,7 +151,7 @@ fn sheets_of_q_12() {
     {
         run.sheet(&Parameters { q: 12, m, v, t }, &[1, 7, 8, 32, 63, 64], 4);
     }
-    for k in 0..count(300) {
+    for k in 0..count(1500) {
         let p = run.random.parameters(12);
         run.sheet(&p, &Run::widths_of(k, 2), 2);
     }
