@@ -13,15 +13,14 @@ use Rattle.polynomial.specs.Digits.{digits, length-digits, value, value-digits}
 use Rattle.polynomial.specs.Lists.{all-at}
 use Rattle.code.specs.declared.Parameters.{Parameters}
 use Rattle.code.specs.Accepted.{Rules, accepted}
-use Rattle.code.specs.Bytes.{length-split}
 use Rattle.code.specs.Code.{carried, checkBits, checked, encode, encodeFrom, level}
-use Rattle.code.specs.Layout.{Fits, blocksOf, pageBytes, pageOf, wordSizes, wordsOf}
-use Rattle.code.specs.Pages.{IsWords, blocks-blocks, encode-words, pageOf-eq, wordsOf-eq}
+use Rattle.code.specs.Layout.{Fits, blocksOf, pageBytes, pageOf, wordsOf}
+use Rattle.code.specs.Pages.{IsWords, blocks-blocks, encode-words, pageOf-eq}
 use Rattle.code.specs.Parameters.{Accepted, len, subWordBytes}
 use Rattle.code.specs.Placement.{encode-at}
-use Rattle.layout.specs.Parts.{length-words, page-parts, word-at, word-room}
+use Rattle.layout.specs.Parts.{page-parts, word-at, word-room}
 use Rattle.layout.specs.Replaced.{replaced, replaced-after, replaced-length, replaced-part}
-use Rattle.nested.specs.Words.{bits-all}
+use Rattle.nested.specs.Words.{bits-all, words-many}
 use Rattle.encode.specs.Word.{wordOf, written}
 
 pub record Encoded (p : Parameters) (blocks : List ℕ) (i : ℕ) (x : List ℕ) : Type 0 where
@@ -62,9 +61,8 @@ module _ (p : Parameters) (A : Accepted p) (blocks : List ℕ) (F : Fits p block
   -- the later sub-words, as numbers
   later : (x : List ℕ) (i : ℕ) → Encoded p blocks i x → drop i (wordsOf p x) ≡ drop i cs
   later x i e =
-      let l : length (wordsOf p x) ≡ p .m = rw (wordsOf-eq p x) (length-split (wordSizes p) x ∙ length-words p) in
-      drop-same i (wordsOf p x) cs (l ∙ sym (words .many))
-      (λ j h m. let b : j < p .m = omega arith in
+      drop-same i (wordsOf p x) cs (words-many p x ∙ sym (words .many))
+      (λ j h m. let b : j < p .m = omega (arith, words-many p x) in
       word-at p x j b ∙ ap (value 8) (e .each j h b) ∙ value-digits 8 (subWordBytes p) (getD cs j 0) (word-small j b))
 
   word-is : (x : List ℕ) (i : ℕ) → i < p .m → Encoded p blocks (suc i) x → wordOf p blocks x i ≡ getD cs i 0

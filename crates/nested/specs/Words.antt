@@ -1,11 +1,11 @@
 -- The sub-words of a page of accepted parameters as numbers of n + 1 bits.
-use mathlib.Core.Path.{_≡_, refl, ap, _∙_}
+use mathlib.Core.Path.{_≡_, refl, _∙_}
 use mathlib.Core.Logic.{inl, inr}
 use mathlib.Core.List.{List}
 use Prim.Native.Nat.{ℕ, _+_, _-_, _*_, _/_, _^_, _≤_, _<_}
 use native.Mathlib.Omega.{arith}
 use lib.Dec.{lit≤}
-use lib.ListN.{length, getD, take, drop, length-drop}
+use lib.ListN.{length, getD, drop, length-drop}
 use Rattle.field.specs.Fields.{Known}
 use Rattle.code.specs.declared.Parameters.{Parameters}
 use Rattle.code.specs.Accepted.{accepted}
@@ -20,12 +20,6 @@ known-bits : (q : ℕ) → Known q → (8 * (2 ^ q / 8) ≡ 2 ^ q - 1 + 1) × (1
 known-bits q (inl e) = rw e (refl, lit≤ tt)
 known-bits q (inr (inl e)) = rw e (refl, lit≤ tt)
 known-bits q (inr (inr e)) = rw e (refl, lit≤ tt)
-
--- the i-th run of b bytes
-pub part-is : (x : List ℕ) (i b k : ℕ) → b ≡ k → take (i * b + b - i * b) (drop (i * b) x) ≡ take k (drop (i * k) x)
-part-is x i b k e =
-    let f : i * b + b - i * b ≡ b = omega arith in
-    ap (λ (n : ℕ). take n (drop (i * b) x)) f ∙ ap (λ (n : ℕ). take n (drop (i * n) x)) e
 
 pub words-many : (p : Parameters) (x : List ℕ) → length (wordsOf p x) ≡ p .m
 words-many p x = rw (wordsOf-eq p x) (length-split (wordSizes p) x ∙ length-words p)

@@ -2,7 +2,7 @@ use borrow.Author.Needs.{needs}
 use native.Mathlib.Omega.{arith}
 use Rattle.layout.specs.Parts.{word-room}
 use Rattle.layout.specs.Sizes.{page-high}
-use Rattle.nested.specs.Words.{part-is}
+use Rattle.layout.specs.Words.{part-same}
 use Rattle.nested.proofs.sub_word.Statement.{statement}
 use Rattle.nested.proofs.sub_word.Tie as tie
 
@@ -33,7 +33,7 @@ part-result-end c =
 returns : tie.Need-returns
 returns c =
     let s = c .before .before .before in
-    part-is (s .args .page .now) _ _ _ (c .before .sub-word-bytes .ensures)
+    part-same (s .args .p) (s .pre .0) (s .args .page .now) _ _ (c .before .sub-word-bytes .ensures)
 
 pub sub-word-spec : {M : Type 1} → statement M
 sub-word-spec =
