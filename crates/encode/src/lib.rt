@@ -137,7 +137,8 @@ fn write_earlier(
     }
 }
 
-// The page of the blocks, `width` coefficients a step.
+// The page of the blocks, `width` coefficients a step. The array has one word more than the table: so the table stands at a multiple of 16 bytes in the frame of
+// the C call, where two words are read at a time, and no read crosses a line of the cache.
 pub fn encode(
     p: Parameters,
     rows: [[u64; 13]; 4],
@@ -149,10 +150,11 @@ pub fn encode(
     requires { ⌜ Ready p (now w) (now blocks) × (rows ≡ generators p) × (length (now page) ≡ pageBytes p) × (1 ≤ width) × (width ≤ 64) ⌝ }
     ensures { λ x. ⌜ now (page .exit) ≡ pageOf p (now (blocks .entry)) ⌝ }
 {
-    let mut t = [0u64; 3072];
+    let mut table = [0u64; 3073];
     let mut room = [0u8; 520];
     let k = layout::sub_word_bytes(p) + 8;
+    let t = &mut table[..3072];
     let acc = &mut room[..k];
-    write_later(p, rows, w, blocks, page, width, &mut t, acc);
-    write_earlier(p, rows, w, blocks, page, width, &mut t, acc);
+    write_later(p, rows, w, blocks, page, width, t, acc);
+    write_earlier(p, rows, w, blocks, page, width, t, acc);
 }

@@ -1,14 +1,12 @@
--- What the sub-words after i add to the rule of sub-word i, product by product.
---   Carried p page i x₀ x k    the products of the sub-words after i and before k are added to x₀, which makes x
-use mathlib.Core.Path.{_≡_, sym, ap, ap₂, _∙_}
-use mathlib.Core.List.{List}
-use Prim.Native.Nat.{ℕ, suc, _+_, _*_, _%_, _^_, _≤_, _<_}
+-- What the sub-words after i add to the rule of sub-word i.
+use mathlib.Core.Path.{_≡_, refl, sym, ap, _∙_}
+use mathlib.Core.List.{List, [], _∷_}
+use Prim.Native.Nat.{ℕ, zero, suc, _+_, _-_, _*_, _%_, _^_, _≤_, _<_}
 use native.Mathlib.Nat as Nat
-use native.Mathlib.Numerals.{add-one}
 use native.Mathlib.Omega.{arith}
-use lib.ListN.{length, getD, take, drop}
+use lib.ListN.{length, getD, take, drop, replicate, length-drop}
 use lib.Pow.{pow-mono}
-use Rattle.polynomial.specs.Clmul.{clmul}
+use lib.Seq.{drop-cons, getD-drop}
 use Rattle.polynomial.specs.Digits.{value}
 use Rattle.polynomial.specs.Xor.{xor}
 use Rattle.code.specs.declared.Parameters.{Parameters}
@@ -18,32 +16,56 @@ use Rattle.code.specs.Layout.{pageBytes, wordsOf}
 use Rattle.code.specs.Parameters.{Accepted, len, subWordBytes}
 use Rattle.layout.specs.Parts.{word-at}
 use Rattle.sheet.specs.Nesting.{N-lt}
-use Rattle.words.specs.Value.{Bounded}
-use Rattle.nested.specs.Product.{clmul-lt}
-use Rattle.nested.specs.Sums.{Combined, combined-start, combined-turn, combined-done}
+use Rattle.words.specs.Value.{Bounded, value-cons, value-nil}
+use Rattle.nested.specs.Horner.{Over, Sums, combine-lt, sums-next, sums-start, weighted}
 use Rattle.nested.specs.Words.{bits-all, word-lt, words-many}
 
-abbrev pub Carried : Parameters → List ℕ → ℕ → ℕ → ℕ → ℕ → Type 0
-Carried p page i x₀ x k = Combined (λ k. N k i) (suc i) (wordsOf p page) x₀ x k
+drop-none : (k : ℕ) (l : List ℕ) → length l ≤ k → drop k l ≡ []
+drop-none zero [] h = refl
+drop-none zero (x ∷ l) h = absurd (Nat.not-suc-le-zero h)
+drop-none (suc k) [] h = refl
+drop-none (suc k) (x ∷ l) h = drop-none k l (Nat.le-of-suc-le-suc h)
 
-module _ (p : Parameters) (page : List ℕ) (i x₀ : ℕ) where
-  pub carried-start : Carried p page i x₀ x₀ (i + 1)
-  carried-start = rw (add-one i) (combined-start (λ k. N k i) (suc i) (wordsOf p page) x₀)
+-- the sums before any is taken
+pub zero-value : (k n : ℕ) → value 8 (take k (replicate n 0)) ≡ 0
+zero-value zero n = value-nil 8
+zero-value (suc k) zero = value-nil 8
+zero-value (suc k) (suc n) = value-cons 8 0 (take k (replicate n 0)) ∙ ap (λ (x : ℕ). x * 2 ^ 8 + 0) (zero-value k n)
 
-  -- w is sub-word k, and the sum has j bytes
-  pub carried-turn : (A : Accepted p) (w : List ℕ) (k c j x x′ : ℕ) → i < p .v → Bounded 8 page → length page ≡ pageBytes p → k < p .m
-      → w ≡ take (subWordBytes p) (drop (k * subWordBytes p) page) → c ≡ N k i → j ≡ subWordBytes p + 8 → x′ ≡ xor x (clmul c (value 8 w) % 2 ^ (8 * j))
-      → Carried p page i x₀ x k → Carried p page i x₀ x′ (k + 1)
-  carried-turn A w k c j x x′ h b e hk f g hj o s =
-      combined-turn (λ k. N k i) (suc i) (wordsOf p page) x₀ x x′ k s (o ∙ ap (xor x) (ap (λ (y : ℕ). y % 2 ^ (8 * j)) product
-      ∙ Nat.mod-eq-of-lt (Nat.lt-of-lt-of-le (clmul-lt (7 * k + 1) (len p + 1) (N k i) (getD (wordsOf p page) k 0) (N-lt k i (omega (arith, R .v-high))) (word-lt p A page b e k hk))
-      (pow-mono (omega (arith, R .m-high, bits-all p A))))))
+module _ (p : Parameters) (page : List ℕ) (i m : ℕ) where
+  pub later-start : (a b c : ℕ) → a ≡ 0 → b ≡ 0 → c ≡ 0 → Sums i m (drop (p .m) (wordsOf p page)) a b c
+  later-start a b c = sums-start i m a b c (drop (p .m) (wordsOf p page)) (drop-none (p .m) (wordsOf p page) (omega (arith, words-many p page)))
+
+  -- w is sub-word k - 1
+  pub later-turn : (w : List ℕ) (k a b c a′ b′ c′ : ℕ) → 0 < k → k ≤ p .m → w ≡ take (subWordBytes p) (drop ((k - 1) * subWordBytes p) page)
+      → a′ ≡ xor a (value 8 w * 1 % 2 ^ m) → Over i m a′ b c b′ c′ → Sums i m (drop k (wordsOf p page)) a b c → Sums i m (drop (k - 1) (wordsOf p page)) a′ b′ c′
+  later-turn w k a b c a′ b′ c′ z h e f o s =
+      sums-next i m (getD (wordsOf p page) (k - 1) 0) a b c a′ b′ c′ (drop k (wordsOf p page)) (drop (k - 1) (wordsOf p page))
+      (drop-cons (wordsOf p page) (k - 1) 0 (omega (arith, words-many p page)) ∙ ap (λ (n : ℕ). getD (wordsOf p page) (k - 1) 0 ∷ drop n (wordsOf p page)) g)
+      s (f ∙ ap (λ (y : ℕ). xor a (y * 1 % 2 ^ m)) (ap (value 8) e ∙ sym (word-at p page (k - 1) (omega arith)))) o
     where
-      R : Rules p
-      R = accepted p A
+      g : suc (k - 1) ≡ k
+      g = omega arith
 
-      product : clmul c (value 8 w) ≡ clmul (N k i) (getD (wordsOf p page) k 0)
-      product = ap₂ clmul g (ap (value 8) f ∙ sym (word-at p page k hk))
+  pub later-done : (k a b c : ℕ) → i < k → k ≤ i + 1 → Sums i m (drop k (wordsOf p page)) a b c → Sums i m (drop (suc i) (wordsOf p page)) a b c
+  later-done k a b c h l s =
+      let e : k ≡ suc i = omega arith in
+      rw e at s
 
-  pub carried-done : (x k : ℕ) → p .m ≤ k → Carried p page i x₀ x k → x ≡ xor x₀ (combine (λ k. N k i) (suc i) (drop (suc i) (wordsOf p page)))
-  carried-done x k h s = combined-done (λ k. N k i) (suc i) (wordsOf p page) x₀ x k s (rw (words-many p page) h)
+-- the sum has j bytes, which hold it
+pub carried-fits : (p : Parameters) (A : Accepted p) (page : List ℕ) (i j x₀ x : ℕ) → i < p .v → Bounded 8 page → length page ≡ pageBytes p → j ≡ subWordBytes p + 8
+    → x ≡ xor x₀ (weighted i (suc i) (drop (suc i) (wordsOf p page)) % 2 ^ (8 * j)) → x ≡ xor x₀ (combine (λ k. N k i) (suc i) (drop (suc i) (wordsOf p page)))
+carried-fits p A page i j x₀ x h b e f g = g ∙ ap (xor x₀) (Nat.mod-eq-of-lt (Nat.lt-of-lt-of-le small (pow-mono (omega (arith, bits-all p A)))))
+  where
+    R : Rules p
+    R = accepted p A
+
+    many : length (drop (suc i) (wordsOf p page)) ≡ p .m - suc i
+    many = length-drop (suc i) (wordsOf p page) ∙ ap (λ (n : ℕ). n - suc i) (words-many p page)
+
+    small : weighted i (suc i) (drop (suc i) (wordsOf p page)) < 2 ^ (50 + (len p + 1))
+    small =
+        combine-lt (λ k. N k i) 50 (len p + 1) (suc i) 8 (drop (suc i) (wordsOf p page))
+        (λ k l. Nat.lt-of-lt-of-le (N-lt k i (omega (arith, R .v-high))) (pow-mono {j = 50} (omega arith)))
+        (omega (arith, many, R .m-high, R .m-low))
+        (λ k l. rw (getD-drop (suc i) (wordsOf p page) k 0) (word-lt p A page b e (suc i + k) (omega (arith, many))))

@@ -3,4 +3,5 @@ pub mod Sums
 pub mod Product
 pub mod Words
 pub mod Turned
+pub mod Horner
 pub mod Carried

@@ -7,6 +7,7 @@ use mathlib.Core.Bool.{Bool, true, false}
 use Prim.Native.Nat.{ℕ, zero, suc, _+_, _-_, _*_, _%_, _≤_, _<_}
 use native.Mathlib.Nat as Nat
 use native.Mathlib.Omega.{arith}
+use borrow.Author.Tests.{ne-eqb}
 use lib.Dec.{eqb}
 use Rattle.code.specs.Lists.{range, any}
 use Rattle.code.specs.Parameters.{len, strength, clashes}
@@ -63,6 +64,26 @@ pub search-done : (P : ℕ → Bool) (last j : ℕ) → Searching P last j → l
 search-done P last j s h =
     let a : last + 1 - j ≡ 0 = omega (arith, s .high) in
     sym (s .same ∙ ap (anyFrom P j) a ∙ any-none P j)
+
+-- none passes
+pub none-from : (P : ℕ → Bool) (i k : ℕ) → ((j : ℕ) → i ≤ j → j < i + k → P j ≡ false) → anyFrom P i k ≡ false
+none-from P i zero h = any-none P i
+none-from P i (suc k) h =
+    let a : suc k - 1 ≡ k = omega arith in
+    any-later P i (suc k) (omega arith) (h i (Nat.le-refl i) (omega arith)) ∙ ap (anyFrom P (i + 1)) a
+    ∙ none-from P (i + 1) k (λ j l m. h j (omega arith) (omega arith))
+
+-- no product up to d × last comes to n
+pub small-none : (d n last : ℕ) → 1 ≤ d → d * last < n → false ≡ anyFrom (hits n d) 1 last
+small-none d n last h l = sym (none-from (hits n d) 1 last (λ j a b. ne-eqb _ _ (λ e. miss j a b (sym (Nat.mod-eq-of-lt (below j b)) ∙ e))))
+  where
+    below : (j : ℕ) → j < 1 + last → d * j < n
+    below j b = Nat.lt-of-le-of-lt (Nat.mul-le-mul (Nat.le-refl d) (omega arith)) l
+
+    miss : (j : ℕ) → 1 ≤ j → j < 1 + last → d * j ≡ 0 → ⊥
+    miss j a b e =
+        let k : 1 * 1 ≤ d * j = Nat.mul-le-mul h a in
+        omega arith
 
 -- ---- d × j modulo n by sums
 pub first-multiple : (d n : ℕ) → d < n → d ≡ d * 1 % n

@@ -91,11 +91,14 @@ pub fn sum_modulo(a: u32, b: u32, n: u32) -> u32
     if s < n { s } else { s - n }
 }
 
-// Some d × j is a multiple of n, j from 1 to last.
+// Some d × j is a multiple of n, j from 1 to last. Where no product comes to n there is none.
 fn clash_at(d: u32, n: u32, last: u32) -> bool
-    requires { ⌜ (d < n) × (n < 4096) × (last ≤ 128) ⌝ }
+    requires { ⌜ (1 ≤ d) × (d < n) × (n < 4096) × (last ≤ 128) ⌝ }
     ensures { λ r. ⌜ r ≡ anyFrom (hits n d) 1 last ⌝ }
 {
+    if d * last < n {
+        return false;
+    }
     let mut x = d;
     let mut j: u32 = 1;
     while j <= last {

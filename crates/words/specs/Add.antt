@@ -79,6 +79,14 @@ added-word l₀ l l′ at y k v f h g e p = record {
   done = bytes-law (value 8 l₀) (value 8 l) (value 8 l′) at y (8 * k) 8 (8 * (k + 1)) v (omega arith) (p .done) e f;
 }
 
+-- the same from byte 0 on
+pub added-low-word : (l₀ l l′ : List ℕ) (y k v : ℕ) → value 8 l′ ≡ xor (value 8 l) (v * 2 ^ (8 * (8 * k))) → 8 * k + 8 ≤ length l → length l′ ≡ length l
+    → v ≡ y / 2 ^ (8 * (8 * k)) % 2 ^ 64 → Added l₀ l 0 y (8 * k) → Added l₀ l′ 0 y (8 * (k + 1))
+added-low-word l₀ l l′ y k v f h g e p = added-word l₀ l l′ 0 y k v (f ∙ ap (λ (n : ℕ). xor (value 8 l) (v * 2 ^ (8 * n))) (sym (zero-add (8 * k)))) (omega arith) g e p
+
+pub added-low-done : (l₀ l : List ℕ) (y k n : ℕ) → k ≡ n → Added l₀ l 0 y (8 * k) → value 8 l ≡ xor (value 8 l₀) (y % 2 ^ (8 * (8 * n)))
+added-low-done l₀ l y k n e p = p .done ∙ ap (xor (value 8 l₀)) (mul-one (y % 2 ^ (8 * (8 * k))) ∙ ap (λ (m : ℕ). y % 2 ^ (8 * (8 * m))) e)
+
 -- c bits of z from x^q on, which is byte i from x^p on
 pub next-bits : (z p q i c v : ℕ) → q ≡ p + 8 * i → v ≡ z / 2 ^ q % 2 ^ c → v ≡ z / 2 ^ p / 2 ^ (8 * i) % 2 ^ c
 next-bits z p q i c v h e = e ∙ ap (λ (n : ℕ). n % 2 ^ c) (ap (λ (n : ℕ). z / 2 ^ n) h ∙ sym (shr-shr z p (8 * i)))
@@ -90,6 +98,14 @@ all-law a₀ a y m n h e = e ∙ ap (xor a₀) (mul-one (y / 1 % 2 ^ (8 * m)) �
 part-law : (a₀ a a′ y i j n v : ℕ) → i + j ≡ n → a ≡ xor a₀ (y % 2 ^ (8 * i)) → v ≡ y / 2 ^ (8 * i) % 2 ^ (8 * j) → a′ ≡ xor a (v * 2 ^ (8 * i)) → a′ ≡ xor a₀ (y % 2 ^ (8 * n))
 part-law a₀ a a′ y i j n v h e d f =
     bytes-law a₀ a a′ 0 y i j n v h (e ∙ ap (xor a₀) (sym (mul-one (y % 2 ^ (8 * i))))) d (rw zero-add f) ∙ ap (xor a₀) (mul-one (y % 2 ^ (8 * n)))
+
+-- x as it stands: j bytes, and the k that are left
+pub low-law : (x r j k n a₀ a₁ a₂ : ℕ) → r ≡ 8 * j → j + k ≡ n → a₁ ≡ xor a₀ (x % 2 ^ (8 * j)) → a₂ ≡ xor a₁ (x * 1 / 2 ^ r % 2 ^ (8 * k) * 2 ^ (8 * j))
+    → a₂ ≡ xor a₀ (x % 2 ^ (8 * n))
+low-law x r j k n a₀ a₁ a₂ f g e₁ e₂ = part-law a₀ a₁ a₂ x j k n _ g e₁ (ap₂ (λ (y m : ℕ). y / 2 ^ m % 2 ^ (8 * k)) (mul-one x) f) e₂
+
+pub up-none : (a₀ a x s n : ℕ) → s ≡ 0 → a ≡ xor a₀ (x % 2 ^ n) → a ≡ xor a₀ (x * 2 ^ s % 2 ^ n)
+up-none a₀ a x s n z e = e ∙ ap (λ (y : ℕ). xor a₀ (y % 2 ^ n)) (sym (ap (λ (k : ℕ). x * 2 ^ k) z ∙ mul-one x))
 
 -- x moved up by s: i bytes, j bytes that begin with x's bit p, and the k that are left
 pub up-law : (x s p i j k n a₀ a₁ a₂ a₃ : ℕ) → s + p ≡ 8 * i → i + j + k ≡ n → a₁ ≡ xor a₀ (x * 2 ^ s / 1 % 2 ^ (8 * i) * 1) → a₂ ≡ xor a₁ (x / 2 ^ p % 2 ^ (8 * j) * 2 ^ (8 * i))

@@ -2,12 +2,12 @@
 use mathlib.Core.Path.{_≡_, sym, ap, ap₂, _∙_}
 use mathlib.Core.List.{List}
 use Prim.Native.Nat.{ℕ, _+_, _-_, _*_, _/_, _%_, _^_, _≤_, _<_}
-use native.Mathlib.Nat.{mul-assoc, mod-lt, zero-mul, div-one, pow-zero}
+use native.Mathlib.Nat.{mul-assoc, mod-lt, zero-mul, pow-zero}
 use native.Mathlib.Nat as Nat
 use native.Mathlib.Omega.{arith}
 use lib.Pow.{pow-pos, pow-add, shr-shr, field, mod-mod-pow, split}
 use Rattle.polynomial.specs.Division.{rem, rem-small}
-use Rattle.polynomial.specs.Xor.{xor, xor-zero-r, xor-assoc, xor-zero-l}
+use Rattle.polynomial.specs.Xor.{xor, xor-zero-r, xor-assoc}
 use Rattle.words.specs.Remainder.{rem-shift-add}
 use Rattle.words.specs.Row.{D}
 use Rattle.words.specs.Shift.{join, xor-shl}
@@ -52,12 +52,3 @@ pub turn-fed : (t : List ℕ) (n f p m pos q l r r′ : ℕ) → q + l ≡ pos �
 turn-fed t n f p m pos q l r r′ e h a b =
     let k : (m - pos) + l ≡ m - q = omega arith in
     rw (chunk f m q l (omega arith), e, ← k) (feed-turn t n (f % 2 ^ m / 2 ^ pos) (f / 2 ^ q % 2 ^ l) l p (m - pos) r r′ a b)
-
-pub end-fed : (t : List ℕ) (n f p m q r : ℕ) → q ≡ 0 → Reduced t (xor (n * 2 ^ (m - q)) (f % 2 ^ m / 2 ^ q * 2 ^ p)) r → Reduced t (xor (n * 2 ^ m) (f % 2 ^ m * 2 ^ p)) r
-end-fed t n f p m q r e a =
-    let z : m - 0 ≡ m = omega arith in
-    rw (e, z, pow-zero, div-one) at a
-
--- fed to a register of 0
-pub fed-zero : (t : List ℕ) (n f p m r : ℕ) → n ≡ 0 → Reduced t (xor (n * 2 ^ m) (f % 2 ^ m * 2 ^ p)) r → Reduced t (f % 2 ^ m * 2 ^ p) r
-fed-zero t n f p m r z q = rw (z, zero-mul, xor-zero-l) at q

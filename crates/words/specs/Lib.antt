@@ -3,6 +3,7 @@ pub mod Shift
 pub mod Word
 pub mod Value
 pub mod Write
+pub mod Raise
 pub mod Add
 pub mod Bytes
 pub mod Remainder
@@ -18,3 +19,4 @@ pub mod Sum
 pub mod Reduce
 pub mod Build
 pub mod Feed
+pub mod Above

@@ -63,7 +63,7 @@ pub top-done : (t : List ℕ) (n v m u k : ℕ) → u ≡ 0 → TopLeft t n v m 
 top-done t n v m u k z s G T = sym (xor-zero-r m) ∙ ap (xor m) (sym (rem-zero G D)) ∙ rw (z, Nat.zero-mul (2 ^ (16 * k)), Nat.zero-mul (2 ^ D)) at (s .sum G T)
 
 -- ---- the words that are 0 need no copy
-zeros : (l : List ℕ) → value 64 l ≡ 0 → l ≡ replicate (length l) 0
+pub zeros : (l : List ℕ) → value 64 l ≡ 0 → l ≡ replicate (length l) 0
 zeros [] z = refl
 zeros (x ∷ l) z =
     let e : value 64 l * 2 ^ 64 + x ≡ 0 = sym (value-cons 64 x l) ∙ z in
@@ -71,7 +71,7 @@ zeros (x ∷ l) z =
     let b : value 64 l ≡ 0 = omega arith in
     ap₂ _∷_ a (zeros l b)
 
-zeros-clear : (n f : ℕ) → value 64 (take f (replicate n 0)) ≡ 0
+pub zeros-clear : (n f : ℕ) → value 64 (take f (replicate n 0)) ≡ 0
 zeros-clear zero zero = value-nil 64
 zeros-clear zero (suc f) = value-nil 64
 zeros-clear (suc n) zero = value-nil 64

@@ -112,11 +112,38 @@ fn add_rest(acc: &mut [u8], from: usize, x: &[u8], up: usize, pos: usize)
     add_bytes(acc, from + 8 * c, v);
 }
 
+// The `count` lowest words of x are added.
+fn add_in(acc: &mut [u8], x: &[u8], count: usize)
+    requires { ⌜ (8 * count ≤ length (now acc)) × (8 * count ≤ length (now x)) ⌝ }
+    ensures { λ r. ⌜ value 8 (now (acc .exit)) ≡ xor (value 8 (now (acc .entry))) (value 8 (now (x .entry)) % 2 ^ (8 * (8 * count))) ⌝ }
+{
+    let mut k: usize = 0;
+    while k < count {
+        let v = word_in(x, 8 * k);
+        add_word(acc, 8 * k, v);
+        k += 1;
+    }
+}
+
+// x is added into acc; what passes acc's end is lost.
+fn add_low(acc: &mut [u8], x: &[u8])
+    requires { ⌜ length (now acc) < 8192 ⌝ }
+    ensures { λ r. ⌜ value 8 (now (acc .exit)) ≡ xor (value 8 (now (acc .entry))) (value 8 (now (x .entry)) % 2 ^ (8 * length (now (acc .entry)))) ⌝ }
+{
+    let c = fewer(acc.len() / 8, x.len() / 8);
+    add_in(acc, x, c);
+    add_rest(acc, 8 * c, x, 0, 64 * c);
+}
+
 // x moved up by s places is added into acc; what passes acc's end is lost. From byte o on each byte has 8 coefficients of x: the words from there on as far as x has two words for each are added by windows.
 pub fn add_up(acc: &mut [u8], x: &[u8], s: usize)
     requires { ⌜ length (now acc) < 8192 ⌝ }
     ensures { λ r. ⌜ value 8 (now (acc .exit)) ≡ xor (value 8 (now (acc .entry))) (value 8 (now (x .entry)) * 2 ^ s % 2 ^ (8 * length (now (acc .entry)))) ⌝ }
 {
+    if s == 0 {
+        add_low(acc, x);
+        return;
+    }
     let o = s / 8 + (s % 8 + 7) / 8;
     let h = (o + 7) / 8;
     if acc.len() < 8 * h {
@@ -130,6 +157,22 @@ pub fn add_up(acc: &mut [u8], x: &[u8], s: usize)
     add_windows(acc, from, x, at, 8 * o - s, c);
     let end = from + 8 * c;
     add_rest(acc, end, x, s, 8 * end);
+}
+
+// a is moved up by s places, and b is added; what passes a's end is lost.
+pub fn raise(a: &mut [u8], b: &[u8], s: usize)
+    requires { ⌜ (length (now a) % 8 ≡ 0) × (length (now b) ≡ length (now a)) × (s < 64) ⌝ }
+    ensures { λ r. ⌜ value 8 (now (a .exit)) ≡ xor (value 8 (now (a .entry)) * 2 ^ s) (value 8 (now (b .entry))) % 2 ^ (8 * length (now (a .entry))) ⌝ }
+{
+    let mut c: u64 = 0;
+    let mut i: usize = 0;
+    while i < a.len() {
+        let w = word_in(a, i);
+        let x = word_in(b, i);
+        put_word(a, i, ((w << s) + c) ^ x);
+        c = (w >> 1) >> (63 - s);
+        i += 8;
+    }
 }
 
 // The bytes from `from` on are set to 0.

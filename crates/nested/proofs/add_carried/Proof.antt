@@ -1,85 +1,88 @@
--- The loop: the products of the sub-words after i and before k are added.
 use borrow.Author.Needs.{needs}
-use mathlib.Core.Path.{_≡_, _∙_}
+use mathlib.Core.Path.{_≡_, refl, sym, _∙_}
+use native.Mathlib.Nat as Nat
 use native.Mathlib.Omega.{arith}
-use Prim.Native.Nat.{_+_, _-_}
-use lib.ListN.{length}
-use Rattle.polynomial.specs.Digits.{value}
-use Rattle.code.specs.Accepted.{accepted}
-use Rattle.code.specs.Parameters.{subWordBytes}
+use Prim.Native.Nat.{ℕ, suc, _+_, _*_, _/_, _≤_}
+use lib.ListN.{length, drop, take, replicate, length-take}
+use Rattle.code.specs.Layout.{wordsOf}
 use Rattle.layout.specs.Sizes.{word-high}
-use Rattle.nested.specs.Carried.{Carried, carried-start, carried-turn, carried-done}
+use Rattle.nested.specs.Horner.{sums-room}
+use Rattle.nested.specs.Carried.{zero-value}
 use Rattle.nested.proofs.add_carried.Statement.{statement}
 use Rattle.nested.proofs.add_carried.Tie as tie
 
-abbrev Inv-loop : tie.InvT-loop
-Inv-loop acc₀ p page i k₀ acc k = (length acc ≡ subWordBytes p + 8) × Carried p page i (value 8 acc₀) (value 8 acc) k
+-- the rooms suffice
+fit : (c : tie.After-sub-word-bytes) → ((c .sub-word-bytes .result) + 15) / 8 * 8 ≤ 520
+fit c = let s = c .before .before .before in omega (arith, c .sub-word-bytes .ensures, word-high (s .args .p) (s .pre .0))
 
-abbrev μ-loop : tie.MeasureT-loop
-μ-loop acc₀ p page i k₀ acc k = p .m - k
+size : (n : ℕ) → n ≤ 520 → length {A = ℕ} (take n (replicate 520 0)) ≡ n
+size n h = length-take n (replicate {A = ℕ} 520 0) ∙ Nat.min-eq-left h
 
-add-k : tie.Need-add-k Inv-loop μ-loop
-add-k c = let s = c .before .before in omega (arith, accepted _ (s .pre .0) .v-high)
+sub-word-bytes-requires : tie.Need-sub-word-bytes-requires
+sub-word-bytes-requires c κs = search needs
 
-loop-holds : tie.Need-loop-holds Inv-loop μ-loop
-loop-holds c = let s = c .before .before in (s .pre .3, carried-start _ _ _ _)
+add-n : tie.Need-add-n
+add-n c = omega (arith, fit c)
 
-cast-if1 : tie.Need-cast-if1 Inv-loop μ-loop
-cast-if1 c = search needs
+mul-n : tie.Need-mul-n
+mul-n c = omega (arith, fit c)
 
-nest-requires : tie.Need-nest-requires Inv-loop μ-loop
-nest-requires c κs =
-    let s = c .before .before .before .before .before in
-    let R = accepted _ (s .pre .0) in
-    (omega (arith, R .m-high), omega (arith, R .v-high))
+array-borrow-prefix-r0 : tie.Need-array-borrow-prefix-r0
+array-borrow-prefix-r0 c = fit c
 
-sub-word-requires : tie.Need-sub-word-requires Inv-loop μ-loop
-sub-word-requires c κs = search needs
+slice-aggregate-a : tie.Need-slice-aggregate-a
+slice-aggregate-a c = sym (size _ (fit (c .before)))
 
-add-product-requires : tie.Need-add-product-requires Inv-loop μ-loop
-add-product-requires c κs =
-    let l = c .before .before .before .before .before in
-    let s = l .before .before .before in
-    omega (arith, l .loop .inv .0, word-high _ (s .pre .0))
+array-borrow-prefix-r1 : tie.Need-array-borrow-prefix-r1
+array-borrow-prefix-r1 c = fit (c .before)
 
-add-k-2 : tie.Need-add-k-2 Inv-loop μ-loop
-add-k-2 c = search needs
+slice-aggregate-b : tie.Need-slice-aggregate-b
+slice-aggregate-b c = sym (size _ (fit (c .before .before)))
 
-loop-less : tie.Need-loop-less Inv-loop μ-loop
-loop-less c = search needs
+array-borrow-prefix-r2 : tie.Need-array-borrow-prefix-r2
+array-borrow-prefix-r2 c = fit (c .before .before)
 
-loop-again : tie.Need-loop-again Inv-loop μ-loop
-loop-again c =
-    let a = c .before .before in
-    let x = a .before .before in
-    let l = x .before .before .before .before in
-    let s = l .before .before .before in
-    (a .add-product .kept .0 ∙ l .loop .inv .0, carried-turn _ _ (s .args .i) _ (s .pre .0) _ (l .loop .k) _ _ _ _ (s .pre .2) (λ i. l .before .shared-slice-known .given i .fits) (s .pre .1) (x .before .before .if1 .taken) (x .sub-word .ensures) (x .before .nest .ensures) (l .loop .inv .0) (a .add-product .ensures) (l .loop .inv .1))
+slice-aggregate-c : tie.Need-slice-aggregate-c
+slice-aggregate-c c = sym (size _ (fit (c .before .before .before)))
 
-same-length : tie.Need-same-length Inv-loop μ-loop
-same-length c =
-    let l = c .before .before in
-    omega (arith, l .loop .inv .0, l .before .before .before .pre .3)
+take-later-requires : tie.Need-take-later-requires
+take-later-requires c κs =
+    let k = c .before .before .before .before .before .before in
+    let s = k .before .before .before in
+    let n = ((k .sub-word-bytes .result) + 15) / 8 * 8 in
+    let e = size n (fit k) in
+    (s .pre .0, s .pre .1, s .pre .2, omega (arith, e), omega (arith, e, fit k), refl, refl, zero-value n 520, zero-value n 520, zero-value n 520)
 
-returns : tie.Need-returns Inv-loop μ-loop
-returns c =
-    let l = c .before .before in
-    carried-done _ _ _ _ _ (l .loop .k) (c .if1 .left) (l .loop .inv .1)
+add-sums-requires : tie.Need-add-sums-requires
+add-sums-requires c κs =
+    let d = c .before .before .before .before .before .before .before .before .before in
+    let t = d .before in
+    let k = t .before .before .before .before .before .before .before in
+    let s = k .before .before .before in
+    let n = ((k .sub-word-bytes .result) + 15) / 8 * 8 in
+    let e = d .a .given ∙ size n (fit k) in
+    (s .pre .0, s .pre .1, s .pre .2, s .pre .3, omega (arith, e, s .pre .3, k .sub-word-bytes .ensures), sums-room (s .args .i) _ _ _ _ _ (drop (suc (s .args .i)) (wordsOf (s .args .p) (s .args .page .now))) (sym (d .a .given)) (t .take-later .ensures))
+
+same-length : tie.Need-same-length
+same-length c = search needs
+
+returns : tie.Need-returns
+returns c = search needs
 
 pub add-carried-spec : {M : Type 1} → statement M
 add-carried-spec =
     tie.close
     (tie.spec
-    Inv-loop
-    μ-loop
-    add-k
-    loop-holds
-    cast-if1
-    nest-requires
-    sub-word-requires
-    add-product-requires
-    add-k-2
-    loop-less
-    loop-again
+    sub-word-bytes-requires
+    add-n
+    mul-n
+    array-borrow-prefix-r0
+    slice-aggregate-a
+    array-borrow-prefix-r1
+    slice-aggregate-b
+    array-borrow-prefix-r2
+    slice-aggregate-c
+    take-later-requires
+    add-sums-requires
     same-length
     returns)

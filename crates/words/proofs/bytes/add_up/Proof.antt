@@ -3,9 +3,20 @@ use native.Mathlib.Omega.{arith}
 use lib.ListN.{length}
 use borrow.Author.Needs.{needs}
 use Rattle.polynomial.specs.Digits.{value}
-use Rattle.words.specs.Add.{all-law, up-law}
+use Rattle.words.specs.Add.{all-law, up-law, up-none}
 use Rattle.words.proofs.bytes.add_up.Statement.{statement}
 use Rattle.words.proofs.bytes.add_up.Tie as tie
+
+add-low-requires : tie.Need-add-low-requires
+add-low-requires c κs = search needs
+
+same-length : tie.Need-same-length
+same-length c = search needs
+
+returns : tie.Need-returns
+returns c =
+    let k = c .before .before in
+    up-none _ _ _ _ _ (k .before .before .if1 .taken) (k .add-low .ensures)
 
 add-o : tie.Need-add-o
 add-o c = search needs
@@ -16,18 +27,18 @@ add-o-2 c = search needs
 add-h : tie.Need-add-h
 add-h c = search needs
 
-mul-if1 : tie.Need-mul-if1
-mul-if1 c = search needs
+mul-if2 : tie.Need-mul-if2
+mul-if2 c = search needs
 
 add-rest-requires : tie.Need-add-rest-requires
 add-rest-requires c κs = search needs
 
-same-length : tie.Need-same-length
-same-length c = search needs
+same-length-2 : tie.Need-same-length-2
+same-length-2 c = search needs
 
-returns : tie.Need-returns
-returns c =
-    all-law _ _ _ _ (length (c .before .before .before .before .before .before .before .args .acc .now)) (omega arith) (c .before .before .add-rest .ensures)
+returns-2 : tie.Need-returns-2
+returns-2 c =
+    all-law _ _ _ _ (length (c .before .before .before .before .before .before .before .before .args .acc .now)) (omega arith) (c .before .before .add-rest .ensures)
 
 mul-from : tie.Need-mul-from
 mul-from c = search needs
@@ -71,25 +82,28 @@ mul-add-rest c = search needs
 add-rest-requires-2 : tie.Need-add-rest-requires-2
 add-rest-requires-2 c κs = search needs
 
-same-length-2 : tie.Need-same-length-2
-same-length-2 c = search needs
+same-length-3 : tie.Need-same-length-3
+same-length-3 c = search needs
 
-returns-2 : tie.Need-returns-2
-returns-2 c =
-    let a = c .before .before .before .before .before .before .before .before .before .before .before .before .before .before .before .before .before .before .args in
+returns-3 : tie.Need-returns-3
+returns-3 c =
+    let a = c .before .before .before .before .before .before .before .before .before .before .before .before .before .before .before .before .before .before .before .args in
     up-law (value 8 (a .x .now)) (a .s) _ _ _ _ (length (a .acc .now)) _ _ _ _ (omega arith) (omega arith) (c .before .before .before .before .before .before .before .before .before .before .add-words .ensures) (c .before .before .before .before .before .before .add-windows .ensures) (c .before .before .add-rest2 .ensures)
 
 pub add-up-spec : {M : Type 1} → statement M
 add-up-spec =
     tie.close
     (tie.spec
+    add-low-requires
+    same-length
+    returns
     add-o
     add-o-2
     add-h
-    mul-if1
+    mul-if2
     add-rest-requires
-    same-length
-    returns
+    same-length-2
+    returns-2
     mul-from
     sub-at
     words-from-requires
@@ -104,5 +118,5 @@ add-up-spec =
     add-end
     mul-add-rest
     add-rest-requires-2
-    same-length-2
-    returns-2)
+    same-length-3
+    returns-3)
