@@ -1,5 +1,5 @@
 /*
- * Pages of generalized integrated interleaved BCH (GII-BCH) codes: the C functions of libboard.a.
+ * Pages of generalized integrated interleaved BCH (GII-BCH) codes: the C functions of libgii_bch.a.
  *
  * Every function tests all that it is given and works everything out afresh: there is no state, no allocation and no
  * input or output. The functions may be called from several threads at once, on buffers of their own.

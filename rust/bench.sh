@@ -4,7 +4,7 @@
 set -euo pipefail
 cd "$(dirname "$0")"
 mkdir -p target
-(cd .. && rt staticlib board) > target/bench.log
+(cd .. && rt staticlib gii_bch) > target/bench.log
 cargo build --offline --quiet --release -p board
 target/release/bench target/figures.csv > target/calls.md
 ./leaves.sh > target/leaves.md

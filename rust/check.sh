@@ -1,10 +1,10 @@
 #!/usr/bin/env bash
 # All that surrounds the archive, in one run: the header in C and C++, the C program, the stack of the calls, the reference,
-# the comparison, and any calls. The archive is that of GII_ARCHIVE (a path from rust/), or ../target/staticlib/libboard.a; FUZZ sets the
+# the comparison, and any calls. The archive is that of GII_ARCHIVE (a path from rust/), or ../target/staticlib/libgii_bch.a; FUZZ sets the
 # number of any calls.
 set -euo pipefail
 cd "$(dirname "$0")"
-archive=${GII_ARCHIVE:-../target/staticlib/libboard.a}
+archive=${GII_ARCHIVE:-../target/staticlib/libgii_bch.a}
 mkdir -p target
 warnings=(-pedantic -Wall -Wextra -Werror)
 

@@ -1,7 +1,7 @@
 #!/usr/bin/env python3
-"""What crates/counter must write.
+"""What crates/gate_counter must write.
 
-    python3 tools/counter.py > crates/counter/stdout
+    python3 tools/counter.py > crates/gate_counter/stdout
 
 The answers come from tools/cases.py, another encoder written from document 01; the generators of the large field from
 tools/trial.py. Each misreading of the layout is worked out too, and must give something else in its case.

@@ -1,7 +1,7 @@
 #!/usr/bin/env python3
 """The input of crates/trial, and what it must write.
 
-    python3 tools/trial.py crates/trial
+    python3 tools/trial.py crates/gate_trial
 
 writes stdin and stdout there. The answers come from tools/cases.py, another encoder written from document 01. For the
 large fields two of its parts are done again here: generators by the product of x + alpha^s over the roots, and the

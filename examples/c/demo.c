@@ -2,8 +2,8 @@
  * The C functions at work: a page is written, judged, damaged, judged and read out, and every refusal is shown to leave
  * its buffers. Prints what it does; the first surprise ends it with status 1.
  *
- *   rt staticlib board
- *   cc -std=c99 -pedantic -Wall -Wextra -Werror -O2 -Iinclude examples/c/demo.c target/staticlib/libboard.a -o target/demo
+ *   rt staticlib gii_bch
+ *   cc -std=c99 -pedantic -Wall -Wextra -Werror -O2 -Iinclude examples/c/demo.c target/staticlib/libgii_bch.a -o target/demo
  *   target/demo
  */
 #include "gii_bch.h"

@@ -13,7 +13,7 @@ use lib.Seq.{take-at, drop-at, drop-drop}
 use Rattle.polynomial.specs.Clmul.{clmul, clmul-zero-l}
 use Rattle.polynomial.specs.Digits.{digits, length-digits, value, value-digits}
 use Rattle.polynomial.specs.Division.{Deg, deg, deg-is, deg-mul, deg-unique, lt-of-deg, quot, quot-is, rem, rem-lt, unity-deg}
-use Rattle.polynomial.specs.Lists.{All}
+use Rattle.polynomial.specs.Sums.{All}
 use Rattle.polynomial.specs.Multiple.{Multiple, deg-pos, rem-differ}
 use Rattle.polynomial.specs.Xor.{xor, xor-zero-r}
 use Rattle.field.specs.Elements.{syndrome}

@@ -9,7 +9,7 @@ use lib.ListN.{length, take, drop, length-append, length-take, length-drop, take
 use lib.Seq.{take-at, drop-at}
 use Rattle.polynomial.specs.Digits.{digits, digits-lt, digits-value, digits-xor, length-digits, value, value-digits}
 use Rattle.polynomial.specs.Division.{xor-lt}
-use Rattle.polynomial.specs.Lists.{add, add-append, all-append, all-drop, all-take}
+use Rattle.polynomial.specs.Sums.{add, add-append, all-append, all-drop, all-take}
 use Rattle.code.specs.Layout.{Bytes}
 use Rattle.code.specs.Lists.{join, split, sum}
 

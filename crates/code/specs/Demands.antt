@@ -13,7 +13,7 @@ use Rattle.polynomial.specs.Bits.{coefficient}
 use Rattle.polynomial.specs.Clmul.{clmul}
 use Rattle.polynomial.specs.Digits.{value}
 use Rattle.polynomial.specs.Division.{Deg, deg}
-use Rattle.polynomial.specs.Lists.{All, add}
+use Rattle.polynomial.specs.Sums.{All, add}
 use Rattle.polynomial.specs.Multiple.{Multiple}
 use Rattle.polynomial.specs.Xor.{xor}
 use Rattle.field.specs.Elements.{power, sumBelow, syndrome}

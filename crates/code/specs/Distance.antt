@@ -11,7 +11,7 @@ use native.Mathlib.Decide.{decLe}
 use native.Mathlib.Omega.{arith}
 use lib.ListN.{length}
 use Rattle.polynomial.specs.Division.{Deg, rem-xor, unity-deg, xor-lt}
-use Rattle.polynomial.specs.Lists.{All, add, length-add}
+use Rattle.polynomial.specs.Sums.{All, add, length-add}
 use Rattle.polynomial.specs.Xor.{xor, xor-eq-zero, xor-self}
 use Rattle.field.specs.Bch.{bch, weight}
 use Rattle.field.specs.Eval.{eval, eval-zero}

@@ -12,7 +12,7 @@ use lib.Pow.{pow-pos, pow-mono, shl-lt, shl-shr, shr-lt, split, low}
 use lib.ListN.{length}
 use Rattle.polynomial.specs.Clmul.{clmul, clmul-one-l, clmul-pow, clmul-xor-r, clmul-zero-l, clmul-zero-r}
 use Rattle.polynomial.specs.Division.{Deg, rem, rem-clmul-r, rem-lt, rem-md, rem-small, rem-xor, rem-zero, xor-lt, xor-shr}
-use Rattle.polynomial.specs.Lists.{All, add, add-nil}
+use Rattle.polynomial.specs.Sums.{All, add, add-nil}
 use Rattle.polynomial.specs.Xor.{xor, xor-eq-zero, xor-is, xor-self, xor-zero-l, xor-zero-r, xors}
 use Rattle.field.specs.Field.{Field2, zero-mul}
 use Rattle.code.specs.declared.Parameters.{Parameters}

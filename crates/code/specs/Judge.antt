@@ -10,7 +10,7 @@ use native.Mathlib.Omega.{arith}
 use lib.Dec.{T, eqb, ltb, eqb→eq, ltb→lt, lt→ltb, nltb→le, not-T, T-not}
 use lib.ListN.{length, getD}
 use Rattle.polynomial.specs.Division.{rem-zero-iff}
-use Rattle.polynomial.specs.Lists.{all-at, at-all}
+use Rattle.polynomial.specs.Sums.{all-at, at-all}
 use Rattle.polynomial.specs.Multiple.{Multiple}
 use Rattle.field.specs.Field.{zero-add}
 use Rattle.code.specs.declared.Parameters.{Parameters}

@@ -17,7 +17,7 @@ use Prim.Native.Nat.{ℕ, _+_, _-_, _*_, _/_, _%_, _<_}
 use lib.Dec.{T, eqb}
 use lib.ListN.{length, getD, replicate, take}
 use Rattle.polynomial.specs.Bits.{coefficient}
-use Rattle.polynomial.specs.Lists.{All}
+use Rattle.polynomial.specs.Sums.{All}
 use Rattle.code.specs.declared.Parameters.{Parameters}
 use Rattle.code.specs.Lists.{range, sum, split, join, within, addBelow, countBelow}
 use Rattle.code.specs.Parameters.{stored, subWordBytes}

@@ -8,7 +8,7 @@ use mathlib.Core.List.{List, [], _∷_}
 use Prim.Native.Nat.{ℕ, zero, suc, _+_, _-_, _*_, _^_, _≤_, _<_, zero-le}
 use native.Mathlib.Nat as Nat
 use native.Mathlib.Omega.{arith}
-use Rattle.polynomial.specs.Lists.{All}
+use Rattle.polynomial.specs.Sums.{All}
 use Rattle.polynomial.specs.Xor.{xor}
 use Rattle.field.specs.Eval.{eval, eval-one, eval-shift, eval-xor, eval-zero}
 use Rattle.field.specs.Field.{Field2, add-eq-zero, add-zero, mul-add, mul-eq-zero, mul-zero, pow, pow-mul, pow-suc, pow-zero, ring, zero-add, zero-mul}

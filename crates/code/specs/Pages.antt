@@ -12,7 +12,7 @@ use lib.Dec.{T, ltb, ltb→lt, lt→ltb, lit≤}
 use lib.ListN.{length, replicate, length-replicate, length-map}
 use lib.Pow.{pow-mono}
 use Rattle.polynomial.specs.Division.{xor-lt}
-use Rattle.polynomial.specs.Lists.{All, add, length-add}
+use Rattle.polynomial.specs.Sums.{All, add, length-add}
 use Rattle.field.specs.Field.{zero-mul}
 use Rattle.field.specs.Fields.{Known}
 use Rattle.field.specs.Irreducible.{both}

@@ -10,7 +10,7 @@ use lib.Pow.{shr-shr}
 use lib.Seq.{getD-take, getD-drop, getD-append-add}
 use Rattle.polynomial.specs.Bits.{coefficient}
 use Rattle.polynomial.specs.Digits.{digits, digits-coefficient, length-digits, value-coefficient}
-use Rattle.polynomial.specs.Lists.{all-drop, all-take}
+use Rattle.polynomial.specs.Sums.{all-drop, all-take}
 use Rattle.polynomial.specs.Xor.{xor}
 use Rattle.field.specs.Field.{add-assoc, add-zero, zero-add, zero-mul}
 use Rattle.code.specs.declared.Parameters.{Parameters}

@@ -11,7 +11,7 @@ use lib.Dec.{eqb}
 use lib.ListN.{length, getD}
 use Rattle.polynomial.specs.Bits.{coefficient, half-lt}
 use Rattle.polynomial.specs.Division.{shr-half, xor-lt, xor-shr}
-use Rattle.polynomial.specs.Lists.{All, add}
+use Rattle.polynomial.specs.Sums.{All, add}
 use Rattle.polynomial.specs.Xor.{bit-ind, xor, xor-odd}
 use Rattle.field.specs.Bch.{weight, weight-eq, weight-zero}
 use Rattle.field.specs.Field.{Field2, add-assoc}

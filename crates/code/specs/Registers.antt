@@ -15,7 +15,7 @@ use lib.Pow.{pow-pos, pow-mono, shr-shr, split}
 use Rattle.polynomial.specs.Clmul.{clmul-pow}
 use Rattle.polynomial.specs.Digits.{digits, value, value-digits}
 use Rattle.polynomial.specs.Division.{Deg, rem, rem-clmul-r, rem-lt, rem-xor, rem-zero}
-use Rattle.polynomial.specs.Lists.{All}
+use Rattle.polynomial.specs.Sums.{All}
 use Rattle.polynomial.specs.Xor.{xor, xor-is}
 use Rattle.field.specs.Field.{add-assoc, add-comm, add-zero, zero-add}
 use Rattle.code.specs.declared.Parameters.{Parameters}

@@ -5,7 +5,7 @@ use mathlib.Core.List.{List, [], _∷_}
 use Prim.Native.Nat.{ℕ, zero, suc, _+_, _-_, _*_, _/_, _^_}
 use Rattle.polynomial.specs.Clmul.{clmul, clmul-xor-r}
 use Rattle.polynomial.specs.Division.{rem}
-use Rattle.polynomial.specs.Lists.{add}
+use Rattle.polynomial.specs.Sums.{add}
 use Rattle.polynomial.specs.Xor.{xor, xors}
 use Rattle.field.specs.Fields.{fieldOf}
 use Rattle.generator.specs.Generator.{generator, width}

@@ -12,12 +12,12 @@ use lib.Pow.{pow-mono}
 use Rattle.polynomial.specs.Bits.{coefficient}
 use Rattle.polynomial.specs.Digits.{value}
 use Rattle.polynomial.specs.Division.{Deg, rem-lt}
-use Rattle.polynomial.specs.Lists.{All, add, at-all}
+use Rattle.polynomial.specs.Sums.{All, add, at-all}
 use Rattle.polynomial.specs.Multiple.{Multiple, multiple-same, rem-differ}
 use Rattle.field.specs.Elements.{power-full, power-order, syndrome, syndrome-iff, syndrome-lt, syndrome-sum}
 use Rattle.field.specs.Fields.{BinaryField, fieldOf, irreducible, polynomial-degree, polynomial-irreducible}
 use Rattle.generator.specs.Generator.{HasRoots, generator-cyclic, generator-is}
-use Rattle.generator.specs.Lists.{member}
+use Rattle.generator.specs.Distinct.{member}
 use Rattle.code.specs.declared.Parameters.{Parameters}
 use Rattle.code.specs.declared.Outcome.{Outcome}
 use Rattle.code.specs.declared.Verdict.{Verdict}

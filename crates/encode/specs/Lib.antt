@@ -1,4 +1,4 @@
 -- Sub-words from their blocks.
 pub mod Rule
-pub mod Word
+pub mod Encoding
 pub mod Page

@@ -10,7 +10,7 @@ use native.Mathlib.Omega.{arith}
 use lib.ListN.{length, getD, take, drop}
 use lib.Pow.{pow-mono}
 use Rattle.polynomial.specs.Digits.{digits, length-digits, value, value-digits}
-use Rattle.polynomial.specs.Lists.{all-at}
+use Rattle.polynomial.specs.Sums.{all-at}
 use Rattle.code.specs.declared.Parameters.{Parameters}
 use Rattle.code.specs.Accepted.{Rules, accepted}
 use Rattle.code.specs.Code.{carried, checkBits, checked, encode, encodeFrom, level}
@@ -20,8 +20,8 @@ use Rattle.code.specs.Parameters.{Accepted, len, subWordBytes}
 use Rattle.code.specs.Placement.{encode-at}
 use Rattle.layout.specs.Parts.{page-parts, word-at, word-room}
 use Rattle.layout.specs.Replaced.{replaced, replaced-after, replaced-length, replaced-part}
-use Rattle.nested.specs.Words.{bits-all, words-many}
-use Rattle.encode.specs.Word.{wordOf, written}
+use Rattle.nested.specs.Bounds.{bits-all, words-many}
+use Rattle.encode.specs.Encoding.{wordOf, written}
 
 pub record Encoded (p : Parameters) (blocks : List ℕ) (i : ℕ) (x : List ℕ) : Type 0 where
   pub exact : length x ≡ pageBytes p

@@ -12,7 +12,7 @@ use Rattle.code.specs.Layout.{dataBits}
 use Rattle.code.specs.Parameters.{Accepted, len, stored, subWordBytes}
 use Rattle.code.specs.Steps.{carried-zero, carried-suc}
 use Rattle.layout.specs.Sizes.{check-below}
-use Rattle.nested.specs.Words.{bits-all}
+use Rattle.nested.specs.Bounds.{bits-all}
 
 -- the sub-words from v on are of level 0, and take nothing from the later ones
 pub level-late : (p : Parameters) (i : ℕ) → p .v ≤ i → level p i ≡ 0

@@ -8,9 +8,9 @@ ghost use Rattle.code.specs.Code.{carried, checkBits, degree, level, remainder}
 ghost use Rattle.code.specs.Calls.{generators};
 ghost use Rattle.code.specs.Layout.{dataBits, pageBytes, pageOf, wordsOf};
 ghost use Rattle.code.specs.Parameters.{Accepted, subWordBytes};
-ghost use Rattle.level.specs.Ready.{Prepared};
+ghost use Rattle.levels.specs.Ready.{Prepared};
 ghost use Rattle.encode.specs.Page.{Encoded};
-ghost use Rattle.encode.specs.Word.{Ready, wordOf, written};
+ghost use Rattle.encode.specs.Encoding.{Ready, wordOf, written};
 use code::Parameters;
 
 // Block i's data s in their places, and what the later sub-words add to the rule of sub-word i.
@@ -18,7 +18,7 @@ fn ruled_into(acc: &mut [u8], p: Parameters, page: &[u8], i: usize, s: &[u8], bi
     requires { ⌜ Accepted p × (length (now page) ≡ pageBytes p) × (i < p .m) × (bits ≡ checkBits p i) × (length (now acc) ≡ subWordBytes p + 8) × (value 8 (now s) < 2 ^ dataBits p i) ⌝ }
     ensures { λ x. ⌜ value 8 (now (acc .exit)) ≡ xor (value 8 (now (s .entry)) * 2 ^ checkBits p i) (carried (level p i) i (drop (suc i) (wordsOf p (now (page .entry))))) ⌝ }
 {
-    words::bytes::copy_up(acc, s, bits);
+    kernels::bytes::copy_up(acc, s, bits);
     if p.v as usize <= i {
         return;
     }
@@ -30,7 +30,7 @@ fn check_of(r: &mut [u64], t: &[u64], acc: &[u8], p: Parameters, a: usize, w: us
     requires { ⌜ Accepted p × (a ≤ p .v) × (w ≡ degree p a) × Prepared p a (now t) × (length (now r) ≡ 13) × (length (now acc) < 1000) × (1 ≤ width) × (width ≤ 64) ⌝ }
     ensures { λ x. ⌜ value 64 (now (r .exit)) ≡ remainder p a (value 8 (now (acc .entry))) ⌝ }
 {
-    words::remainder::remainder_of(r, t, acc, 8 * acc.len(), width, 768 - w);
+    kernels::remainder::remainder_of(r, t, acc, 8 * acc.len(), width, 768 - w);
 }
 
 // The data s moved up over their check bits r.
@@ -38,8 +38,8 @@ fn put_word(part: &mut [u8], s: &[u8], bits: usize, r: &[u64])
     requires { ⌜ (bits ≤ 768) × (bits ≤ 8 * length (now part)) × (length (now part) < 1000) × (length (now r) ≡ 13) × (value 64 (now r) < 2 ^ bits) × (value 8 (now s) * 2 ^ bits < 2 ^ (8 * length (now part))) ⌝ }
     ensures { λ x. ⌜ value 8 (now (part .exit)) ≡ value 8 (now (s .entry)) * 2 ^ bits + value 64 (now (r .entry)) ⌝ }
 {
-    words::bytes::copy_up(part, s, bits);
-    words::bytes::store_low(part, r, bits);
+    kernels::bytes::copy_up(part, s, bits);
+    kernels::bytes::store_low(part, r, bits);
 }
 
 // Sub-word i of the page, from its block and the later sub-words; t is the table of its level, acc room to work in.
@@ -88,7 +88,7 @@ fn write_afresh(
 {
     let a = layout::level_of(p, i);
     let bits = layout::check_bits(p, w, i);
-    level::prepare(t, p, rows, a, bits);
+    levels::prepare(t, p, rows, a, bits);
     write_word(p, w, blocks, page, i, width, t, acc);
 }
 
@@ -108,7 +108,7 @@ fn write_later(
 {
     let v = p.v as usize;
     let bits = layout::check_bits(p, w, v);
-    level::prepare(t, p, rows, 0, bits);
+    levels::prepare(t, p, rows, 0, bits);
     let mut i = p.m as usize;
     while v < i {
         i -= 1;

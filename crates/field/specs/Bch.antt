@@ -10,7 +10,7 @@ use native.Mathlib.Omega.{arith}
 use lib.Arith.{lt-one}
 use lib.ListN.{length}
 use Rattle.polynomial.specs.Bits.{fold, fold-step, half-lt}
-use Rattle.polynomial.specs.Lists.{All}
+use Rattle.polynomial.specs.Sums.{All}
 use Rattle.polynomial.specs.Xor.{bit-ind, halves}
 use Rattle.field.specs.Eval.{eval, eval-eq, eval-zero, bit, bit0, bit1}
 use Rattle.field.specs.Field.{Field2, ring, add-self, mul-comm, mul-one, mul-add, mul-zero, add-eq-zero, mul-eq-zero, pow, pow-zero, pow-suc, mul-pow}

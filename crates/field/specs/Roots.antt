@@ -10,7 +10,7 @@ use Prim.Native.Nat.{suc, _≤_, _<_}
 use native.Mathlib.Nat.{not-suc-le-zero, lt-of-not-le}
 use native.Mathlib.Omega.{arith}
 use lib.ListN.{length}
-use Rattle.polynomial.specs.Lists.{All}
+use Rattle.polynomial.specs.Sums.{All}
 use Rattle.field.specs.Field.{Field2, ring, add-zero, mul-comm, add-eq-zero, mul-eq-zero}
 
 module _ (F : Field2) where

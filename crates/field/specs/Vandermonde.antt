@@ -8,7 +8,7 @@ use Prim.Native.Nat.{ℕ, zero, suc, _<_, suc-le-suc, zero-le}
 use native.Mathlib.Nat.{suc-inj, suc-ne-zero}
 use native.Mathlib.Omega.{arith}
 use lib.ListN.{length, length-map}
-use Rattle.polynomial.specs.Lists.{All}
+use Rattle.polynomial.specs.Sums.{All}
 use Rattle.field.specs.Field.{Field2, ring, add-eq-zero, mul-eq-zero, pow, pow-zero, pow-suc}
 
 module _ (F : Field2) where

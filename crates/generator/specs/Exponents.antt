@@ -12,7 +12,7 @@ use native.Mathlib.Nat.{le-refl, not-suc-le-zero, le-of-suc-le-suc, eq-or-lt-of-
 use native.Mathlib.Omega.{arith}
 use lib.ListN.{length}
 use lib.Pow.{pow-add}
-use Rattle.generator.specs.Lists.{Mem, Once, mem-left, mem-right, mem-join, distinct, distinct-once, mem-distinct, distinct-mem, once-join}
+use Rattle.generator.specs.Distinct.{Mem, Once, mem-left, mem-right, mem-join, distinct, distinct-once, mem-distinct, distinct-mem, once-join}
 
 -- ---- products modulo n
 pub mod-mul-l : (a b n : ℕ) → (a % n) * b % n ≡ a * b % n

@@ -21,7 +21,7 @@ use Rattle.field.specs.Field.{Field2, ring, add-self, mul-comm, mul-eq-zero, ad
 use Rattle.field.specs.Fields.{BinaryField}
 use Rattle.field.specs.Powers.{pow-mod, n-pos, eval-double}
 use Rattle.generator.specs.Exponents.{coset, coset-self, coset-ind, exponents, exponents-ind, exponents-pos, exponents-self, Orbit, orbit-coset, orbit-exponents, orbit-join, upto, upto-mem, length-upto}
-use Rattle.generator.specs.Lists.{Mem, mem-join, mem-map, map-mem}
+use Rattle.generator.specs.Distinct.{Mem, mem-join, mem-map, map-mem}
 use Rattle.generator.specs.Monic.{mval, product, product-root, length-product, at-most, product-bits, vanish, binary, eval-binary, deg-binary}
 use Rattle.generator.specs.Points.{points, points-apart, points-sq}
 

@@ -7,7 +7,7 @@ use Prim.Native.Nat.{ℕ, zero, suc, _*_, _%_, _^_, _≤_, _<_, zero-le, suc-le-
 use native.Mathlib.Nat.{le-refl, not-suc-le-zero, le-of-suc-le-suc, eq-or-lt-of-le, mod-eq-of-lt, mul-assoc, mul-comm, mod-mod}
 use native.Mathlib.Omega.{arith}
 use lib.Dec.{T, leb, leb→le, nleb→lt}
-use Rattle.generator.specs.Lists.{Mem}
+use Rattle.generator.specs.Distinct.{Mem}
 use Rattle.generator.specs.Exponents.{mod-mul-l, coset, coset-mem, coset-ind, exponents, exponents-mem, exponents-ind, exponents-self, orbit-coset, orbit-exponents, again, back-mem, nonzero}
 
 leadsTo : ℕ → ℕ → ℕ → Bool

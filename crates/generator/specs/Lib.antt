@@ -1,5 +1,5 @@
 -- The generators of binary BCH codes over GF(2^q).
-pub mod Lists
+pub mod Distinct
 pub mod Monic
 pub mod Exponents
 pub mod Points

@@ -14,12 +14,12 @@ use lib.Arith.{lt-one}
 use lib.ListN.{length, length-map}
 use Rattle.polynomial.specs.Bits.{half-lt}
 use Rattle.polynomial.specs.Division.{Deg, shr-half}
-use Rattle.polynomial.specs.Lists.{All}
+use Rattle.polynomial.specs.Sums.{All}
 use Rattle.polynomial.specs.Xor.{halves}
 use Rattle.field.specs.Eval.{eval, eval-eq, eval-zero, bit, bit0, bit1}
 use Rattle.field.specs.Field.{Field2, ring, add-eq-zero, mul-eq-zero}
 use Rattle.field.specs.Roots.{value, value-nil, value-cons, Zeros, Apart, roots, few-roots}
-use Rattle.generator.specs.Lists.{Mem, all-of, all-map, map-all, map-mem}
+use Rattle.generator.specs.Distinct.{Mem, all-of, all-map, map-all, map-mem}
 
 module _ (F : Field2) where
   open Field2 F using (K, 𝟘, 𝟙, _⊕_, _⊗_, decEq, one≢zero)

@@ -12,7 +12,7 @@ use Rattle.field.specs.Powers.{n-pos}
 use Rattle.generator.specs.Exponents.{row, values, coset, coset-ind, exponents, exponents-mem, exponents-mono, Orbit, orbit-coset, orbit-exponents, orbit-join, row-mem, length-row}
 use Rattle.generator.specs.Generator.{withRoots, withRoots-same, withRoots-join, generator, generator-eq, generator-deg, width, width-eq, length-le, minimal, minimal-eq, minimal-deg}
 use Rattle.generator.specs.Leaders.{leader, leader-cases, leader-new, other-old, next-ind}
-use Rattle.generator.specs.Lists.{Mem, distinct, mem-left, mem-right, mem-join}
+use Rattle.generator.specs.Distinct.{Mem, distinct, mem-left, mem-right, mem-join}
 
 module _ (B : BinaryField) where
   open BinaryField B using (q, n, size)

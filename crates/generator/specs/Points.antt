@@ -10,7 +10,7 @@ use Rattle.field.specs.Fields.{BinaryField}
 use Rattle.field.specs.Powers.{pow-mod, pow-inj}
 use Rattle.field.specs.Roots.{Apart}
 use Rattle.generator.specs.Exponents.{Orbit}
-use Rattle.generator.specs.Lists.{Mem, Once, all-of, mem-map, map-mem}
+use Rattle.generator.specs.Distinct.{Mem, Once, all-of, mem-map, map-mem}
 
 module _ (B : BinaryField) where
   open BinaryField B using (field, n, α)

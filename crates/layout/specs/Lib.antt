@@ -5,4 +5,4 @@ pub mod Parts
 pub mod Clear
 pub mod Chains
 pub mod Replaced
-pub mod Words
+pub mod SubWords

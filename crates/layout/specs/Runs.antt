@@ -12,7 +12,7 @@ use lib.Pow.{pow-add}
 use lib.Seq.{drop-drop, getD-drop, getD-take, length-take-le, take-length}
 use borrow.Author.Tests.{ltb-true, ltb-false}
 use Rattle.polynomial.specs.Digits.{digits, value}
-use Rattle.polynomial.specs.Lists.{all-drop, all-take, at-all}
+use Rattle.polynomial.specs.Sums.{all-drop, all-take, at-all}
 use Rattle.code.specs.Layout.{Bytes}
 use Rattle.code.specs.Lists.{join, split, sum}
 

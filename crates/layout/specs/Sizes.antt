@@ -12,7 +12,7 @@ use lib.Pow.{shl-exact}
 use Rattle.field.specs.Fields.{BinaryField, Known, fieldOf, fieldOf-exponent}
 use Rattle.generator.specs.Exponents.{exponents, exponents-mem}
 use Rattle.generator.specs.Generator.{width, width-eq}
-use Rattle.generator.specs.Lists.{Mem}
+use Rattle.generator.specs.Distinct.{Mem}
 use Rattle.code.specs.declared.Parameters.{Parameters}
 use Rattle.code.specs.Accepted.{Rules, accepted, rising, width-below}
 use Rattle.code.specs.Code.{checkBits, degree, level}

@@ -16,9 +16,9 @@ use Rattle.code.specs.Layout.{pageBytes, wordsOf}
 use Rattle.code.specs.Parameters.{Accepted, len, subWordBytes}
 use Rattle.layout.specs.Parts.{word-at}
 use Rattle.sheet.specs.Nesting.{N-lt}
-use Rattle.words.specs.Value.{Bounded, value-cons, value-nil}
+use Rattle.kernels.specs.Value.{Bounded, value-cons, value-nil}
 use Rattle.nested.specs.Horner.{Over, Sums, combine-lt, sums-next, sums-start, weighted}
-use Rattle.nested.specs.Words.{bits-all, word-lt, words-many}
+use Rattle.nested.specs.Bounds.{bits-all, word-lt, words-many}
 
 drop-none : (k : ℕ) (l : List ℕ) → length l ≤ k → drop k l ≡ []
 drop-none zero [] h = refl

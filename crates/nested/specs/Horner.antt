@@ -15,9 +15,9 @@ use Rattle.polynomial.specs.Xor.{xor, xors, xor-assoc, xor-comm, xor-zero-l}
 use Rattle.code.specs.Code.{N, combine}
 use Rattle.code.specs.Encode.{N-diagonal}
 use Rattle.code.specs.Steps.{N-first, N-step, combine-cons, combine-nil}
-use Rattle.words.specs.Raise.{xor-low}
-use Rattle.words.specs.Shift.{xor-shl}
-use Rattle.words.specs.Word.{mod-mul-mod}
+use Rattle.kernels.specs.Raise.{xor-low}
+use Rattle.kernels.specs.Shift.{xor-shl}
+use Rattle.kernels.specs.Word.{mod-mul-mod}
 use Rattle.nested.specs.Product.{clmul-lt}
 
 abbrev pub weighted : ℕ → ℕ → List ℕ → ℕ

@@ -21,9 +21,9 @@ use Rattle.code.specs.Parameters.{Accepted, len, nestedBytes, stored, subWordBy
 use Rattle.code.specs.Steps.{nested-eq}
 use Rattle.layout.specs.Parts.{word-at}
 use Rattle.layout.specs.Sizes.{stored-high}
-use Rattle.words.specs.Value.{Bounded, bounded-all, bounded-take, take-mod}
+use Rattle.kernels.specs.Value.{Bounded, bounded-all, bounded-take, take-mod}
 use Rattle.nested.specs.Sums.{Combined, combined-start, combined-turn, combined-done}
-use Rattle.nested.specs.Words.{bits-all, len-low, word-lt, words-many}
+use Rattle.nested.specs.Bounds.{bits-all, len-low, word-lt, words-many}
 
 pub record Turned (p : Parameters) (l : ℕ) (page : List ℕ) (y i : ℕ) : Type 0 where
   pub low : y < 2 ^ (len p + 15)

@@ -30,14 +30,14 @@ pub fn nested_into(acc: &mut [u8], p: Parameters, page: &[u8], l: usize)
 {
     let n = stored_of(p);
     let first = sub_word(p, page, 0);
-    words::bytes::copy_up(acc, first, 0);
+    kernels::bytes::copy_up(acc, first, 0);
     let mut i: usize = 1;
     while i < p.m as usize {
         let x = sub_word(p, page, i);
-        words::bytes::add_up(acc, x, l * i);
+        kernels::bytes::add_up(acc, x, l * i);
         i += 1;
     }
-    words::bytes::fold_cyclic(acc, n);
+    kernels::bytes::fold_cyclic(acc, n);
 }
 
 // b and c are raised over a: of sums up to i = 1 only b, at i = 0 neither.
@@ -48,11 +48,11 @@ fn raise_over(a: &[u8], b: &mut [u8], c: &mut [u8], i: usize)
     if i == 0 {
         return;
     }
-    words::bytes::raise(b, a, 1);
+    kernels::bytes::raise(b, a, 1);
     if i == 1 {
         return;
     }
-    words::bytes::raise(c, b, 2);
+    kernels::bytes::raise(c, b, 2);
 }
 
 // The sub-words after i, the last first, are taken into sums by Horner's rule; a, b and c are 0 before.
@@ -64,7 +64,7 @@ fn take_later(a: &mut [u8], b: &mut [u8], c: &mut [u8], p: Parameters, page: &[u
     while i + 1 < k {
         k -= 1;
         let x = sub_word(p, page, k);
-        words::bytes::add_up(a, x, 0);
+        kernels::bytes::add_up(a, x, 0);
         raise_over(a, b, c, i);
     }
 }
@@ -74,15 +74,15 @@ fn add_sums(acc: &mut [u8], p: Parameters, page: &[u8], i: usize, a: &[u8], b: &
     requires { ⌜ Accepted p × (length (now page) ≡ pageBytes p) × (i < p .v) × (length (now acc) ≡ subWordBytes p + 8) × (length (now acc) ≤ length (now a)) × Sums i (8 * length (now a)) (drop (suc i) (wordsOf p (now page))) (value 8 (now a)) (value 8 (now b)) (value 8 (now c)) ⌝ }
     ensures { λ x. ⌜ value 8 (now (acc .exit)) ≡ xor (value 8 (now (acc .entry))) (combine (λ k. N k i) (suc i) (drop (suc i) (wordsOf p (now (page .entry))))) ⌝ }
 {
-    words::bytes::add_up(acc, a, 0);
+    kernels::bytes::add_up(acc, a, 0);
     if i == 0 {
         return;
     }
-    words::bytes::add_up(acc, b, 1);
+    kernels::bytes::add_up(acc, b, 1);
     if i == 1 {
         return;
     }
-    words::bytes::add_up(acc, c, 2);
+    kernels::bytes::add_up(acc, c, 2);
 }
 
 // What the sub-words after i add to the rule of sub-word i is added into acc: N(k, i) × sub-word k, k above i.

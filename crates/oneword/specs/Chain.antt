@@ -9,7 +9,7 @@ use native.Mathlib.Nat as Nat
 use lib.Dec.{T, eqb, leb, eqb→eq}
 use lib.ListN.{length, getD}
 use borrow.Author.Tests.{le-leb, lt-leb, leb-false, eq-eqb, ne-eqb}
-use Rattle.polynomial.specs.Lists.{at-all}
+use Rattle.polynomial.specs.Sums.{at-all}
 use Rattle.code.specs.declared.Outcome.{Outcome}
 use Rattle.code.specs.declared.Parameters.{Parameters}
 use Rattle.code.specs.Accepted.{none}

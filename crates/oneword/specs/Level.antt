@@ -13,7 +13,7 @@ use Rattle.field.specs.Eval.{eval, eval-rem}
 use Rattle.field.specs.Field.{pow}
 use Rattle.field.specs.Fields.{fieldOf}
 use Rattle.generator.specs.Generator.{generator-roots}
-use Rattle.words.specs.Row.{D}
+use Rattle.kernels.specs.Row.{D}
 use Rattle.code.specs.declared.Parameters.{Parameters}
 use Rattle.code.specs.Accepted.{Rules, accepted, rising}
 use Rattle.code.specs.Buffers.{length-syndromes, syndromes-at}
@@ -22,7 +22,7 @@ use Rattle.code.specs.Lists.{range}
 use Rattle.code.specs.Parameters.{Accepted, strength}
 use Rattle.code.specs.Steps.{gen-eq}
 use Rattle.element.specs.Lent.{size-least}
-use Rattle.level.specs.Ready.{RowOf, degree-of, degree-most}
+use Rattle.levels.specs.Ready.{RowOf, degree-of, degree-most}
 use Rattle.oneword.specs.Row.{remainder-room}
 
 module _ (p : Parameters) (A : Accepted p) (a : ℕ) (h : a ≤ p .v) where

@@ -1,6 +1,6 @@
 -- The calls on one word of a page.
 pub mod Chain
-pub mod Word
+pub mod WordBytes
 pub mod Row
 pub mod Quotient
 pub mod Level

@@ -14,11 +14,11 @@ use Rattle.polynomial.specs.Digits.{value}
 use Rattle.polynomial.specs.Division.{Deg, deg, deg-is, deg-mul, lt-of-shr, quot, quot-is, rem, rem-lt, unique, xor-shr}
 use Rattle.polynomial.specs.Multiple.{deg-pos}
 use Rattle.polynomial.specs.Xor.{xor, xors, xor-dbl, xor-eq-zero, xor-half, xor-self, xor-zero-r, dbl-half}
-use Rattle.words.specs.Build.{times-high, times-low}
-use Rattle.words.specs.Remainder.{deg-up}
-use Rattle.words.specs.Row.{D, D-is}
-use Rattle.words.specs.Shift.{xor-shl}
-use Rattle.words.specs.Value.{Bounded}
+use Rattle.kernels.specs.Build.{times-high, times-low}
+use Rattle.kernels.specs.Remainder.{deg-up}
+use Rattle.kernels.specs.Row.{D, D-is}
+use Rattle.kernels.specs.Shift.{xor-shl}
+use Rattle.kernels.specs.Value.{Bounded}
 
 -- ---- the quotient is the only one
 module _ (g k : ℕ) (d : Deg g k) where

@@ -8,9 +8,9 @@ use native.Mathlib.Omega.{arith}
 use lib.Arith.{lt-one}
 use lib.Pow.{pow-mono}
 use Rattle.polynomial.specs.Division.{Deg, rem, rem-lt, lt-of-deg}
-use Rattle.words.specs.Move.{align-deg}
-use Rattle.words.specs.Row.{D, D-is}
-use Rattle.words.specs.Table.{Table, MovedUp, moved-up, RemainderBy}
+use Rattle.kernels.specs.Move.{align-deg}
+use Rattle.kernels.specs.Row.{D, D-is}
+use Rattle.kernels.specs.Table.{Table, MovedUp, moved-up, RemainderBy}
 
 -- the row and its degree as they are defined, of a polynomial below x^n
 pub row-as : (g w x k c n m r : ℕ) → g ≡ x → w ≡ k → n ≡ m → c < 2 ^ m → r ≡ rem g w (c % 2 ^ n) → r ≡ rem x k c

@@ -7,13 +7,13 @@ use native.Mathlib.Omega.{arith}
 use Rattle.polynomial.specs.Digits.{value}
 use Rattle.polynomial.specs.Division.{Deg, deg, quot, rem}
 use Rattle.polynomial.specs.Multiple.{multiple-deg}
-use Rattle.words.specs.Row.{D}
+use Rattle.kernels.specs.Row.{D}
 use Rattle.code.specs.declared.Parameters.{Parameters}
 use Rattle.code.specs.Accepted.{Rules, accepted}
 use Rattle.code.specs.Buffers.{divides-up, divisor-deg, divisor-degree}
 use Rattle.code.specs.Code.{gen, degree, divisor}
 use Rattle.code.specs.Parameters.{Accepted}
-use Rattle.level.specs.Ready.{RowOf, degree-of, degree-most}
+use Rattle.levels.specs.Ready.{RowOf, degree-of, degree-most}
 use Rattle.oneword.specs.Row.{remainder-room}
 
 module _ (p : Parameters) (A : Accepted p) (l : ℕ) where

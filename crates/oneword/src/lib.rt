@@ -50,7 +50,7 @@ pub fn nested_word(p: Parameters, page: &[u8], l: usize, out: &mut [u8]) -> Outc
         return Outcome::Refused(k);
     }
     let s = nested_of(p, page, l);
-    words::bytes::copy_down(out, &s, 0);
+    kernels::bytes::copy_down(out, &s, 0);
     Outcome::Done
 }
 

@@ -8,7 +8,7 @@ ghost use Rattle.code.specs.Calls.{nestedOf};
 ghost use Rattle.code.specs.Code.{degree, divisor, remainder, syndromes};
 ghost use Rattle.code.specs.Layout.{IsPage};
 ghost use Rattle.code.specs.Parameters.{Accepted, stored, strength};
-ghost use Rattle.oneword.specs.Word.{WordIs};
+ghost use Rattle.oneword.specs.WordBytes.{WordIs};
 use crate::divide::quotient;
 use crate::divide::remainder_by;
 use code::Parameters;
@@ -29,8 +29,8 @@ fn level_remainder(r: &mut [u64], p: Parameters, a: usize, s: &[u8]) -> usize
     requires { ⌜ Accepted p × (a ≤ p .v) × (length (now r) ≡ 13) × (value 8 (now s) < 2 ^ stored p) ⌝ }
     ensures { λ w. ⌜ (w ≡ degree p a) × (value 64 (now (r .exit)) ≡ remainder p a (value 8 (now (s .entry)))) ⌝ }
 {
-    let rows = generators::rows(p);
-    let w = level::degree_at(p, rows, a) as usize;
+    let rows = levels::rows(p);
+    let w = levels::degree_at(p, rows, a) as usize;
     let g = rows[a];
     let n = layout::stored_of(p);
     remainder_by(r, &g, w, s, n);
@@ -44,7 +44,7 @@ pub fn remainder_into(out: &mut [u8], p: Parameters, a: usize, s: &[u8])
 {
     let mut r = [0u64; 13];
     level_remainder(&mut r, p, a, s);
-    words::bytes::store(out, &r);
+    kernels::bytes::store(out, &r);
 }
 
 // The syndromes S_1 to S_(2 t_a) of s, from its remainder by level a's generator, which has those roots.
@@ -64,10 +64,10 @@ fn divisor_row(d: &mut [u64], p: Parameters, l: usize) -> usize
     requires { ⌜ Accepted p × (length (now d) ≡ 13) ⌝ }
     ensures { λ w. ⌜ (w ≡ deg (divisor p l)) × (value 64 (now (d .exit)) ≡ divisor p l) ⌝ }
 {
-    let rows = generators::rows(p);
+    let rows = levels::rows(p);
     let a = layout::level_of(p, l);
-    let u = level::degree_at(p, rows, a) as usize;
-    let w = level::degree_at(p, rows, 0) as usize;
+    let u = levels::degree_at(p, rows, a) as usize;
+    let w = levels::degree_at(p, rows, 0) as usize;
     let f = rows[a];
     let g = rows[0];
     quotient(d, &f, u, &g, w);
@@ -84,5 +84,5 @@ pub fn short_into(out: &mut [u8], p: Parameters, l: usize, s: &[u8])
     let n = layout::stored_of(p);
     let mut r = [0u64; 13];
     remainder_by(&mut r, &d, w, s, n);
-    words::bytes::store(out, &r);
+    kernels::bytes::store(out, &r);
 }

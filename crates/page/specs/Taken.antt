@@ -9,7 +9,7 @@ use native.Mathlib.Omega.{arith}
 use lib.ListN.{length, getD, take, drop}
 use lib.Pow.{pow-mono, shr-lt}
 use Rattle.polynomial.specs.Digits.{value, digits, digits-value, length-digits}
-use Rattle.polynomial.specs.Lists.{at-all}
+use Rattle.polynomial.specs.Sums.{at-all}
 use Rattle.code.specs.declared.Parameters.{Parameters}
 use Rattle.code.specs.Accepted.{accepted}
 use Rattle.code.specs.Code.{checkBits, dataWords}

@@ -29,7 +29,7 @@ fn take_block(p: Parameters, w: &[u32], page: &[u8], blocks: &mut [u8], i: usize
     let stop = at + size;
     let bits = layout::check_bits(p, w, i);
     let s = &page[start..end];
-    words::bytes::copy_down(&mut blocks[at..stop], s, bits);
+    kernels::bytes::copy_down(&mut blocks[at..stop], s, bits);
 }
 
 // The blocks of the page.
@@ -53,7 +53,7 @@ pub fn judge(p: Parameters, page: &[u8]) -> Verdict
     if k != 0 {
         return Verdict::Refused(k);
     }
-    verdict::verdict_of(p, page)
+    judge::verdict_of(p, page)
 }
 
 // Read out, for accepted parameters.
@@ -61,8 +61,8 @@ fn read_by(p: Parameters, page: &[u8], blocks: &mut [u8]) -> Verdict
     requires { ⌜ Accepted p ⌝ }
     ensures { λ r. ⌜ ReadOut p (now (page .entry)) (now (blocks .entry)) (now (blocks .exit)) r ⌝ }
 {
-    let rows = generators::rows(p);
-    let w = level::degrees(p, rows);
+    let rows = levels::rows(p);
+    let w = levels::degrees(p, rows);
     let k = layout::read_lengths(p, &w, page.len(), blocks.len());
     if k != 0 {
         return Verdict::Refused(k);
@@ -71,7 +71,7 @@ fn read_by(p: Parameters, page: &[u8], blocks: &mut [u8]) -> Verdict
         return Verdict::Refused(8);
     }
     take_blocks(p, &w, page, blocks);
-    verdict::verdict_of(p, page)
+    judge::verdict_of(p, page)
 }
 
 // The blocks of the page, member or not, and judge's answer.
@@ -90,8 +90,8 @@ fn write_by(p: Parameters, width: u32, blocks: &[u8], page: &mut [u8]) -> Outcom
     requires { ⌜ Accepted p ⌝ }
     ensures { λ r. ⌜ Written p width (now (blocks .entry)) (now (page .entry)) (now (page .exit)) r ⌝ }
 {
-    let rows = generators::rows(p);
-    let w = level::degrees(p, rows);
+    let rows = levels::rows(p);
+    let w = levels::degrees(p, rows);
     let k = layout::write_lengths(p, &w, width, blocks.len(), page.len());
     if k != 0 {
         return Outcome::Refused(k);

@@ -12,7 +12,7 @@ use lib.ListN.{length, getD}
 use lib.Pow.{pow-pos, shr-lt, shr-shr, high, low, split, field, mod-mod-pow}
 use Rattle.polynomial.specs.Bits.{coefficient}
 use Rattle.polynomial.specs.Division.{xor-shr}
-use Rattle.polynomial.specs.Lists.{All, add}
+use Rattle.polynomial.specs.Sums.{All, add}
 use Rattle.polynomial.specs.Xor.{xor}
 
 -- Σ d_k 2^(w k)

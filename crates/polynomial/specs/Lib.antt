@@ -1,5 +1,5 @@
 -- Polynomials over GF(2) as numbers: bit k of a number is the coefficient of x^k.
-pub mod Lists
+pub mod Sums
 pub mod Bits
 pub mod Xor
 pub mod Clmul

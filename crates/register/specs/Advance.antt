@@ -9,15 +9,15 @@ use lib.Pow.{pow-mono, shl-lt}
 use lib.Seq.{ext-getD, getD-take, length-take-le, take-all}
 use Rattle.polynomial.specs.Digits.{value, value-at, digits, digits-at, length-digits}
 use Rattle.polynomial.specs.Xor.{xor}
-use Rattle.words.specs.Row.{D, D-is}
-use Rattle.words.specs.Shift.{xor-shl}
-use Rattle.words.specs.Sum.{Copied}
-use Rattle.words.specs.Table.{Reduced, lowered}
-use Rattle.words.specs.Value.{Bounded, bounded-all}
+use Rattle.kernels.specs.Row.{D, D-is}
+use Rattle.kernels.specs.Shift.{xor-shl}
+use Rattle.kernels.specs.Sum.{Copied}
+use Rattle.kernels.specs.Table.{Reduced, lowered}
+use Rattle.kernels.specs.Value.{Bounded, bounded-all}
 use Rattle.code.specs.declared.Parameters.{Parameters}
 use Rattle.code.specs.Code.{degree, remainder}
 use Rattle.code.specs.Parameters.{Accepted}
-use Rattle.level.specs.Ready.{Prepared, degree-low, degree-most, table-remainder}
+use Rattle.levels.specs.Ready.{Prepared, degree-low, degree-most, table-remainder}
 
 -- the k lower words of a number
 take-digits : (w k : ℕ) (l : List ℕ) → Bounded w l → k ≤ length l → take k l ≡ digits w k (value w l)

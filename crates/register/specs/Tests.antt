@@ -12,7 +12,7 @@ use lib.Seq.{take-all}
 use borrow.Author.Tests.{lt-ltb, le-ltb, le-leb, lt-leb, eq-eqb, ne-eqb, ltb-true, ltb-false, leb-true, eqb-true, not-true}
 use Rattle.polynomial.specs.Digits.{value}
 use Rattle.polynomial.specs.Division.{lt-of-shr}
-use Rattle.words.specs.Value.{Bounded, value-lt, drop-shr, digit-at}
+use Rattle.kernels.specs.Value.{Bounded, value-lt, drop-shr, digit-at}
 use Rattle.code.specs.declared.Parameters.{Parameters}
 use Rattle.code.specs.Parameters.{Accepted, full}
 use Rattle.code.specs.Refusals.{badWidth}

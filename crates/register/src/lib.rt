@@ -78,7 +78,7 @@ fn remainder_fits(words: &[u64], w: usize) -> bool
     if words[k] >> (w % 64) != 0 {
         return false;
     }
-    words::row::is_zero(&words[k + 1..])
+    kernels::row::is_zero(&words[k + 1..])
 }
 
 // ---- refusals
@@ -148,11 +148,11 @@ fn advance(
     ensures { λ r. ⌜ r ≡ digits 64 12 (remainder p a (xor (value 64 f * 2 ^ l) u)) ⌝ }
 {
     let mut t = [0u64; 3072];
-    level::prepare(&mut t, p, rows, a, w);
+    levels::prepare(&mut t, p, rows, a, w);
     let mut r = [0u64; 13];
-    words::row::align(&mut r, &f, w);
-    words::remainder::step(&mut r, &t, u, l, 768 - w);
-    words::row::lower(&mut r, 768 - w);
+    kernels::row::align(&mut r, &f, w);
+    kernels::remainder::step(&mut r, &t, u, l, 768 - w);
+    kernels::row::lower(&mut r, 768 - w);
     low_words(&r)
 }
 
@@ -204,8 +204,8 @@ impl Register {
             return self.refused(k);
         }
         let a = level as usize;
-        let rows = generators::rows(p);
-        let w = level::degree_at(p, rows, a) as usize;
+        let rows = levels::rows(p);
+        let w = levels::degree_at(p, rows, a) as usize;
         let f = self.remainder;
         let mut next = self;
         next.count = count + width as u64;

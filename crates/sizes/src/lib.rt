@@ -34,8 +34,8 @@ pub fn degree(p: Parameters, level: u32) -> Size
     if k != 0 {
         return Size::Refused(k);
     }
-    let rows = generators::rows(p);
-    let w = level::degree_at(p, rows, level as usize);
+    let rows = levels::rows(p);
+    let w = levels::degree_at(p, rows, level as usize);
     Size::Is(w as usize)
 }
 
@@ -59,8 +59,8 @@ pub fn data_bytes(p: Parameters) -> Size
     if k != 0 {
         return Size::Refused(k);
     }
-    let rows = generators::rows(p);
-    let w = level::degrees(p, rows);
+    let rows = levels::rows(p);
+    let w = levels::degrees(p, rows);
     let n = layout::data_bytes(p, &w);
     Size::Is(n)
 }

@@ -13,7 +13,7 @@ use lib.Pow.{pow-pos}
 use lib.Seq.{getD-take}
 use Rattle.polynomial.specs.Bits.{coefficient}
 use Rattle.polynomial.specs.Digits.{value, value-coefficient}
-use Rattle.polynomial.specs.Lists.{at-all}
+use Rattle.polynomial.specs.Sums.{at-all}
 use Rattle.polynomial.specs.Xor.{xor, xor-is}
 use Rattle.field.specs.Elements.{power, sumBelow, sumBelow-zero, sumBelow-suc, syndrome, syndrome-sum}
 use Rattle.field.specs.Fields.{Known}

@@ -16,7 +16,7 @@ use Rattle.field.specs.Irreducible.{both}
 use Rattle.field.specs.Powers.{n-pos}
 use Rattle.generator.specs.Exponents.{exponents, exponents-mono, orbit-exponents, row, values}
 use Rattle.generator.specs.Generator.{length-le, width, width-eq}
-use Rattle.generator.specs.Lists.{distinct}
+use Rattle.generator.specs.Distinct.{distinct}
 use Rattle.code.specs.declared.Parameters.{Parameters}
 use Rattle.code.specs.Accepted.{Rules, accepted, none, rising}
 use Rattle.code.specs.Code.{checkBits, degree, level}

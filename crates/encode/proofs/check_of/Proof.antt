@@ -5,9 +5,9 @@ use native.Mathlib.Omega.{arith}
 use Prim.Native.Nat.{ℕ, _*_, _-_, _%_, _^_}
 use lib.ListN.{length}
 use Rattle.polynomial.specs.Digits.{value}
-use Rattle.words.specs.Value.{value-lt}
+use Rattle.kernels.specs.Value.{value-lt}
 use Rattle.code.specs.Code.{remainder}
-use Rattle.level.specs.Ready.{degree-low, degree-most, prepared-up, table-remainder}
+use Rattle.levels.specs.Ready.{degree-low, degree-most, prepared-up, table-remainder}
 use Rattle.encode.proofs.check_of.Statement.{statement}
 use Rattle.encode.proofs.check_of.Tie as tie
 

@@ -6,7 +6,7 @@ use Prim.Native.Nat.{zero-le}
 use lib.ListN.{length}
 use Rattle.code.specs.Accepted.{accepted}
 use Rattle.encode.specs.Page.{Going, encoded-all, going-next}
-use Rattle.encode.specs.Word.{fits}
+use Rattle.encode.specs.Encoding.{fits}
 use Rattle.encode.proofs.write_earlier.Statement.{statement}
 use Rattle.encode.proofs.write_earlier.Tie as tie
 

@@ -7,7 +7,7 @@ use Rattle.code.specs.Accepted.{accepted}
 use Rattle.code.specs.Code.{degree}
 use Rattle.encode.specs.Page.{Going, encoded-start, going-done, going-next}
 use Rattle.encode.specs.Rule.{level-late}
-use Rattle.encode.specs.Word.{fits}
+use Rattle.encode.specs.Encoding.{fits}
 use Rattle.encode.proofs.write_later.Statement.{statement}
 use Rattle.encode.proofs.write_later.Tie as tie
 

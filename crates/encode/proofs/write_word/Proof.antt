@@ -11,9 +11,9 @@ use Rattle.code.specs.Parameters.{subWordBytes}
 use Rattle.layout.specs.Parts.{block-room, bytes-high}
 use Rattle.layout.specs.Replaced.{put-is, middle-bytes, part-length}
 use Rattle.layout.specs.Sizes.{level-low, word-high}
-use Rattle.layout.specs.Words.{part-room, part-small}
-use Rattle.level.specs.Ready.{degree-most}
-use Rattle.encode.specs.Word.{block-lt, block-part, check-fits, check-room, data-fits, word-made}
+use Rattle.layout.specs.SubWords.{part-room, part-small}
+use Rattle.levels.specs.Ready.{degree-most}
+use Rattle.encode.specs.Encoding.{block-lt, block-part, check-fits, check-room, data-fits, word-made}
 use Rattle.encode.proofs.write_word.Statement.{statement}
 use Rattle.encode.proofs.write_word.Tie as tie
 

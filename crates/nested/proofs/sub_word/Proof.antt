@@ -2,7 +2,7 @@ use borrow.Author.Needs.{needs}
 use native.Mathlib.Omega.{arith}
 use Rattle.layout.specs.Parts.{word-room}
 use Rattle.layout.specs.Sizes.{page-high}
-use Rattle.layout.specs.Words.{part-same}
+use Rattle.layout.specs.SubWords.{part-same}
 use Rattle.nested.proofs.sub_word.Statement.{statement}
 use Rattle.nested.proofs.sub_word.Tie as tie
 

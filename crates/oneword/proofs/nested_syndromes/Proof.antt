@@ -8,7 +8,7 @@ use Rattle.code.specs.Parameters.{strength}
 use Rattle.code.specs.Refusals.{nestedSyndromesRefusal}
 use Rattle.layout.specs.Sizes.{level-low}
 use Rattle.oneword.specs.Chain.{Unrefused, word-alike, word-zero, word-refused, word-done}
-use Rattle.oneword.specs.Word.{nested-syndromes-made}
+use Rattle.oneword.specs.WordBytes.{nested-syndromes-made}
 use Rattle.oneword.proofs.nested_syndromes.Statement.{statement}
 use Rattle.oneword.proofs.nested_syndromes.Tie as tie
 

@@ -6,7 +6,7 @@ use Rattle.code.specs.Parameters.{nestedBytes}
 use Rattle.code.specs.Refusals.{nestedRefusal}
 use Rattle.layout.specs.Sizes.{word-high}
 use Rattle.oneword.specs.Chain.{Unrefused, word-alike, word-zero, word-refused, word-done}
-use Rattle.oneword.specs.Word.{bytes-exact, nested-made}
+use Rattle.oneword.specs.WordBytes.{bytes-exact, nested-made}
 use Rattle.oneword.proofs.nested_word.Statement.{statement}
 use Rattle.oneword.proofs.nested_word.Tie as tie
 

@@ -8,7 +8,7 @@ use Rattle.polynomial.specs.Digits.{length-digits}
 use Rattle.code.specs.Layout.{wordsOf}
 use Rattle.layout.specs.Parts.{block-room, bytes-high}
 use Rattle.layout.specs.Sizes.{check-below, stored-high, data-high}
-use Rattle.layout.specs.Words.{is-page, part-room, part-small, part-lt, part-word}
+use Rattle.layout.specs.SubWords.{is-page, part-room, part-small, part-lt, part-word}
 use Rattle.layout.specs.Replaced.{put-is, middle-bytes, part-length}
 use Rattle.page.specs.Taken.{sizeOf, moved-down}
 use Rattle.page.proofs.take_block.Statement.{statement}

@@ -6,7 +6,7 @@ use lib.ListN.{getD}
 use Rattle.polynomial.specs.Digits.{digits}
 use Rattle.code.specs.Code.{checkBits}
 use Rattle.code.specs.Layout.{wordsOf}
-use Rattle.layout.specs.Words.{is-page}
+use Rattle.layout.specs.SubWords.{is-page}
 use Rattle.page.specs.Taken.{Taken, taken-start, taken-next, taken-all, sizeOf}
 use Rattle.page.proofs.take_blocks.Statement.{statement}
 use Rattle.page.proofs.take_blocks.Tie as tie

@@ -3,7 +3,7 @@ use mathlib.Core.Path.{ap, _∙_}
 use Prim.Native.Nat.{_-_, _^_}
 use native.Mathlib.Nat.{mul-mod-left}
 use Rattle.polynomial.specs.Digits.{digits, value}
-use Rattle.level.specs.Ready.{prepared-up}
+use Rattle.levels.specs.Ready.{prepared-up}
 use Rattle.register.specs.Advance.{below-next, place-lt, degree-fits, aligned-lt, stepped}
 use Rattle.register.proofs.advance.Statement.{statement}
 use Rattle.register.proofs.advance.Tie as tie

@@ -2,7 +2,7 @@
 use borrow.Author.Needs.{needs}
 use mathlib.Core.Path.{_∙_}
 use native.Mathlib.Omega.{arith}
-use Rattle.words.specs.Row.{top-zero}
+use Rattle.kernels.specs.Row.{top-zero}
 use Rattle.oneword.specs.Quotient.{step-low, step-high}
 use Rattle.oneword.proofs.divide.divide_step.Statement.{statement}
 use Rattle.oneword.proofs.divide.divide_step.Tie as tie

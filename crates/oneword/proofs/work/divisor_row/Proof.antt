@@ -4,7 +4,7 @@ use mathlib.Core.List.{[]}
 use Prim.Native.Nat.{zero-le, _≤_}
 use lib.ListN.{getD}
 use Rattle.layout.specs.Sizes.{level-low}
-use Rattle.level.specs.Ready.{RowOf, row-at, level-lt}
+use Rattle.levels.specs.Ready.{RowOf, row-at, level-lt}
 use Rattle.oneword.specs.Level.{row-deg, row-most}
 use Rattle.oneword.specs.Short.{degree-rises, divisor-is, divisor-width}
 use Rattle.oneword.proofs.work.divisor_row.Statement.{statement}

@@ -2,7 +2,7 @@ use borrow.Author.Needs.{needs}
 use mathlib.Core.Path.{sym}
 use native.Mathlib.Omega.{arith}
 use Rattle.layout.specs.Sizes.{stored-high}
-use Rattle.level.specs.Ready.{row-at, level-lt}
+use Rattle.levels.specs.Ready.{row-at, level-lt}
 use Rattle.oneword.specs.Level.{row-deg, row-most}
 use Rattle.oneword.specs.Row.{row-as}
 use Rattle.oneword.proofs.work.level_remainder.Statement.{statement}

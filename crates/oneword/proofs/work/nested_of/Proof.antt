@@ -3,7 +3,7 @@ use mathlib.Core.Path.{sym, ap, _∙_}
 use native.Mathlib.Omega.{arith}
 use Prim.Native.Nat.{ℕ, _+_, _≤_}
 use Rattle.layout.specs.Sizes.{word-high}
-use Rattle.oneword.specs.Word.{part-length, nested-is}
+use Rattle.oneword.specs.WordBytes.{part-length, nested-is}
 use Rattle.oneword.proofs.work.nested_of.Statement.{statement}
 use Rattle.oneword.proofs.work.nested_of.Tie as tie
 

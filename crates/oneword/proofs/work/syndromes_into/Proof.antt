@@ -2,7 +2,7 @@ use borrow.Author.Needs.{needs}
 use native.Mathlib.Omega.{arith}
 use Rattle.code.specs.Accepted.{accepted}
 use Rattle.element.specs.Lent.{tables-of}
-use Rattle.level.specs.Ready.{degree-most}
+use Rattle.levels.specs.Ready.{degree-most}
 use Rattle.oneword.specs.Level.{level-lt, many-few, syndromes-made}
 use Rattle.oneword.proofs.work.syndromes_into.Statement.{statement}
 use Rattle.oneword.proofs.work.syndromes_into.Tie as tie

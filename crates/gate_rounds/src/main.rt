@@ -1,0 +1,285 @@
+// Pages written at several widths, judged, read out and written again. Each equality is expected as the program runs, and proved of every run:
+// from what the calls promise and the theorems on the promises, and nothing of how a page is made.
+ghost use mathlib.Core.Path.{_≡_};
+ghost use Prim.Native.Nat.{_≤_};
+ghost use lib.ListN.{length};
+ghost use Rattle.polynomial.specs.Sums.{add};
+ghost use Rattle.code.specs.Calls.{Written, judgeAnswer, outcomeNumber};
+ghost use Rattle.code.specs.Layout.{Fits, IsPage, dataBytes, pageBytes};
+ghost use Rattle.code.specs.Parameters.{Accepted};
+ghost use Rattle.code.specs.Refused.{BlocksBuffer, PageBuffer, Width};
+ghost use Rattle.code.specs.declared.Outcome.{Outcome};
+ghost use Rattle.code.specs.declared.Verdict.{Verdict};
+ghost use Rattle.gate_rounds.specs.Answers.{isDone, isMember};
+use code::Outcome;
+use code::Parameters;
+use code::Verdict;
+
+// ---- answers
+
+fn number(r: Outcome) -> u8
+    ensures { λ n. ⌜ n ≡ outcomeNumber r ⌝ }
+{
+    if let Outcome::Refused(k) = r {
+        return k;
+    }
+    0
+}
+
+fn done(r: Outcome) -> bool
+    ensures { λ b. ⌜ b ≡ isDone r ⌝ }
+{
+    if let Outcome::Done = r {
+        return true;
+    }
+    false
+}
+
+fn member(r: Verdict) -> bool
+    ensures { λ b. ⌜ b ≡ isMember r ⌝ }
+{
+    match r {
+        Verdict::Member => true,
+        Verdict::SubWord(_) => false,
+        Verdict::NestedWord(_) => false,
+        Verdict::Refused(_) => false,
+    }
+}
+
+// The sum of two lists of bytes, byte by byte.
+fn add_bytes(a: &[u8], b: &[u8], sum: &mut [u8])
+    requires { ⌜ (length (now a) ≡ length (now b)) × (length (now sum) ≡ length (now a)) ⌝ }
+    ensures { λ x. ⌜ now (sum .exit) ≡ add (now (a .entry)) (now (b .entry)) ⌝ }
+{
+    let mut i: usize = 0;
+    while i < sum.len() {
+        sum[i] = a[i] ^ b[i];
+        i += 1;
+    }
+}
+
+// ---- the laws, for all accepted parameters
+
+// At two widths: the same answer, refused or not, and if it is done the same page. The blocks are any bytes.
+fn two_widths(p: Parameters, l: u32, m: u32, blocks: &[u8], one: &mut [u8], two: &mut [u8])
+    requires { ⌜ Accepted p × Width l × Width m × (length (now one) ≡ length (now two)) ⌝ }
+{
+    let r = page::write(p, l, blocks, one);
+    let s = page::write(p, m, blocks, two);
+    check::expect(number(r) == number(s));
+    if !done(r) {
+        return;
+    }
+    check::expect(check::same(one, two));
+}
+
+// Writes blocks that fit.
+fn put(p: Parameters, l: u32, blocks: &[u8], page: &mut [u8])
+    requires { ⌜ Accepted p × Width l × Fits p (now blocks) × PageBuffer p (now page) ⌝ }
+    ensures { λ x. ⌜ Written p l (now (blocks .entry)) (now (page .entry)) (now (page .exit)) Outcome.Done ⌝ }
+{
+    let r = page::write(p, l, blocks, page);
+    check::expect(done(r));
+}
+
+// Blocks that fit: their page is a member; read out, it gives the blocks; these written at another width give the page.
+fn round(
+    p: Parameters,
+    l: u32,
+    m: u32,
+    blocks: &[u8],
+    page: &mut [u8],
+    back: &mut [u8],
+    again: &mut [u8],
+)
+    requires { ⌜ Accepted p × Width l × Width m × Fits p (now blocks) × PageBuffer p (now page) × BlocksBuffer p (now back) × PageBuffer p (now again) ⌝ }
+    ensures { λ x. ⌜ IsPage p (now (page .exit)) × (judgeAnswer p (now (page .exit)) ≡ Verdict.Member) ⌝ }
+{
+    put(p, l, blocks, page);
+    let j = page::judge(p, page);
+    check::expect(member(j));
+    let r = page::read_out(p, page, back);
+    check::expect(member(r));
+    check::expect(check::same(back, blocks));
+    put(p, m, back, again);
+    check::expect(check::same(again, page));
+}
+
+// The page of a sum is the sum of the pages.
+fn sums(
+    p: Parameters,
+    k: u32,
+    l: u32,
+    m: u32,
+    a: &[u8],
+    b: &[u8],
+    ab: &mut [u8],
+    x: &mut [u8],
+    y: &mut [u8],
+    xy: &mut [u8],
+    sum: &mut [u8],
+)
+    requires { ⌜ Accepted p × Width k × Width l × Width m × Fits p (now a) × Fits p (now b) × BlocksBuffer p (now ab) × PageBuffer p (now x) × PageBuffer p (now y) × PageBuffer p (now xy) × PageBuffer p (now sum) ⌝ }
+{
+    add_bytes(a, b, ab);
+    put(p, k, a, x);
+    put(p, l, b, y);
+    let r = page::write(p, m, ab, xy);
+    check::expect(done(r));
+    add_bytes(x, y, sum);
+    check::expect(check::same(xy, sum));
+}
+
+// Any page is a member exactly when its blocks, written, give the page: by judge's answer and by read out's. Is it one?
+fn rewrites(p: Parameters, l: u32, page: &[u8], blocks: &mut [u8], again: &mut [u8]) -> bool
+    requires { ⌜ Accepted p × Width l × IsPage p (now page) × BlocksBuffer p (now blocks) × PageBuffer p (now again) ⌝ }
+    ensures { λ b. ⌜ b ≡ isMember (judgeAnswer p (now (page .entry))) ⌝ }
+{
+    let j = page::judge(p, page);
+    let r = page::read_out(p, page, blocks);
+    let w = page::write(p, l, blocks, again);
+    check::expect(done(w));
+    let same = check::same(again, page);
+    let judged = member(j);
+    check::expect(judged == same);
+    check::expect(member(r) == same);
+    judged
+}
+
+// ---- the laws on blocks a and b that fit, at some widths
+
+// Blocks a and b, and other bytes, refused alike where they do not fit.
+fn widths(p: Parameters, a: &[u8], b: &[u8], other: &[u8], x: &mut [u8], y: &mut [u8])
+    requires { ⌜ Accepted p × (length (now x) ≡ length (now y)) ⌝ }
+{
+    two_widths(p, 1, 64, a, x, y);
+    two_widths(p, 7, 8, b, x, y);
+    two_widths(p, 63, 2, other, x, y);
+}
+
+// The page of a is a member by rewriting too.
+fn round_again(p: Parameters, a: &[u8], back: &mut [u8], x: &mut [u8], y: &mut [u8])
+    requires { ⌜ Accepted p × Fits p (now a) × BlocksBuffer p (now back) × PageBuffer p (now x) × PageBuffer p (now y) ⌝ }
+{
+    round(p, 8, 33, a, x, back, y);
+    check::expect(rewrites(p, 5, x, back, y));
+}
+
+fn on(
+    p: Parameters,
+    a: &[u8],
+    b: &[u8],
+    ab: &mut [u8],
+    x: &mut [u8],
+    y: &mut [u8],
+    z: &mut [u8],
+    sum: &mut [u8],
+)
+    requires { ⌜ Accepted p × Fits p (now a) × Fits p (now b) × BlocksBuffer p (now ab) × PageBuffer p (now x) × PageBuffer p (now y) × PageBuffer p (now z) × PageBuffer p (now sum) ⌝ }
+{
+    widths(p, a, b, sum, x, y);
+    round_again(p, a, ab, x, y);
+    sums(p, 1, 31, 64, a, b, ab, x, y, z, sum);
+}
+
+// With rooms for blocks and pages of up to 1024 bytes; a page has n.
+fn on_rooms(p: Parameters, a: &[u8], b: &[u8], n: usize)
+    requires { ⌜ Accepted p × Fits p (now a) × Fits p (now b) × (n ≡ pageBytes p) × (length (now a) ≤ 1024) × (n ≤ 1024) ⌝ }
+{
+    let k = a.len();
+    let mut ab = [0x00u8; 1024];
+    let mut x = [0x00u8; 1024];
+    let mut y = [0xffu8; 1024];
+    let mut z = [0x55u8; 1024];
+    let mut sum = [0xaau8; 1024];
+    on(
+        p,
+        a,
+        b,
+        &mut ab[..k],
+        &mut x[..n],
+        &mut y[..n],
+        &mut z[..n],
+        &mut sum[..n],
+    );
+}
+
+// And on any page x, whose blocks take k bytes. Is it a member?
+fn rewrites_rooms(p: Parameters, x: &[u8], k: usize) -> bool
+    requires { ⌜ Accepted p × IsPage p (now x) × (k ≡ dataBytes p) × (k ≤ 1024) × (length (now x) ≤ 1024) ⌝ }
+    ensures { λ r. ⌜ r ≡ isMember (judgeAnswer p (now (x .entry))) ⌝ }
+{
+    let n = x.len();
+    let mut blocks = [0x5au8; 1024];
+    let mut again = [0xa5u8; 1024];
+    rewrites(p, 64, x, &mut blocks[..k], &mut again[..n])
+}
+
+// The laws on blocks a and b and on any page x. Is it a member?
+fn holds(p: Parameters, a: &[u8], b: &[u8], x: &[u8]) -> bool
+    requires { ⌜ Accepted p × Fits p (now a) × Fits p (now b) × IsPage p (now x) × (length (now a) ≤ 1024) × (length (now x) ≤ 1024) ⌝ }
+    ensures { λ r. ⌜ r ≡ isMember (judgeAnswer p (now (x .entry))) ⌝ }
+{
+    on_rooms(p, a, b, x.len());
+    rewrites_rooms(p, x, a.len())
+}
+
+fn main() {
+    // document 01's sheet A, with its member FF 7F FF 7F and its page of a failing nested word
+    let p = Parameters {
+        q: 4,
+        m: 2,
+        v: 1,
+        t0: 1,
+        t1: 2,
+        t2: 0,
+        t3: 0,
+    };
+    let a = [0x01u8, 0x01, 0x00];
+    let b = [0x7fu8, 0xff, 0x07];
+    let x = [0xffu8, 0x7f, 0xff, 0x7f];
+    let y = [0x13u8, 0x00, 0x00, 0x00];
+    check::expect(holds(p, &a, &b, &x));
+    check::expect(!holds(p, &a, &b, &y));
+    // sheet B, with its page 26 00 35 00 13 00 damaged
+    let p = Parameters {
+        q: 4,
+        m: 3,
+        v: 2,
+        t0: 1,
+        t1: 2,
+        t2: 3,
+        t3: 0,
+    };
+    let a = [0x00u8, 0x00, 0x01, 0x00];
+    let b = [0x1fu8, 0x7f, 0xff, 0x07];
+    let x = [0x26u8, 0x00, 0x35, 0x00, 0x13, 0x01];
+    check::expect(!holds(p, &a, &b, &x));
+    // q = 8 and q = 12
+    let p = Parameters {
+        q: 8,
+        m: 2,
+        v: 1,
+        t0: 1,
+        t1: 2,
+        t2: 0,
+        t3: 0,
+    };
+    let a = [0x05u8; 61];
+    let b = [0x63u8; 61];
+    let x = [0x01u8; 64];
+    check::expect(!holds(p, &a, &b, &x));
+    let p = Parameters {
+        q: 12,
+        m: 2,
+        v: 1,
+        t0: 1,
+        t1: 2,
+        t2: 0,
+        t3: 0,
+    };
+    let a = [0x05u8; 1020];
+    let b = [0x03u8; 1020];
+    let x = [0x01u8; 1024];
+    check::expect(!holds(p, &a, &b, &x));
+}

@@ -1,0 +1,365 @@
+// Runs the calls on records from standard input and writes what they give.
+//   record   32 bytes: call, q, m, v, t0 to t3, index, second index, width, 0, page length, buffer length (two bytes each, low first), u, count (eight bytes each);
+//            then the page's bytes, for a writing the blocks', for a feeding the register's 96
+//   answer   the refusal's number or 0, then what the call gives, and the lent buffer whole; of a verdict 0, 32 or 64, then the word's index
+use code::Nesting;
+use code::Outcome;
+use code::Parameters;
+use code::Tested;
+use code::Verdict;
+use element::Computed;
+use element::Element;
+use element::Field;
+use element::Made;
+use libc::STDOUT_FILENO;
+use register::Fed;
+use register::Register;
+
+// ---- numbers, low byte first
+
+fn pair(low: u8, high: u8) -> usize {
+    low as usize + 256 * high as usize
+}
+
+fn number(b: &[u8]) -> u64 {
+    let mut n: u64 = 0;
+    let mut k: usize = b.len();
+    while k > 0 {
+        k -= 1;
+        n = n << 8 | b[k] as u64;
+    }
+    n
+}
+
+fn put(n: u8) {
+    let out = [n];
+    io::write_all(STDOUT_FILENO, &out);
+}
+
+fn put_number(n: u64) {
+    let mut rest = n;
+    let mut k: u32 = 0;
+    while k < 8 {
+        put((rest % 256) as u8);
+        rest = rest / 256;
+        k += 1;
+    }
+}
+
+fn put_numbers(r: &[u64]) {
+    let mut k: usize = 0;
+    while k < r.len() {
+        put_number(r[k]);
+        k += 1;
+    }
+}
+
+fn put_outcome(r: Outcome) {
+    if let Outcome::Refused(k) = r {
+        put(k);
+        return;
+    }
+    put(0);
+}
+
+// ---- the calls
+
+fn test(p: Parameters) {
+    let tested = sheet::test(p);
+    let Tested::Accepted {
+        q,
+        m,
+        v,
+        t0,
+        t1,
+        t2,
+        t3,
+    } = tested
+    else {
+        if let Tested::Refused(k) = tested {
+            put(k);
+        }
+        return;
+    };
+    put(0);
+    let r = [
+        q as u64,
+        m as u64,
+        v as u64,
+        t0 as u64,
+        t1 as u64,
+        t2 as u64,
+        t3 as u64,
+    ];
+    put_numbers(&r);
+}
+
+fn nesting(i: usize, l: usize) {
+    let n = sheet::nesting_coefficient(i, l);
+    let Nesting::Coefficient(c) = n else {
+        if let Nesting::Refused(k) = n {
+            put(k);
+        }
+        return;
+    };
+    put(0);
+    put_number(c);
+}
+
+fn generator_rows(p: Parameters) {
+    let mut refusal: u8 = 0;
+    let rows = levels::generators_of(p, &mut refusal);
+    put(refusal);
+    let mut k: usize = 0;
+    while k < 4 {
+        let r = rows[k];
+        put_numbers(&r);
+        k += 1;
+    }
+}
+
+fn put_computed(r: Computed) {
+    let Computed::Element(e) = r else {
+        if let Computed::Refused(k) = r {
+            put(k);
+        }
+        return;
+    };
+    put(0);
+    put_number(e.0 as u64);
+}
+
+fn elements(q: u32, a: u16, b: u16, k: u32) {
+    let made = Field::make(q);
+    let Made::Field(f) = made else {
+        if let Made::Refused(n) = made {
+            put(n);
+        }
+        return;
+    };
+    put_computed(f.sum(Element(a), Element(b)));
+    put_computed(f.product(Element(a), Element(b)));
+    put_computed(f.power(Element(a), k));
+    put_computed(f.alpha_power(k));
+}
+
+fn words_of(b: &[u8]) -> [u64; 12] {
+    let mut r = [0u64; 12];
+    if b.len() < 96 {
+        return r;
+    }
+    let mut k: usize = 0;
+    while k < 12 {
+        let at = 8 * k;
+        let end = at + 8;
+        r[k] = number(&b[at..end]);
+        k += 1;
+    }
+    r
+}
+
+fn put_fed(f: Fed) {
+    let outcome = f.outcome;
+    put_outcome(outcome);
+    let r = f.register;
+    put_number(r.level as u64);
+    put_number(r.count);
+    let words = r.remainder;
+    put_numbers(&words);
+}
+
+fn open(p: Parameters, level: u32) {
+    let f = Register::open(p, level);
+    put_fed(f);
+}
+
+fn feed(p: Parameters, level: u32, count: u64, rest: &[u8], width: u32, u: u64) {
+    let r = Register {
+        level: level,
+        count: count,
+        remainder: words_of(rest),
+    };
+    let f = r.feed(p, width, u);
+    put_fed(f);
+}
+
+fn put_pairs(list: &[u16]) {
+    let mut k: usize = 0;
+    while k < list.len() {
+        let n = list[k];
+        put((n % 256) as u8);
+        put((n / 256 % 256) as u8);
+        k += 1;
+    }
+}
+
+fn put_bytes(r: Outcome, out: &[u8]) {
+    put_outcome(r);
+    io::write_all(STDOUT_FILENO, out);
+}
+
+fn put_list(r: Outcome, list: &[u16]) {
+    put_outcome(r);
+    put_pairs(list);
+}
+
+fn put_verdict(r: Verdict) {
+    if let Verdict::Refused(k) = r {
+        put(k);
+        return;
+    }
+    if let Verdict::SubWord(i) = r {
+        put(32);
+        put_number(i as u64);
+        return;
+    }
+    if let Verdict::NestedWord(l) = r {
+        put(64);
+        put_number(l as u64);
+        return;
+    }
+    put(0);
+}
+
+fn judge(p: Parameters, page: &[u8]) {
+    let r = page::judge(p, page);
+    put_verdict(r);
+}
+
+// The calls that fill lent bytes.
+fn bytes_call(call: u8, p: Parameters, page: &[u8], i: usize, width: u32, out: &mut [u8]) {
+    if call == 6 {
+        let r = oneword::remainder(p, page, i, out);
+        put_bytes(r, out);
+        return;
+    }
+    if call == 7 {
+        let r = oneword::short_remainder(p, page, i, out);
+        put_bytes(r, out);
+        return;
+    }
+    if call == 8 {
+        let r = oneword::nested_word(p, page, i, out);
+        put_bytes(r, out);
+        return;
+    }
+    if call == 12 {
+        let r = page::read_out(p, page, out);
+        put_verdict(r);
+        io::write_all(STDOUT_FILENO, out);
+        return;
+    }
+    let r = page::write(p, width, page, out);
+    put_bytes(r, out);
+}
+
+// Those that give syndromes.
+fn list_call(call: u8, p: Parameters, page: &[u8], i: usize, list: &mut [u16]) {
+    if call == 9 {
+        let r = oneword::syndromes(p, page, i, list);
+        put_list(r, list);
+        return;
+    }
+    let r = oneword::nested_syndromes(p, page, i, list);
+    put_list(r, list);
+}
+
+fn lend_bytes(call: u8, p: Parameters, page: &[u8], i: usize, width: u32, size: usize) {
+    let mut room = [165u8; 8192];
+    if size <= 8192 {
+        bytes_call(call, p, page, i, width, &mut room[..size]);
+    }
+}
+
+fn lend_list(call: u8, p: Parameters, page: &[u8], i: usize, size: usize) {
+    let mut room = [42405u16; 256];
+    if size <= 256 {
+        list_call(call, p, page, i, &mut room[..size]);
+    }
+}
+
+// Byte k of a record, 0 past its end.
+fn byte(h: &[u8], k: usize) -> u32 {
+    if k < h.len() {
+        return h[k] as u32;
+    }
+    0
+}
+
+fn run(h: &[u8], page: &[u8], size: usize) {
+    if h.len() < 32 {
+        return;
+    }
+    let p = Parameters {
+        q: byte(h, 1),
+        m: byte(h, 2),
+        v: byte(h, 3),
+        t0: byte(h, 4),
+        t1: byte(h, 5),
+        t2: byte(h, 6),
+        t3: byte(h, 7),
+    };
+    let i = byte(h, 8) as usize;
+    let l = byte(h, 9) as usize;
+    let width = byte(h, 10);
+    let u = number(&h[16..24]);
+    let count = number(&h[24..32]);
+    let call = h[0];
+    if call == 0 {
+        test(p);
+    }
+    if call == 1 {
+        nesting(i, l);
+    }
+    if call == 2 {
+        generator_rows(p);
+    }
+    if call == 3 {
+        elements(p.q, (u % 65536) as u16, (count % 65536) as u16, width);
+    }
+    if call == 4 {
+        open(p, byte(h, 8));
+    }
+    if call == 5 {
+        feed(p, byte(h, 8), count, page, width, u);
+    }
+    if 6 <= call && call <= 8 || 12 <= call && call <= 13 {
+        lend_bytes(call, p, page, i, width, size);
+    }
+    if 9 <= call && call <= 10 {
+        lend_list(call, p, page, i, size);
+    }
+    if call == 11 {
+        judge(p, page);
+    }
+}
+
+// The page of a record is read, and its call is made.
+fn rest(head: &[u8], page: &mut [u8], size: usize) {
+    io::read_full(0, page);
+    run(head, page, size);
+}
+
+// One record; is there another?
+fn record() -> bool {
+    let mut head = [0u8; 32];
+    let got = io::read_full(0, &mut head);
+    if got < 32 {
+        return false;
+    }
+    let mut room = [0u8; 8192];
+    let k = pair(head[12], head[13]);
+    let size = pair(head[14], head[15]);
+    if k > 8192 {
+        return false;
+    }
+    rest(&head, &mut room[..k], size);
+    true
+}
+
+fn main() {
+    let mut turns: u64 = u64::MAX;
+    while turns > 0 && record() {
+        turns -= 1;
+    }
+}

@@ -1,0 +1,151 @@
+// The C calls: the numbers of a sheet one by one, buffers as byte slices, the answer as a number. Each tests everything.
+ghost use mathlib.Core.Path.{_≡_};
+ghost use Rattle.code.specs.Calls.{WrittenC, judgeNumber, ReadOutC, SyndromesMadeC, NestedSyndromesMadeC};
+ghost use Rattle.gii_bch.specs.Sheet.{sheetOf};
+use crate::answers::outcome_number;
+use crate::answers::verdict_number;
+use crate::syndromes::syndrome_bytes;
+use code::Parameters;
+
+mod answers; // answers as numbers
+mod list; // 16-bit numbers in bytes
+mod syndromes; // syndromes in bytes
+
+// The page of the blocks, `width` coefficients a step.
+#[no_mangle]
+pub extern "C" fn gii_write(
+    q: u32,
+    m: u32,
+    v: u32,
+    t0: u32,
+    t1: u32,
+    t2: u32,
+    t3: u32,
+    width: u32,
+    blocks: &[u8],
+    page: &mut [u8],
+) -> u32
+    ensures { λ r. ⌜ WrittenC (sheetOf q m v t0 t1 t2 t3) width (now (blocks .entry)) (now (page .entry)) (now (page .exit)) r ⌝ }
+{
+    let p = Parameters {
+        q,
+        m,
+        v,
+        t0,
+        t1,
+        t2,
+        t3,
+    };
+    let r = page::write(p, width, blocks, page);
+    outcome_number(r)
+}
+
+// Is the page a member, and if not, which word fails first?
+#[no_mangle]
+pub extern "C" fn gii_judge(
+    q: u32,
+    m: u32,
+    v: u32,
+    t0: u32,
+    t1: u32,
+    t2: u32,
+    t3: u32,
+    page: &[u8],
+) -> u32
+    ensures { λ r. ⌜ r ≡ judgeNumber (sheetOf q m v t0 t1 t2 t3) (now (page .entry)) ⌝ }
+{
+    let p = Parameters {
+        q,
+        m,
+        v,
+        t0,
+        t1,
+        t2,
+        t3,
+    };
+    verdict_number(page::judge(p, page))
+}
+
+// The blocks of the page, member or not, and judge's answer.
+#[no_mangle]
+pub extern "C" fn gii_read_out(
+    q: u32,
+    m: u32,
+    v: u32,
+    t0: u32,
+    t1: u32,
+    t2: u32,
+    t3: u32,
+    page: &[u8],
+    blocks: &mut [u8],
+) -> u32
+    ensures { λ r. ⌜ ReadOutC (sheetOf q m v t0 t1 t2 t3) (now (page .entry)) (now (blocks .entry)) (now (blocks .exit)) r ⌝ }
+{
+    let p = Parameters {
+        q,
+        m,
+        v,
+        t0,
+        t1,
+        t2,
+        t3,
+    };
+    let r = page::read_out(p, page, blocks);
+    verdict_number(r)
+}
+
+// The syndromes S_1 to S_(2 t_0) of sub-word `index`.
+#[no_mangle]
+pub extern "C" fn gii_syndromes(
+    q: u32,
+    m: u32,
+    v: u32,
+    t0: u32,
+    t1: u32,
+    t2: u32,
+    t3: u32,
+    page: &[u8],
+    index: u32,
+    list: &mut [u8],
+) -> u32
+    ensures { λ r. ⌜ SyndromesMadeC (sheetOf q m v t0 t1 t2 t3) (now (page .entry)) index (now (list .entry)) (now (list .exit)) r ⌝ }
+{
+    let p = Parameters {
+        q,
+        m,
+        v,
+        t0,
+        t1,
+        t2,
+        t3,
+    };
+    syndrome_bytes(false, p, page, index as usize, list)
+}
+
+// The syndromes S_1 to S_(2 t_(v-l)) of nested word l, l being `index`.
+#[no_mangle]
+pub extern "C" fn gii_nested_syndromes(
+    q: u32,
+    m: u32,
+    v: u32,
+    t0: u32,
+    t1: u32,
+    t2: u32,
+    t3: u32,
+    page: &[u8],
+    index: u32,
+    list: &mut [u8],
+) -> u32
+    ensures { λ r. ⌜ NestedSyndromesMadeC (sheetOf q m v t0 t1 t2 t3) (now (page .entry)) index (now (list .entry)) (now (list .exit)) r ⌝ }
+{
+    let p = Parameters {
+        q,
+        m,
+        v,
+        t0,
+        t1,
+        t2,
+        t3,
+    };
+    syndrome_bytes(true, p, page, index as usize, list)
+}

@@ -1,0 +1,53 @@
+// A list of 16-bit numbers as bytes: two a number, low byte first.
+ghost use mathlib.Core.Path.{_≡_};
+ghost use mathlib.Core.List.{_++_};
+ghost use Prim.Native.Nat.{_+_, _*_, _≤_};
+ghost use lib.ListN.{length, take, drop};
+ghost use Rattle.polynomial.specs.Digits.{digits};
+ghost use Rattle.code.specs.Calls.{asBytes, leaves};
+ghost use Rattle.gii_bch.specs.List.{numbersIn};
+
+// How many numbers so many bytes hold; 0, which is no list's length, where they are odd or more than 256.
+pub fn numbers_in(bytes: usize) -> usize
+    ensures { λ r. ⌜ r ≡ numbersIn bytes ⌝ }
+{
+    if 256 < bytes {
+        return 0;
+    }
+    if bytes % 2 != 0 {
+        return 0;
+    }
+    bytes / 2
+}
+
+// The two bytes at `at` are set to x.
+fn put(list: &mut [u8], at: usize, x: u16)
+    requires { ⌜ at + 2 ≤ length (now list) ⌝ }
+    ensures { λ r. ⌜ now (list .exit) ≡ take at (now (list .entry)) ++ digits 8 2 x ++ drop (at + 2) (now (list .entry)) ⌝ }
+{
+    list[at] = (x % 256) as u8;
+    list[at + 1] = (x / 256 % 256) as u8;
+}
+
+// The numbers, as bytes.
+fn store(list: &mut [u8], numbers: &[u16])
+    requires { ⌜ length (now list) ≡ 2 * length (now numbers) ⌝ }
+    ensures { λ r. ⌜ now (list .exit) ≡ asBytes (now (numbers .entry)) ⌝ }
+{
+    let mut i: usize = 0;
+    while i < numbers.len() {
+        put(list, 2 * i, numbers[i]);
+        i += 1;
+    }
+}
+
+// The numbers, as bytes, where the answer's number n is 0.
+pub fn store_when(n: u32, list: &mut [u8], numbers: &[u16])
+    requires { ⌜ (n ≡ 0 → length (now list) ≡ 2 * length (now numbers)) ⌝ }
+    ensures { λ r. ⌜ now (list .exit) ≡ leaves n (asBytes (now (numbers .entry))) (now (list .entry)) ⌝ }
+{
+    if n != 0 {
+        return;
+    }
+    store(list, numbers);
+}

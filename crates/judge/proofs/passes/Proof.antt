@@ -1,0 +1,59 @@
+use borrow.Author.Needs.{needs}
+use mathlib.Core.Path.{ap, _∙_}
+use native.Mathlib.Omega.{arith}
+use Prim.Native.Nat.{_-_}
+use Rattle.polynomial.specs.Digits.{value}
+use Rattle.layout.specs.Sizes.{stored-high}
+use Rattle.levels.specs.Ready.{degree-low, degree-most, prepared-up}
+use Rattle.judge.specs.Judged.{passes-is}
+use Rattle.judge.proofs.passes.Statement.{statement}
+use Rattle.judge.proofs.passes.Tie as tie
+
+stored-of-requires : tie.Need-stored-of-requires
+stored-of-requires c κs = c .before .before .pre .0
+
+slice-aggregate-remainder-of : tie.Need-slice-aggregate-remainder-of
+slice-aggregate-remainder-of c = search needs
+
+sub-remainder-of : tie.Need-sub-remainder-of
+sub-remainder-of c =
+    let s = c .before .before .before .before in
+    omega (arith, s .pre .2, degree-most (s .args .p) (s .pre .0) (s .args .a) (s .pre .1))
+
+remainder-of-requires : tie.Need-remainder-of-requires
+remainder-of-requires c κs =
+    let s = c .before .before .before .before in (
+      search needs,
+      s .pre .3 .words,
+      omega arith,
+      omega arith,
+      omega (arith, s .pre .2, degree-most (s .args .p) (s .pre .0) (s .args .a) (s .pre .1), degree-low (s .args .p) (s .pre .0) (s .args .a) (s .pre .1)),
+      omega (arith, c .before .stored-of .ensures, stored-high (s .args .p) (s .pre .0)),
+      prepared-up (s .args .p) (s .args .a) (s .args .w) (s .args .t .now) (s .pre .2) (s .pre .3),
+    )
+
+slice-aggregate-is-zero : tie.Need-slice-aggregate-is-zero
+slice-aggregate-is-zero c = search needs
+
+is-zero-requires : tie.Need-is-zero-requires
+is-zero-requires c κs = search needs
+
+returns : tie.Need-returns
+returns c =
+    let r = c .before .before .before in
+    let s = r .before .before .before .before .before in
+    let a = s .args in
+    passes-is (a .p) (s .pre .0) (a .t .now) (a .a) (a .w) (value 8 (a .s .now)) (value 64 (r .remainder-of .last .0)) _ (s .pre .1) (s .pre .2) (s .pre .3) (s .pre .4)
+    (rw (r .before .before .stored-of .ensures) at (r .remainder-of .ensures)) (c .is-zero .ensures)
+
+pub passes-spec : {M : Type 1} → statement M
+passes-spec =
+    tie.close
+    (tie.spec
+    stored-of-requires
+    slice-aggregate-remainder-of
+    sub-remainder-of
+    remainder-of-requires
+    slice-aggregate-is-zero
+    is-zero-requires
+    returns)

@@ -1,0 +1,34 @@
+-- The words of a page as the program meets them, and judge's two searches over them.
+use mathlib.Core.Path.{_≡_, refl, sym, ap, _∙_}
+use mathlib.Core.Bool.{Bool, not}
+use mathlib.Core.List.{List}
+use Prim.Native.Nat.{ℕ, _-_, _%_, _^_, _≤_, _<_}
+use native.Mathlib.Nat as Nat
+use native.Mathlib.Omega.{arith}
+use lib.Dec.{eqb}
+use lib.ListN.{getD, take}
+use Rattle.kernels.specs.Table.{RemainderBy}
+use Rattle.code.specs.declared.Parameters.{Parameters}
+use Rattle.code.specs.Code.{degree, remainder, nested, failing, failingNested}
+use Rattle.code.specs.Parameters.{Accepted, stored}
+use Rattle.levels.specs.Ready.{Prepared, table-remainder}
+use Rattle.judge.specs.Search.{firstFrom}
+
+-- the tests of judge
+abbrev pub failsAt : Parameters → List ℕ → ℕ → Bool
+failsAt p cs i = not (eqb (remainder p 0 (getD cs i 0)) 0)
+
+abbrev pub nestedFailsAt : Parameters → List ℕ → ℕ → Bool
+nestedFailsAt p cs l = not (eqb (remainder p (p .v - l) (nested p l cs)) 0)
+
+pub failing-eq : (p : Parameters) (cs : List ℕ) → failing p cs ≡ firstFrom (failsAt p cs) 0 (p .m) (p .m)
+unfolding failing firstFrom
+failing-eq p cs = refl
+
+pub failingNested-eq : (p : Parameters) (cs : List ℕ) → failingNested p cs ≡ firstFrom (nestedFailsAt p cs) 0 (p .v) (p .v)
+unfolding failingNested firstFrom
+failingNested-eq p cs = refl
+
+module _ (p : Parameters) (A : Accepted p) where
+  pub passes-is : (t : List ℕ) (a w f r : ℕ) (z : Bool) → a ≤ p .v → w ≡ degree p a → Prepared p a t → f < 2 ^ stored p → RemainderBy t (768 - w) (f % 2 ^ stored p) r → z ≡ eqb r 0 → z ≡ eqb (remainder p a f) 0
+  passes-is t a w f r z h e P l Q s = s ∙ ap (λ (y : ℕ). eqb y 0) (table-remainder p A a w (f % 2 ^ stored p) r t h e P Q ∙ ap (remainder p a) (Nat.mod-eq-of-lt l))

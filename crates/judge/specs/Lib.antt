@@ -1,0 +1,3 @@
+-- What judge names, found word by word.
+pub mod Search
+pub mod Judged

@@ -1,0 +1,36 @@
+-- Digits set to 0, and the test whether all are: from the lowest on.
+use mathlib.Core.Path.{_≡_, refl, sym, ap, _∙_}
+use mathlib.Core.List.{List}
+use mathlib.Core.Bool.{true, false}
+use Prim.Native.Nat.{ℕ, _+_, _*_, _/_, _%_, _^_, _≤_, _<_}
+use native.Mathlib.Nat.{zero-add, zero-mul, zero-mod, zero-div}
+use native.Mathlib.Omega.{arith}
+use lib.Dec.{eqb}
+use lib.ListN.{length, getD, take, set}
+use lib.Pow.{mod-pow-add}
+use lib.Seq.{take-all}
+use borrow.Author.Tests.{eq-eqb, ne-eqb}
+use Rattle.polynomial.specs.Digits.{value}
+use Rattle.kernels.specs.Value.{Bounded, take-more, take-more-set, take-mod}
+
+module _ (w : ℕ) (l : List ℕ) (i : ℕ) where
+  -- a 0 is written
+  pub zero-set : (x : ℕ) → i < length l → value w (take i l) ≡ x → value w (take (i + 1) (set l i 0)) ≡ x
+  zero-set x h e = take-more-set w l i 0 h ∙ rw (zero-mul (2 ^ (w * i))) (zero-add (value w (take i l))) ∙ e
+
+  -- a 0 is read
+  pub zero-digit : i < length l → getD l i 0 ≡ 0 → value w (take i l) ≡ 0 → value w (take (i + 1) l) ≡ 0
+  zero-digit h z e = take-more w l i h ∙ rw (z, e, zero-mul) refl
+
+  pub zero-yes : length l ≤ i → value w (take i l) ≡ 0 → eqb (value w l) 0 ≡ true
+  zero-yes h e = eq-eqb (value w l) 0 (ap (value w) (sym (take-all i l h)) ∙ e)
+
+-- eight bytes
+pub zero-word : (l : List ℕ) (i : ℕ) → Bounded 8 l → i + 8 ≤ length l → value 8 l / 2 ^ (8 * i) % 2 ^ 64 ≡ 0 → value 8 (take i l) ≡ 0 → value 8 (take (i + 8) l) ≡ 0
+zero-word l i b h z e =
+    let k : 8 * (i + 8) ≡ 64 + 8 * i = omega arith in
+    take-mod 8 l b (i + 8) h ∙ ap (λ (n : ℕ). value 8 l % 2 ^ n) k ∙ mod-pow-add (value 8 l) 64 (8 * i) ∙ rw (z, ← take-mod 8 l b i (omega arith), e, zero-mul) refl
+
+-- something is found at x^p
+pub zero-no : (x c p v : ℕ) → v ≡ x / 2 ^ p % 2 ^ c → (v ≡ 0 → ⊥) → eqb x 0 ≡ false
+zero-no x c p v e h = ne-eqb x 0 (λ z. h (e ∙ rw (z, zero-div (2 ^ p)) (zero-mod (2 ^ c))))

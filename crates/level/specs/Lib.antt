@@ -1,2 +1,0 @@
--- Levels made ready for remainders.
-pub mod Ready

@@ -1,0 +1,64 @@
+use borrow.Author.Needs.{needs}
+use Rattle.levels.specs.Levels.{factors-of, q-last}
+use Rattle.levels.proofs.rows.Statement.{statement}
+use Rattle.levels.proofs.rows.Tie as tie
+
+factors4-requires : tie.Need-factors4-requires
+factors4-requires c κs = search needs
+
+slice-aggregate-rows-by : tie.Need-slice-aggregate-rows-by
+slice-aggregate-rows-by c = search needs
+
+rows-by-requires : tie.Need-rows-by-requires
+rows-by-requires c κs =
+    let b = c .before .before in
+    (b .before .before .pre, factors-of _ _ 4 (b .if1 .taken) (c .before .factors4 .ensures))
+
+returns : tie.Need-returns
+returns c = search needs
+
+factors8-requires : tie.Need-factors8-requires
+factors8-requires c κs = search needs
+
+slice-aggregate-rows-by-2 : tie.Need-slice-aggregate-rows-by-2
+slice-aggregate-rows-by-2 c = search needs
+
+rows-by-requires-2 : tie.Need-rows-by-requires-2
+rows-by-requires-2 c κs =
+    let b = c .before .before in
+    (b .before .before .before .before .pre, factors-of _ _ 8 (b .if2 .taken) (c .before .factors8 .ensures))
+
+returns-2 : tie.Need-returns-2
+returns-2 c = search needs
+
+factors12-requires : tie.Need-factors12-requires
+factors12-requires c κs = search needs
+
+slice-aggregate-rows-by-3 : tie.Need-slice-aggregate-rows-by-3
+slice-aggregate-rows-by-3 c = search needs
+
+rows-by-requires-3 : tie.Need-rows-by-requires-3
+rows-by-requires-3 c κs =
+    let b = c .before .before in
+    let s = b .before .before .before .before in
+    (s .pre, factors-of _ _ 12 (q-last _ (s .pre) (b .before .before .if1 .left) (b .if2 .left)) (c .before .factors12 .ensures))
+
+returns-3 : tie.Need-returns-3
+returns-3 c = search needs
+
+pub rows-spec : {M : Type 1} → statement M
+rows-spec =
+    tie.close
+    (tie.spec
+    factors4-requires
+    slice-aggregate-rows-by
+    rows-by-requires
+    returns
+    factors8-requires
+    slice-aggregate-rows-by-2
+    rows-by-requires-2
+    returns-2
+    factors12-requires
+    slice-aggregate-rows-by-3
+    rows-by-requires-3
+    returns-3)

@@ -1,3 +1,0 @@
--- What judge names, found word by word.
-pub mod Search
-pub mod Words
