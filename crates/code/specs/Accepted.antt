@@ -15,6 +15,7 @@ use Rattle.generator.specs.Generator.{generator-deg, generator-iff, width-lt}
 use Rattle.generator.specs.Next.{width-le}
 use Rattle.code.specs.declared.Parameters.{Parameters}
 use Rattle.generator.specs.Generator as G
+use Rattle.code.specs.Chains.{either, last, neither, none, nonzero}
 use Rattle.code.specs.Code.{degree}
 use Rattle.code.specs.Lists.{_orElse_, _when_, any, range}
 use Rattle.code.specs.Parameters.{Accepted, clashes, fieldKnown, len, placeFits, shapeFits, sheetRefusal, strength, strengthsFit}
@@ -22,29 +23,9 @@ use Rattle.code.specs.Steps.{degree-eq, gen-eq}
 use Rattle.code.specs.Values.{Lawful}
 
 -- ---- tests
-pub none : (k : ℕ) (b : Bool) (r : ℕ) → ((suc k when not b) orElse r) ≡ 0 → T b × (r ≡ 0)
-none k true r e = (tt, e)
-none k false r e = absurd (Nat.suc-ne-zero k e)
-
-pub last : (k : ℕ) (b : Bool) → (suc k when b) ≡ 0 → T (not b)
-last k true e = absurd (Nat.suc-ne-zero k e)
-last k false e = tt
-
-pub either : (a b : Bool) → T (a || b) → T a ⊎ T b
-either true b t = inl tt
-either false b t = inr t
-
-pub neither : (a b : Bool) → T (not (a || b)) → T (not a) × T (not b)
-neither true b t = absurd t
-neither false b t = (tt, t)
-
 chosen : (b c d : Bool) → T b → T (cond b c d) → T c
 chosen true c d h t = t
 chosen false c d h t = absurd h
-
-pub nonzero : (x : ℕ) → T (not (eqb x 0)) → 0 < x
-nonzero zero t = absurd t
-nonzero (suc x) t = omega arith
 
 any-none : (P : ℕ → Bool) (i k : ℕ) → T (not (any P (range i k))) → (x : ℕ) → i ≤ x → x < i + k → T (not (P x))
 unfolding any range

@@ -1,26 +1,26 @@
 -- Promises met: what a program shows where it refuses, and where it is done.
 use mathlib.Core.Path.{_≡_, refl, sym, ap, _∙_}
-use mathlib.Core.List.{List}
-use Prim.Native.Nat.{ℕ, zero, suc, _≤_, _<_, zero-le}
+use mathlib.Core.Bool.{Bool, true, false, _||_, cond}
+use mathlib.Core.List.{List, [], _∷_}
+use Prim.Native.Nat.{ℕ, zero, suc, _+_, _≤_, _<_, zero-le}
 use native.Mathlib.Nat as Nat
 use native.Mathlib.Omega.{arith}
+use lib.Dec.{ltb, lit≤}
+use lib.ListN.{length}
+use Rattle.code.specs.declared.Nesting.{Nesting}
 use Rattle.code.specs.declared.Outcome.{Outcome}
 use Rattle.code.specs.declared.Parameters.{Parameters}
 use Rattle.code.specs.declared.Tested.{Tested}
 use Rattle.code.specs.declared.Verdict.{Verdict}
 use Rattle.code.specs.Register.{Register}
-use Rattle.code.specs.Calls.{Made, fedBy, leaves, outcome, unlessRefused}
-use Rattle.code.specs.Lists.{_orElse_}
+use Rattle.code.specs.Calls.{Judged, Made, MadeC, Named, NestingMade, ReadOut, fedBy, judgeAnswer, judgeNumber, judgeValues, leaves, nesting, nestingBy, nestingNumber, nestingValues, outcome, outcomeNumber, outcomeValues, readAnswer, readLeaves, readNumber, readValues, unlessRefused, verdictNumber, verdictValues}
+use Rattle.code.specs.Chains.{when-le}
+use Rattle.code.specs.Code.{N, failing, failingNested, failingNumber, failingValues, verdict}
+use Rattle.code.specs.Layout.{dataOf, wordsOf}
+use Rattle.code.specs.Lists.{_orElse_, lastRefusal, valuesBy}
 use Rattle.code.specs.Parameters.{Tests, sheetRefusal, tested, testedOf}
-
--- ---- chains
-pub or-first : (r s : ℕ) → 0 < r → (r orElse s) ≡ r
-or-first zero s h = absurd (Nat.not-suc-le-zero h)
-or-first (suc r) s h = refl
-
-pub or-second : (r s : ℕ) → r ≡ 0 → (r orElse s) ≡ s
-or-second zero s e = refl
-or-second (suc r) s e = absurd (Nat.suc-ne-zero r e)
+use Rattle.code.specs.Refusals.{judgeRefusal, nestingRefusal, readRefusal}
+use Rattle.code.specs.Refused.{BlocksBuffer, judge-le, read-judge, read-le}
 
 -- ---- a refused sheet's number is above 0
 tested-pos : (p : Parameters) (r k : ℕ) → testedOf p r ≡ Tested.Refused k → 0 < k
@@ -40,10 +40,11 @@ pub leaves-refused : (r : ℕ) (x old : List ℕ) → 0 < r → leaves r x old �
 leaves-refused zero x old h = absurd (Nat.not-suc-le-zero h)
 leaves-refused (suc r) x old h = refl
 
-pub made-refused : (refusal k : ℕ) (result old : List ℕ) → refusal ≡ k → 0 < k → refusal ≤ 12 → Made refusal result old old (Outcome.Refused k)
+pub made-refused : (refusal k : ℕ) (result old : List ℕ) → refusal ≡ k → 0 < k → refusal ≤ lastRefusal → Made refusal result old old (Outcome.Refused k)
 made-refused refusal k result old e h b = record {
   answers = sym (ap outcome e ∙ outcome-refused k h);
   number = sym e;
+  values = refl;
   small = b;
   buffer = sym (ap (λ (r : ℕ). leaves r result old) e ∙ leaves-refused k result old h);
 }
@@ -52,6 +53,7 @@ pub made-done : (refusal : ℕ) (result old after : List ℕ) → refusal ≡ 0 
 made-done refusal result old after e f = record {
   answers = sym (ap outcome e);
   number = sym e;
+  values = refl;
   small = rw e zero-le;
   buffer = f ∙ sym (ap (λ (r : ℕ). leaves r result old) e);
 }
@@ -61,7 +63,170 @@ pub fed-refused : (k : ℕ) (next old : Register) → 0 < k → fedBy k next old
 fed-refused zero next old h = absurd (Nat.not-suc-le-zero h)
 fed-refused (suc k) next old h = refl
 
--- ---- judge and read out
-pub verdict-refused : (k : ℕ) (v : Verdict) → 0 < k → unlessRefused k v ≡ Verdict.Refused k
-verdict-refused zero v h = absurd (Nat.not-suc-le-zero h)
-verdict-refused (suc k) v h = refl
+-- ---- verdicts: the numbers and values of the enum are those of the first word that fails
+number-of : (a b : Bool) (i l : ℕ)
+    → verdictNumber (cond a (Verdict.SubWord i) (cond b (Verdict.NestedWord l) Verdict.Member)) ≡ cond a (32 + i) (cond b (64 + l) 0)
+number-of true b i l = refl
+number-of false true i l = refl
+number-of false false i l = refl
+
+values-of : (a b : Bool) (i l : ℕ)
+    → verdictValues (cond a (Verdict.SubWord i) (cond b (Verdict.NestedWord l) Verdict.Member)) ≡ cond a (i ∷ []) (cond b (l ∷ []) [])
+values-of true b i l = refl
+values-of false true i l = refl
+values-of false false i l = refl
+
+member-of : (a b : Bool) (i l : ℕ) → cond a (32 + i) (cond b (64 + l) 0) ≡ 0
+    → cond a (Verdict.SubWord i) (cond b (Verdict.NestedWord l) Verdict.Member) ≡ Verdict.Member
+member-of true b i l e = absurd (Nat.suc-ne-zero (31 + i) (sym (Nat.suc-add 31 i) ∙ e))
+member-of false true i l e = absurd (Nat.suc-ne-zero (63 + l) (sym (Nat.suc-add 63 l) ∙ e))
+member-of false false i l e = refl
+
+module _ (p : Parameters) (cs : List ℕ) where
+  pub verdict-number : verdictNumber (verdict p cs) ≡ failingNumber p cs
+  unfolding verdict failingNumber
+  verdict-number = number-of (ltb (failing p cs) (p .m)) (ltb (failingNested p cs) (p .v)) (failing p cs) (failingNested p cs)
+
+  verdict-values : verdictValues (verdict p cs) ≡ failingValues p cs
+  unfolding verdict failingValues
+  verdict-values = values-of (ltb (failing p cs) (p .m)) (ltb (failingNested p cs) (p .v)) (failing p cs) (failingNested p cs)
+
+  verdict-member : failingNumber p cs ≡ 0 → verdict p cs ≡ Verdict.Member
+  unfolding verdict failingNumber
+  verdict-member e = member-of (ltb (failing p cs) (p .m)) (ltb (failingNested p cs) (p .v)) (failing p cs) (failingNested p cs) e
+
+  pub named : (r : Verdict) → r ≡ verdict p cs → Named p cs r
+  named r e = record { answers = e; number = ap verdictNumber e ∙ verdict-number; values = ap verdictValues e ∙ verdict-values }
+
+  -- ---- behind a refusal r
+  unless-number : (r : ℕ) → verdictNumber (unlessRefused r (verdict p cs)) ≡ (r orElse failingNumber p cs)
+  unless-number zero = verdict-number
+  unless-number (suc r) = refl
+
+  unless-values : (r : ℕ) → verdictValues (unlessRefused r (verdict p cs)) ≡ valuesBy r (failingValues p cs)
+  unless-values zero = verdict-values
+  unless-values (suc r) = refl
+
+  unless-member : (r : ℕ) → (r orElse failingNumber p cs) ≡ 0 → unlessRefused r (verdict p cs) ≡ Verdict.Member
+  unless-member zero e = verdict-member e
+  unless-member (suc r) e = absurd (Nat.suc-ne-zero r e)
+
+  unless-refused : (r k : ℕ) → k ≡ r → 0 < k → Verdict.Refused k ≡ unlessRefused r (verdict p cs)
+  unless-refused r zero e h = absurd (Nat.not-suc-le-zero h)
+  unless-refused r (suc k) e h = ap (λ (n : ℕ). unlessRefused n (verdict p cs)) e
+
+-- ---- judge
+module _ (p : Parameters) (x : List ℕ) where
+  judge-eq : judgeAnswer p x ≡ unlessRefused (judgeRefusal p x) (verdict p (wordsOf p x))
+  unfolding judgeAnswer
+  judge-eq = refl
+
+  number-eq : judgeNumber p x ≡ (judgeRefusal p x orElse failingNumber p (wordsOf p x))
+  unfolding judgeNumber
+  number-eq = refl
+
+  values-eq : judgeValues p x ≡ valuesBy (judgeRefusal p x) (failingValues p (wordsOf p x))
+  unfolding judgeValues
+  values-eq = refl
+
+  pub judged : (r : Verdict) → r ≡ judgeAnswer p x → Judged p x r
+  judged r e = record {
+    answers = e;
+    number = ap verdictNumber (e ∙ judge-eq) ∙ unless-number p (wordsOf p x) (judgeRefusal p x) ∙ sym number-eq;
+    values = ap verdictValues (e ∙ judge-eq) ∙ unless-values p (wordsOf p x) (judgeRefusal p x) ∙ sym values-eq;
+    small = judge-le p x;
+  }
+
+  pub judged-refused : (k : ℕ) → k ≡ judgeRefusal p x → (k ≡ 0 → ⊥) → Judged p x (Verdict.Refused k)
+  judged-refused k e h = judged (Verdict.Refused k) (unless-refused p (wordsOf p x) (judgeRefusal p x) k e (Nat.pos-of-ne-zero h) ∙ sym judge-eq)
+
+  pub judged-done : (r : Verdict) → judgeRefusal p x ≡ 0 → r ≡ verdict p (wordsOf p x) → Judged p x r
+  judged-done r z e = judged r (e ∙ sym (judge-eq ∙ ap (λ (k : ℕ). unlessRefused k (verdict p (wordsOf p x))) z))
+
+  -- 0 is the number of members alone
+  pub judged-zero : judgeNumber p x ≡ 0 → judgeAnswer p x ≡ Verdict.Member
+  judged-zero e = judge-eq ∙ unless-member p (wordsOf p x) (judgeRefusal p x) (sym number-eq ∙ e)
+
+  -- ---- read out
+  module _ (b : List ℕ) where
+    read-eq : readAnswer p x b ≡ unlessRefused (readRefusal p x (length b)) (verdict p (wordsOf p x))
+    unfolding readAnswer
+    read-eq = refl
+
+    read-number-eq : readNumber p x b ≡ (readRefusal p x (length b) orElse failingNumber p (wordsOf p x))
+    unfolding readNumber
+    read-number-eq = refl
+
+    read-values-eq : readValues p x b ≡ valuesBy (readRefusal p x (length b)) (failingValues p (wordsOf p x))
+    unfolding readValues
+    read-values-eq = refl
+
+    leaves-eq : readLeaves p x b ≡ leaves (readRefusal p x (length b)) (dataOf p x) b
+    unfolding readLeaves
+    leaves-eq = refl
+
+    pub read : (r : Verdict) (y : List ℕ) → r ≡ readAnswer p x b → y ≡ readLeaves p x b → ReadOut p x b y r
+    read r y e f = record {
+      answers = e;
+      number = ap verdictNumber (e ∙ read-eq) ∙ unless-number p (wordsOf p x) (readRefusal p x (length b)) ∙ sym read-number-eq;
+      values = ap verdictValues (e ∙ read-eq) ∙ unless-values p (wordsOf p x) (readRefusal p x (length b)) ∙ sym read-values-eq;
+      small = read-le p x (length b);
+      buffer = f;
+    }
+
+    pub read-refused : (k : ℕ) → k ≡ readRefusal p x (length b) → 0 < k → ReadOut p x b b (Verdict.Refused k)
+    read-refused k e h =
+        read (Verdict.Refused k) b (unless-refused p (wordsOf p x) (readRefusal p x (length b)) k e h ∙ sym read-eq)
+        (sym (leaves-eq ∙ ap (λ (r : ℕ). leaves r (dataOf p x) b) (sym e) ∙ leaves-refused k (dataOf p x) b h))
+
+    pub read-done : (r : Verdict) (y : List ℕ) → readRefusal p x (length b) ≡ 0 → r ≡ verdict p (wordsOf p x) → y ≡ dataOf p x → ReadOut p x b y r
+    read-done r y z e f =
+        read r y (e ∙ sym (read-eq ∙ ap (λ (k : ℕ). unlessRefused k (verdict p (wordsOf p x))) z))
+        (f ∙ sym (leaves-eq ∙ ap (λ (k : ℕ). leaves k (dataOf p x) b) z))
+
+    pub read-zero : readNumber p x b ≡ 0 → readAnswer p x b ≡ Verdict.Member
+    read-zero e = read-eq ∙ unless-member p (wordsOf p x) (readRefusal p x (length b)) (sym read-number-eq ∙ e)
+
+    -- lent blocks of exact length, read out answers as judge does
+    pub read-as-judge : BlocksBuffer p b → readAnswer p x b ≡ judgeAnswer p x
+    read-as-judge e = read-eq ∙ ap (λ (r : ℕ). unlessRefused r (verdict p (wordsOf p x))) (read-judge p x b e) ∙ sym judge-eq
+
+-- ---- the C calls: the number of a promise met
+pub outcome-number : (r : ℕ) → outcomeNumber (outcome r) ≡ r
+outcome-number zero = refl
+outcome-number (suc r) = refl
+
+pub outcome-values : (r : ℕ) → outcomeValues (outcome r) ≡ []
+outcome-values zero = refl
+outcome-values (suc r) = refl
+
+-- a C call's promise is that of an outcome with its number
+pub made-of : (refusal : ℕ) (result old after : List ℕ) (n : ℕ) → MadeC refusal result old after n → Made refusal result old after (outcome refusal)
+made-of refusal result old after n m = record {
+  answers = refl;
+  number = outcome-number refusal;
+  values = outcome-values refusal;
+  small = m .small;
+  buffer = m .buffer;
+}
+
+-- ---- the nesting coefficient
+nesting-by : (i l r : ℕ) → nestingNumber (nestingBy r (N i l)) ≡ r
+nesting-by i l zero = refl
+nesting-by i l (suc r) = refl
+
+nesting-values-by : (i l r : ℕ) → nestingValues (nestingBy r (N i l)) ≡ valuesBy r (N i l ∷ [])
+nesting-values-by i l zero = refl
+nesting-values-by i l (suc r) = refl
+
+nesting-eq : (i l : ℕ) → nesting i l ≡ nestingBy (nestingRefusal i l) (N i l)
+unfolding nesting
+nesting-eq i l = refl
+
+pub nesting-made : (i l : ℕ) (r : Nesting) → r ≡ nesting i l → NestingMade i l r
+nesting-made i l r e = record {
+  answers = e;
+  number = ap nestingNumber (e ∙ nesting-eq i l) ∙ nesting-by i l (nestingRefusal i l);
+  values = ap nestingValues (e ∙ nesting-eq i l) ∙ nesting-values-by i l (nestingRefusal i l);
+  small = when-le 9 (ltb 7 i || ltb 7 l) (lit≤ tt);
+}

@@ -1,7 +1,10 @@
 -- What each call answers, and what each lent buffer holds afterwards: the old bytes after a refusal.
---   outcomeNumber, verdictNumber, nestingNumber    document 01's number of an answer, which C calls return; verdictValues and nestingValues its values
+--   outcomeNumber, verdictNumber, nestingNumber    the requirement's number of an answer, which C calls return
+--   outcomeValues, verdictValues, nestingValues    its values
 --   outcome r, unlessRefused r v, leaves r x old   the answer and the buffer by the refusal r, 0 for none
---   Made, Judged, ReadOut, ..                      what a call promises, of its answer and of the buffer after it; the ..C ones are the C calls'
+--   judgeNumber, judgeValues, readNumber, readValues    number and values of a page's verdict, apart from the enum: the refusal's,
+--                                                       else those of the first word that fails
+--   Made, Named, Judged, ReadOut, ..               what a call promises, of its answer and of the buffer after it; the ..C ones are the C calls'
 use mathlib.Core.Path.{_≡_}
 use mathlib.Core.Bool.{cond}
 use mathlib.Core.List.{List, [], _∷_, _++_, map}
@@ -16,9 +19,9 @@ use Rattle.code.specs.declared.Outcome.{Outcome}
 use Rattle.code.specs.declared.Verdict.{Verdict}
 use Rattle.code.specs.declared.Nesting.{Nesting}
 use Rattle.code.specs.Register.{Register, Fed}
-use Rattle.code.specs.Lists.{range}
+use Rattle.code.specs.Lists.{range, _orElse_, valuesBy, lastRefusal}
 use Rattle.code.specs.Parameters.{nestedBytes, strength, sheetRefusal}
-use Rattle.code.specs.Code.{gen, degree, remainder, nested, N, shortRemainder, syndromes, verdict}
+use Rattle.code.specs.Code.{gen, degree, remainder, nested, N, shortRemainder, syndromes, verdict, failingNumber, failingValues}
 use Rattle.code.specs.Layout.{wordsOf, pageOf, dataOf}
 use Rattle.code.specs.Refusals.{writeRefusal, readRefusal, judgeRefusal, remainderRefusal, shortRefusal, nestedRefusal, syndromesRefusal, nestedSyndromesRefusal, openRefusal, feedRefusal, nestingRefusal}
 
@@ -26,6 +29,10 @@ use Rattle.code.specs.Refusals.{writeRefusal, readRefusal, judgeRefusal,
 abbrev pub outcomeNumber : Outcome → ℕ
 outcomeNumber Outcome.Done = 0
 outcomeNumber (Outcome.Refused k) = k
+
+abbrev pub outcomeValues : Outcome → List ℕ
+outcomeValues Outcome.Done = []
+outcomeValues (Outcome.Refused k) = []
 
 abbrev pub verdictNumber : Verdict → ℕ
 verdictNumber Verdict.Member = 0
@@ -60,11 +67,12 @@ abbrev pub leaves : ℕ → List ℕ → List ℕ → List ℕ
 leaves zero result old = result
 leaves (suc k) result old = old
 
--- a call's answer, with a lent buffer before and after it; a refusal's number is 1 to 12
+-- a call's answer, with a lent buffer before and after it
 pub record Made (refusal : ℕ) (result old after : List ℕ) (answer : Outcome) : Type 0 where
   pub answers : answer ≡ outcome refusal
   pub number : outcomeNumber answer ≡ refusal
-  pub small : refusal ≤ 12
+  pub values : outcomeValues answer ≡ []
+  pub small : refusal ≤ lastRefusal
   pub buffer : after ≡ leaves refusal result old
 
 -- ---- write
@@ -78,18 +86,41 @@ abbrev pub Written : Parameters → ℕ → List ℕ → List ℕ → List ℕ �
 Written p L blocks page after r = Made (writeRefusal p L blocks (length page)) (pageOf p blocks) page after r
 
 -- ---- judge and read out
+-- the verdict on the words of a page
+pub record Named (p : Parameters) (cs : List ℕ) (r : Verdict) : Type 0 where
+  pub answers : r ≡ verdict p cs
+  pub number : verdictNumber r ≡ failingNumber p cs
+  pub values : verdictValues r ≡ failingValues p cs
+
 unfoldable pub judgeAnswer : Parameters → List ℕ → Verdict
 unfolding judgeRefusal verdict wordsOf
 judgeAnswer p page = unlessRefused (judgeRefusal p page) (verdict p (wordsOf p page))
 
+unfoldable pub judgeNumber : Parameters → List ℕ → ℕ
+unfolding judgeRefusal failingNumber wordsOf
+judgeNumber p page = judgeRefusal p page orElse failingNumber p (wordsOf p page)
+
+unfoldable pub judgeValues : Parameters → List ℕ → List ℕ
+unfolding judgeRefusal failingValues wordsOf
+judgeValues p page = valuesBy (judgeRefusal p page) (failingValues p (wordsOf p page))
+
 pub record Judged (p : Parameters) (page : List ℕ) (r : Verdict) : Type 0 where
   pub answers : r ≡ judgeAnswer p page
-  pub number : verdictNumber r ≡ verdictNumber (judgeAnswer p page)
-  pub small : judgeRefusal p page ≤ 12
+  pub number : verdictNumber r ≡ judgeNumber p page
+  pub values : verdictValues r ≡ judgeValues p page
+  pub small : judgeRefusal p page ≤ lastRefusal
 
 unfoldable pub readAnswer : Parameters → List ℕ → List ℕ → Verdict
 unfolding readRefusal verdict wordsOf
 readAnswer p page blocks = unlessRefused (readRefusal p page (length blocks)) (verdict p (wordsOf p page))
+
+unfoldable pub readNumber : Parameters → List ℕ → List ℕ → ℕ
+unfolding readRefusal failingNumber wordsOf
+readNumber p page blocks = readRefusal p page (length blocks) orElse failingNumber p (wordsOf p page)
+
+unfoldable pub readValues : Parameters → List ℕ → List ℕ → List ℕ
+unfolding readRefusal failingValues wordsOf
+readValues p page blocks = valuesBy (readRefusal p page (length blocks)) (failingValues p (wordsOf p page))
 
 unfoldable pub readLeaves : Parameters → List ℕ → List ℕ → List ℕ
 unfolding readRefusal dataOf
@@ -97,8 +128,9 @@ readLeaves p page blocks = leaves (readRefusal p page (length blocks)) (dataOf p
 
 pub record ReadOut (p : Parameters) (page blocks after : List ℕ) (r : Verdict) : Type 0 where
   pub answers : r ≡ readAnswer p page blocks
-  pub number : verdictNumber r ≡ verdictNumber (readAnswer p page blocks)
-  pub small : readRefusal p page (length blocks) ≤ 12
+  pub number : verdictNumber r ≡ readNumber p page blocks
+  pub values : verdictValues r ≡ readValues p page blocks
+  pub small : readRefusal p page (length blocks) ≤ lastRefusal
   pub buffer : after ≡ readLeaves p page blocks
 
 -- ---- one word of a page
@@ -150,19 +182,21 @@ asBytes [] = []
 asBytes (x ∷ l) = digits 8 2 x ++ asBytes l
 
 pub record MadeC (refusal : ℕ) (result old after : List ℕ) (answer : ℕ) : Type 0 where
-  pub answers : answer ≡ outcomeNumber (outcome refusal)
-  pub small : refusal ≤ 12
+  pub answers : answer ≡ refusal
+  pub small : refusal ≤ lastRefusal
   pub buffer : after ≡ leaves refusal result old
 
 abbrev pub WrittenC : Parameters → ℕ → List ℕ → List ℕ → List ℕ → ℕ → Type 0
 WrittenC p L blocks page after r = MadeC (writeRefusal p L blocks (length page)) (pageOf p blocks) page after r
 
 pub record ReadOutC (p : Parameters) (page blocks after : List ℕ) (r : ℕ) : Type 0 where
-  pub answers : r ≡ verdictNumber (readAnswer p page blocks)
+  pub answers : r ≡ readNumber p page blocks
+  pub small : readRefusal p page (length blocks) ≤ lastRefusal
   pub buffer : after ≡ readLeaves p page blocks
 
-abbrev pub judgeNumber : Parameters → List ℕ → ℕ
-judgeNumber p page = verdictNumber (judgeAnswer p page)
+pub record JudgedC (p : Parameters) (page : List ℕ) (r : ℕ) : Type 0 where
+  pub answers : r ≡ judgeNumber p page
+  pub small : judgeRefusal p page ≤ lastRefusal
 
 abbrev pub SyndromesMadeC : Parameters → List ℕ → ℕ → List ℕ → List ℕ → ℕ → Type 0
 SyndromesMadeC p page i out after r = MadeC (syndromesRefusal 2 p page i (length out)) (asBytes (syndromeList p page i)) out after r
@@ -216,3 +250,9 @@ nestingBy (suc k) c = Nesting.Refused (suc k)
 unfoldable pub nesting : ℕ → ℕ → Nesting
 unfolding N
 nesting i l = nestingBy (nestingRefusal i l) (N i l)
+
+pub record NestingMade (i l : ℕ) (r : Nesting) : Type 0 where
+  pub answers : r ≡ nesting i l
+  pub number : nestingNumber r ≡ nestingRefusal i l
+  pub values : nestingValues r ≡ valuesBy (nestingRefusal i l) (N i l ∷ [])
+  pub small : nestingRefusal i l ≤ lastRefusal

@@ -9,6 +9,7 @@
 --   encode p ds         the words of the data ds; dataWords p cs the data of words
 --   IsMember p cs       the words of a member of the code
 --   verdict p cs        member, or the first word that fails: sub-words before nested words
+--   failingNumber p cs  its number, apart from the enum: 32 + i, 64 + l, or 0; failingValues p cs its values: i, l, or none
 --   syndromes p k c     S_1 to S_k of a word
 --   divisor p l         g_(v-l) / g_0; shortRemainder p l cs is the remainder of nested word l by it
 --   distance p          the smallest of (v + 1)(2 t_0 + 1) and b (2 t_(v-b+1) + 1), b from 1 to v
@@ -22,7 +23,7 @@ use Rattle.polynomial.specs.Division.{rem, quot, deg}
 use Rattle.polynomial.specs.Multiple.{Multiple}
 use Rattle.polynomial.specs.Xor.{xor}
 use Rattle.field.specs.Elements.{syndrome}
-use Rattle.field.specs.Fields.{fieldOf, fieldPolynomial}
+use Rattle.field.specs.Fields.{fieldOf}
 use Rattle.generator.specs.Generator.{generator, width}
 use Rattle.code.specs.declared.Parameters.{Parameters}
 use Rattle.code.specs.declared.Verdict.{Verdict}
@@ -137,6 +138,14 @@ failingNested p cs = first (λ l. not (eqb (remainder p (p .v - l) (nested p l c
 unfoldable pub verdict : Parameters → List ℕ → Verdict
 unfolding failing failingNested
 verdict p cs = cond (ltb (failing p cs) (p .m)) (SubWord (failing p cs)) (cond (ltb (failingNested p cs) (p .v)) (NestedWord (failingNested p cs)) Member)
+
+unfoldable pub failingNumber : Parameters → List ℕ → ℕ
+unfolding failing failingNested
+failingNumber p cs = cond (ltb (failing p cs) (p .m)) (32 + failing p cs) (cond (ltb (failingNested p cs) (p .v)) (64 + failingNested p cs) 0)
+
+unfoldable pub failingValues : Parameters → List ℕ → List ℕ
+unfolding failing failingNested
+failingValues p cs = cond (ltb (failing p cs) (p .m)) (failing p cs ∷ []) (cond (ltb (failingNested p cs) (p .v)) (failingNested p cs ∷ []) [])
 
 -- ---- syndromes and short remainders
 unfoldable pub syndromes : Parameters → ℕ → ℕ → List ℕ

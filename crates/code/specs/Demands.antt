@@ -1,9 +1,10 @@
 -- What demands 2 and 3 say, as types, for accepted parameters. The proofs stand in Theorems.
 -- The calls appear by what they promise: Written p L blocks old after r is write's promise of its answer r and of the page buffer after it,
 -- and so are ReadOut and Judged; each call has a width and buffers of its own, of any old content.
---   GeneratorOf q t g    g is the generator for strength t over the field of q: document 01's words
+--   GeneratorOf q t g    g is the generator for strength t over the field of q: the requirement's words
 --   Demand2 p            fields, generators, remainders, syndromes, registers, placement, membership and written pages are those of the code
 --   Demand3 p            alike at every two widths; sums; members are what is written again; distance
+--   Demand3C p           the same of the C calls: WrittenC, ReadOutC, JudgedC, whose answers are numbers, 0 for done and member
 use mathlib.Core.Path.{_≡_}
 use mathlib.Core.Logic.{_≢_, _↔_}
 use mathlib.Core.List.{List, []}
@@ -22,7 +23,7 @@ use Rattle.field.specs.Irreducible.{NoFactor}
 use Rattle.code.specs.declared.Parameters.{Parameters}
 use Rattle.code.specs.declared.Outcome.{Outcome}
 use Rattle.code.specs.declared.Verdict.{Verdict}
-use Rattle.code.specs.Calls.{Judged, ReadOut, Written, asBytes, empty, generators, nestedOf, nestedSyndromeList, nestedWordBytes, opened, outcome, remainderBytes, shortBytes, subWordOf, syndromeList}
+use Rattle.code.specs.Calls.{Judged, JudgedC, ReadOut, ReadOutC, Written, WrittenC, asBytes, empty, generators, nestedOf, nestedSyndromeList, nestedWordBytes, opened, outcome, remainderBytes, shortBytes, subWordOf, syndromeList}
 use Rattle.code.specs.Code.{IsMember, N, carried, degree, distance, divisor, gen, nested, newton, remainder, shortRemainder}
 use Rattle.code.specs.Layout.{Bytes, Fits, IsPage, blockBit, blocksOf, coefficientOf, dataOf, differences, pageOf, wordsOf}
 use Rattle.code.specs.Lists.{sum}
@@ -144,6 +145,8 @@ pub record Demand2 (p : Parameters) : Type 0 where
   pub placement-laws : PlacementLaws p
   pub judge-laws : (x : List ℕ) (r : Verdict) → IsPage p x → Judged p x r → JudgeLaws p x r
   pub write-laws : (L : ℕ) (blocks old after : List ℕ) (r : Outcome) → Width L → Fits p blocks → PageBuffer p old → Written p L blocks old after r → WriteLaws p blocks after r
+  -- read out's answer is judge's, on every page that is lent with a buffer of the blocks' exact length
+  pub read-laws : (x old out : List ℕ) (j r : Verdict) → BlocksBuffer p old → Judged p x j → ReadOut p x old out r → r ≡ j
   pub equal-form-laws : EqualFormLaws p
 
 -- ---- demand 3
@@ -182,6 +185,39 @@ pub record Demand3 (p : Parameters) : Type 0 where
   pub apart : (x y : List ℕ) → Bytes x → Bytes y → Judged p x Verdict.Member → Judged p y Verdict.Member → x ≢ y → distance p ≤ differences p x y
   pub smallest : Smallest p
 
+-- ---- demand 3 of the C calls
+-- the same number and, when that is 0, the same page
+pub record AlikeC (after after′ : List ℕ) (r r′ : ℕ) : Type 0 where
+  pub answers : r ≡ r′
+  pub pages : r ≡ 0 → after ≡ after′
+
+pub record SumsC (p : Parameters) (a b page-a page-b page-sum : List ℕ) (r-a r-b r-sum : ℕ) : Type 0 where
+  pub fits : Fits p (add a b)
+  pub done-a : r-a ≡ 0
+  pub done-b : r-b ≡ 0
+  pub done : r-sum ≡ 0
+  pub page : page-sum ≡ add page-a page-b
+
+pub record RewritesC (x after : List ℕ) (j r w : ℕ) : Type 0 where
+  pub done : w ≡ 0
+  pub by-judge : (j ≡ 0) ↔ (after ≡ x)
+  pub by-read-out : (r ≡ 0) ↔ (after ≡ x)
+
+pub record Demand3C (p : Parameters) : Type 0 where
+  pub alike : (L M : ℕ) (blocks old old′ after after′ : List ℕ) (r r′ : ℕ) → Width L → Width M → length old ≡ length old′
+      → WrittenC p L blocks old after r → WrittenC p M blocks old′ after′ r′ → AlikeC after after′ r r′
+  pub sums : (K L M : ℕ) (a b old-a old-b old-sum page-a page-b page-sum : List ℕ) (r-a r-b r-sum : ℕ)
+      → Width K → Width L → Width M → Fits p a → Fits p b → PageBuffer p old-a → PageBuffer p old-b → PageBuffer p old-sum
+      → WrittenC p K a old-a page-a r-a → WrittenC p L b old-b page-b r-b → WrittenC p M (add a b) old-sum page-sum r-sum
+      → SumsC p a b page-a page-b page-sum r-a r-b r-sum
+  pub rewrites : (L : ℕ) (x old-blocks blocks old-page after : List ℕ) (j r w : ℕ) → Width L → IsPage p x → BlocksBuffer p old-blocks → PageBuffer p old-page
+      → JudgedC p x j → ReadOutC p x old-blocks blocks r → WrittenC p L blocks old-page after w → RewritesC x after j r w
+  pub apart : (x y : List ℕ) → Bytes x → Bytes y → JudgedC p x 0 → JudgedC p y 0 → x ≢ y → distance p ≤ differences p x y
+
 -- ---- both, for every accepted sheet
 abbrev pub Demands : Type 0
 Demands = (p : Parameters) → Accepted p → Demand2 p × Demand3 p
+
+-- ---- and, of the C calls, demand 3
+abbrev pub DemandsC : Type 0
+DemandsC = (p : Parameters) → Accepted p → Demand3C p

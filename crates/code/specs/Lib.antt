@@ -1,4 +1,4 @@
--- Document 01 as definitions, and the theorems of demands 2 and 3 on them.
+-- The requirement as definitions, and the theorems of demands 2 and 3 on them.
 -- The definitions:
 pub mod Lists
 pub mod Parameters
@@ -16,6 +16,7 @@ pub mod Newton
 pub mod Encode
 pub mod Places
 -- The theorems on accepted parameters and on bytes:
+pub mod Chains
 pub mod Accepted
 pub mod Bytes
 pub mod Pages
@@ -25,6 +26,7 @@ pub mod Answers
 pub mod Placement
 pub mod Registers
 pub mod Buffers
--- What demands 2 and 3 say, and the theorem:
+-- What demands 2 and 3 say, and the theorems; Firmware is demand 3 of the C calls:
 pub mod Demands
 pub mod Theorems
+pub mod Firmware

@@ -8,6 +8,8 @@
 --   countBelow n P    how many k < n pass the test P; addBelow n f is f 0 + .. + f (n - 1)
 --   k when b          the number k under the condition b, else 0, which is no refusal
 --   r orElse s        the refusal r or, if there is none, s
+--   valuesBy r l      the values l of an answer or, beside the refusal r, none
+--   lastRefusal       the greatest number of a refusal
 use mathlib.Core.Bool.{Bool, true, false, _&&_, _||_, cond}
 use mathlib.Core.List.{List, [], _∷_, _++_}
 use Prim.Native.Nat.{ℕ, zero, suc, _+_, _^_}
@@ -64,3 +66,10 @@ k when false = 0
 abbrev pub _orElse_ : ℕ → ℕ → ℕ
 zero orElse s = s
 suc r orElse s = suc r
+
+abbrev pub valuesBy : ℕ → List ℕ → List ℕ
+valuesBy zero l = l
+valuesBy (suc r) l = []
+
+abbrev pub lastRefusal : ℕ
+lastRefusal = 12

@@ -7,16 +7,16 @@
 --   strength p a      t_a, the strength of level a
 --   sheetRefusal p    the refusal of the parameters, 1 to 4; 0: they are accepted
 --   Accepted p        the parameters meet every rule
---   tested p          what testing them answers; Tests p r is the test's promise
+--   tested p          what testing them answers; sheetValues p the values of the answer; Tests p r is the test's promise
 use mathlib.Core.Path.{_≡_}
 use mathlib.Core.Bool.{Bool, not, _&&_, _||_, cond}
 use mathlib.Core.List.{List, [], _∷_}
-use Prim.Native.Nat.{ℕ, zero, suc, _+_, _-_, _*_, _/_, _%_, _^_, _≤_}
+use Prim.Native.Nat.{ℕ, zero, suc, _-_, _*_, _/_, _%_, _^_, _≤_}
 use lib.Dec.{eqb, leb, ltb}
 use lib.ListN.{getD}
 use Rattle.code.specs.declared.Parameters.{Parameters}
 use Rattle.code.specs.declared.Tested.{Tested}
-use Rattle.code.specs.Lists.{range, any, _when_, _orElse_}
+use Rattle.code.specs.Lists.{range, any, _when_, _orElse_, valuesBy, lastRefusal}
 
 abbrev pub len : Parameters → ℕ
 len p = 2 ^ p .q - 1
@@ -85,8 +85,14 @@ abbrev pub testedValues : Tested → List ℕ
 testedValues (Tested.Accepted q m v t0 t1 t2 t3) = q ∷ m ∷ v ∷ t0 ∷ t1 ∷ t2 ∷ t3 ∷ []
 testedValues (Tested.Refused k) = []
 
--- what the test promises; a refusal's number is 1 to 12
+-- apart from the enum: the seven numbers, where they are accepted
+unfoldable pub sheetValues : Parameters → List ℕ
+unfolding sheetRefusal
+sheetValues p = valuesBy (sheetRefusal p) (p .q ∷ p .m ∷ p .v ∷ p .t0 ∷ p .t1 ∷ p .t2 ∷ p .t3 ∷ [])
+
+-- what the test promises
 pub record Tests (p : Parameters) (r : Tested) : Type 0 where
   pub answers : r ≡ tested p
   pub number : testedNumber r ≡ sheetRefusal p
-  pub small : sheetRefusal p ≤ 12
+  pub values : testedValues r ≡ sheetValues p
+  pub small : sheetRefusal p ≤ lastRefusal

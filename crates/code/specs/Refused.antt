@@ -1,23 +1,23 @@
 -- When a call is refused, with which numbers, and what it answers otherwise.
 --   Width L               L is 1 to 64
 --   PageBuffer p old      a page buffer of exact length; BlocksBuffer p old a blocks buffer
-use mathlib.Core.Path.{_≡_, refl, sym, _∙_}
+use mathlib.Core.Path.{_≡_, refl, sym, ap, _∙_}
 use mathlib.Core.Logic.{_⊎_, inl, inr}
-use mathlib.Core.Bool.{Bool, true, false, not}
+use mathlib.Core.Bool.{true, not}
 use mathlib.Core.List.{List}
-use Prim.Native.Nat.{ℕ, zero, suc, _≤_, zero-le}
+use Prim.Native.Nat.{ℕ, zero, suc, _≤_}
 use native.Mathlib.Nat as Nat
 use native.Mathlib.Omega.{arith}
-use lib.Dec.{T, eqb, leb, ltb, eqb→eq, eqb-refl, ltb→lt, lit≤, not-T}
+use lib.Dec.{T, eqb, leb, ltb, eqb→eq, ltb→lt, nltb→le, lit≤, not-T}
 use lib.ListN.{length}
 use Rattle.code.specs.declared.Parameters.{Parameters}
 use Rattle.code.specs.declared.Outcome.{Outcome}
 use Rattle.code.specs.declared.Verdict.{Verdict}
-use Rattle.code.specs.Accepted.{either, none}
+use Rattle.code.specs.Chains.{either, exact-none, exact-of, neither, none, nonzero, off, off′, or-le, or-none, or-zero, when-le}
 use Rattle.code.specs.Calls.{judgeAnswer, readAnswer, readLeaves, unlessRefused, writeAnswer, writeLeaves}
 use Rattle.code.specs.Code.{verdict}
 use Rattle.code.specs.Layout.{Bytes, Fits, IsPage, blocksClear, dataBytes, dataOf, pageBytes, pageClear, pageOf, wordsOf}
-use Rattle.code.specs.Lists.{_orElse_, _when_}
+use Rattle.code.specs.Lists.{_orElse_, _when_, lastRefusal}
 use Rattle.code.specs.Parameters.{Accepted, clashes, fieldKnown, shapeFits, sheetRefusal, strengthsFit}
 use Rattle.code.specs.Refusals.{badWidth, judgeLengths, judgeRefusal, notExact, readLengths, readRefusal, wordRefusal, writeLengths, writeRefusal}
 
@@ -31,34 +31,7 @@ PageBuffer p old = length old ≡ pageBytes p
 abbrev pub BlocksBuffer : Parameters → List ℕ → Type 0
 BlocksBuffer p old = length old ≡ dataBytes p
 
--- ---- chains
-pub off : (c : ℕ) (b : Bool) → T b → (c when not b) ≡ 0
-off c true t = refl
-off c false t = absurd t
-
-pub off′ : (c : ℕ) (b : Bool) → T (not b) → (c when b) ≡ 0
-off′ c true t = absurd t
-off′ c false t = refl
-
-pub or-zero : (r s : ℕ) → r ≡ 0 → s ≡ 0 → (r orElse s) ≡ 0
-or-zero zero s e f = f
-or-zero (suc r) s e f = e
-
-pub or-none : (r s : ℕ) → (r orElse s) ≡ 0 → (r ≡ 0) × (s ≡ 0)
-or-none zero s e = (refl, e)
-or-none (suc r) s e = absurd (Nat.suc-ne-zero r e)
-
-pub exact-none : (c k exact : ℕ) → k ≡ exact → (c when notExact k exact) ≡ 0
-exact-none c k exact e = off c (eqb k exact) (rw e (eqb-refl exact))
-
-pub when-le : (c : ℕ) (b : Bool) → c ≤ 12 → (c when b) ≤ 12
-when-le c true h = h
-when-le c false h = zero-le
-
-pub or-le : (r s : ℕ) → r ≤ 12 → s ≤ 12 → (r orElse s) ≤ 12
-or-le zero s h k = k
-or-le (suc r) s h k = h
-
+-- ---- widths
 pub width-good : (L : ℕ) → Width L → T (not (badWidth L))
 width-good L w = not-T (badWidth L) (λ t. go (either (eqb L 0) (ltb 64 L) t))
   where
@@ -66,8 +39,14 @@ width-good L w = not-T (badWidth L) (λ t. go (either (eqb L 0) (ltb 64 L) t))
     go (inl t) = Nat.not-suc-le-zero {n = 0} (omega (arith, eqb→eq L 0 t, w .low))
     go (inr t) = Nat.not-suc-le-zero {n = 0} (omega (arith, ltb→lt 64 L t, w .high))
 
+width-is : (L : ℕ) → T (not (badWidth L)) → Width L
+width-is L t = let n = neither (eqb L 0) (ltb 64 L) t in record { low = nonzero L (n .0); high = nltb→le 64 L (n .1) }
+
+pub width-of : (L : ℕ) → true ≡ not (badWidth L) → Width L
+width-of L e = width-is L (rw (← e) tt)
+
 -- ---- the defining equations, link by link
-pub sheet-le : (p : Parameters) → sheetRefusal p ≤ 12
+pub sheet-le : (p : Parameters) → sheetRefusal p ≤ lastRefusal
 unfolding sheetRefusal
 sheet-le p =
     or-le (1 when not (fieldKnown p)) (2 when not (shapeFits p) orElse 3 when not (strengthsFit p) orElse 4 when clashes p) (when-le 1 (not (fieldKnown p)) (lit≤ tt))
@@ -97,26 +76,26 @@ module _ (p : Parameters) where
   unfolding writeRefusal writeLengths
   write-chain L a k = refl
 
-  -- ---- a refusal's number is at most 12
-  pub judge-le : (x : List ℕ) → judgeRefusal p x ≤ 12
+  -- ---- no refusal's number is above the last
+  pub judge-le : (x : List ℕ) → judgeRefusal p x ≤ lastRefusal
   judge-le x =
       rw (judge-chain x) (or-le (sheetRefusal p orElse page-7 (length x)) (stray-8 x)
       (or-le (sheetRefusal p) (page-7 (length x)) (sheet-le p) (when-le 7 (notExact (length x) (pageBytes p)) (lit≤ tt))) (when-le 8 (not (pageClear p x)) (lit≤ tt)))
 
-  pub read-le : (x : List ℕ) (k : ℕ) → readRefusal p x k ≤ 12
+  pub read-le : (x : List ℕ) (k : ℕ) → readRefusal p x k ≤ lastRefusal
   read-le x k =
       rw (read-chain x k) (or-le (sheetRefusal p orElse blocks-6 k orElse page-7 (length x)) (stray-8 x)
       (or-le (sheetRefusal p) (blocks-6 k orElse page-7 (length x)) (sheet-le p)
       (or-le (blocks-6 k) (page-7 (length x)) (when-le 6 (notExact k (dataBytes p)) (lit≤ tt)) (when-le 7 (notExact (length x) (pageBytes p)) (lit≤ tt)))) (when-le 8 (not (pageClear p x)) (lit≤ tt)))
 
-  pub write-le : (L : ℕ) (a : List ℕ) (k : ℕ) → writeRefusal p L a k ≤ 12
+  pub write-le : (L : ℕ) (a : List ℕ) (k : ℕ) → writeRefusal p L a k ≤ lastRefusal
   write-le L a k =
       rw (write-chain L a k) (or-le (sheetRefusal p orElse 5 when badWidth L orElse blocks-6 (length a) orElse page-7 k) (8 when not (blocksClear p a))
       (or-le (sheetRefusal p) (5 when badWidth L orElse blocks-6 (length a) orElse page-7 k) (sheet-le p)
       (or-le (5 when badWidth L) (blocks-6 (length a) orElse page-7 k) (when-le 5 (badWidth L) (lit≤ tt))
       (or-le (blocks-6 (length a)) (page-7 k) (when-le 6 (notExact (length a) (dataBytes p)) (lit≤ tt)) (when-le 7 (notExact k (pageBytes p)) (lit≤ tt))))) (when-le 8 (not (blocksClear p a)) (lit≤ tt)))
 
-  pub word-le : (x : List ℕ) (i many out exact : ℕ) → wordRefusal p x i many out exact ≤ 12
+  pub word-le : (x : List ℕ) (i many out exact : ℕ) → wordRefusal p x i many out exact ≤ lastRefusal
   unfolding wordRefusal
   word-le x i many out exact =
       or-le (judgeRefusal p x) (9 when leb many i orElse 10 when notExact out exact) (judge-le x)
@@ -126,6 +105,10 @@ module _ (p : Parameters) where
   pub write-alike : (L M : ℕ) → Width L → Width M → (a : List ℕ) (k : ℕ) → writeRefusal p L a k ≡ writeRefusal p M a k
   write-alike L M w w′ a k =
       write-chain L a k ∙ rw (off′ 5 (badWidth L) (width-good L w)) (sym (write-chain M a k ∙ rw (off′ 5 (badWidth M) (width-good M w′)) refl))
+
+  -- ---- lent blocks of exact length, read out is refused as judge is
+  pub read-judge : (x old : List ℕ) → BlocksBuffer p old → readRefusal p x (length old) ≡ judgeRefusal p x
+  read-judge x old e = read-chain x (length old) ∙ rw (exact-none 6 (length old) (dataBytes p) e) (sym (judge-chain x))
 
   -- ---- calls that are not refused
   module _ (A : Accepted p) where
@@ -163,7 +146,7 @@ module _ (p : Parameters) where
       let z : judgeRefusal p x ≡ 0 = unrefused (judgeRefusal p x) (verdict p (wordsOf p x)) (sym (judge-eq x) ∙ e) in
       let a = or-none (sheetRefusal p orElse page-7 (length x)) (stray-8 x) (sym (judge-chain x) ∙ z) in
       let b = or-none (sheetRefusal p) (page-7 (length x)) (a .0) in
-      record { bytes = h; exact = eqb→eq (length x) (pageBytes p) (none 6 (eqb (length x) (pageBytes p)) 0 (or-zero (page-7 (length x)) 0 (b .1) refl) .0); clear = none 7 (pageClear p x) 0 (or-zero (stray-8 x) 0 (a .1) refl) .0 }
+      record { bytes = h; exact = exact-of 6 (length x) (pageBytes p) (b .1); clear = none 7 (pageClear p x) 0 (or-zero (stray-8 x) 0 (a .1) refl) .0 }
 
   -- ---- the answers where nothing is refused
   module _ (A : Accepted p) where

@@ -20,6 +20,7 @@ use Rattle.polynomial.specs.Xor.{xor, xor-is}
 use Rattle.field.specs.Field.{add-assoc, add-comm, add-zero, zero-add}
 use Rattle.code.specs.declared.Parameters.{Parameters}
 use Rattle.code.specs.declared.Outcome.{Outcome}
+use Rattle.code.specs.Chains.{off′, or-zero}
 use Rattle.code.specs.Register.{Register, Fed}
 use Rattle.code.specs.Accepted.{Rules, accepted, degree-high, lawful}
 use Rattle.code.specs.Calls.{advanced, empty, fed, opened, outcome}
@@ -27,7 +28,7 @@ use Rattle.code.specs.Code.{degree, gen, level, remainder}
 use Rattle.code.specs.Lists.{_orElse_, _when_, sum}
 use Rattle.code.specs.Parameters.{Accepted, full, sheetRefusal}
 use Rattle.code.specs.Refusals.{badWidth, feedRefusal, openRefusal}
-use Rattle.code.specs.Refused.{Width, off′, or-zero, width-good}
+use Rattle.code.specs.Refused.{Width, width-good}
 
 abbrev pub cut : ℕ → List ℕ → List (ℕ × ℕ)
 cut c [] = []

@@ -3,7 +3,7 @@ use mathlib.Core.Path.{_≡_, refl, sym, ap, ap₂, _∙_}
 use mathlib.Core.Logic.{_≢_, _↔_}
 use mathlib.Core.Bool.{not}
 use mathlib.Core.List.{List}
-use Prim.Native.Nat.{ℕ, zero, suc, _+_, _-_, _*_, _/_, _^_, _≤_, _<_, zero-le, suc-le-suc}
+use Prim.Native.Nat.{ℕ, zero, suc, _+_, _-_, _*_, _^_, _≤_, _<_, zero-le, suc-le-suc}
 use native.Mathlib.Nat as Nat
 use native.Mathlib.Omega.{arith}
 use lib.Dec.{eqb, lit≤}
@@ -23,6 +23,7 @@ use Rattle.code.specs.declared.Outcome.{Outcome}
 use Rattle.code.specs.declared.Verdict.{Verdict}
 use Rattle.code.specs.Register.{Register}
 use Rattle.generator.specs.Generator as G
+use Rattle.code.specs.Answers.{read-as-judge}
 use Rattle.code.specs.Accepted.{Rules, accepted, degree-le, lawful, n-is, q-high, width-below}
 use Rattle.code.specs.Buffers.{bytes-at, divides-up, divisor-deg, divisor-degree, divisor-times, length-syndromes, nested-back, remainder-back, row-back, short-back, short-differ, short-lt, syndromes-at}
 use Rattle.code.specs.Calls.{Judged, ReadOut, Written, asBytes, empty, judgeAnswer, leaves, nestedOf, nestedSyndromeList, outcome, subWordOf, syndromeList}
@@ -228,6 +229,7 @@ module _ (p : Parameters) (A : Accepted p) where
     };
     judge-laws = judged-laws;
     write-laws = written-laws;
+    read-laws = λ x old out j r e J O. O .answers ∙ read-as-judge p x old e ∙ sym (J .answers);
     equal-form-laws = record { as-whole = λ cs e. equal-form cs; from-l = N-above };
   }
 

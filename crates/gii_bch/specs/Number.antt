@@ -10,6 +10,7 @@ use borrow.Author.Tests.{ltb-true}
 use Rattle.code.specs.declared.Outcome.{Outcome}
 use Rattle.code.specs.declared.Parameters.{Parameters}
 use Rattle.code.specs.declared.Verdict.{Verdict}
+use Rattle.code.specs.Chains.{or-none}
 use Rattle.code.specs.Accepted.{accepted}
 use Rattle.code.specs.Calls.{Judged, Made, MadeC, ReadOut, ReadOutC, judgeAnswer, outcomeNumber, readAnswer, unlessRefused, verdictNumber}
 use Rattle.code.specs.Code.{failing, failingNested, verdict}
@@ -17,7 +18,7 @@ use Rattle.code.specs.Layout.{dataBytes, pageBytes, pageClear, wordsOf}
 use Rattle.code.specs.Lists.{_when_, _orElse_}
 use Rattle.code.specs.Parameters.{Accepted, sheetRefusal}
 use Rattle.code.specs.Refusals.{judgeRefusal, readLengths, readRefusal, notExact}
-use Rattle.code.specs.Refused.{judge-le, or-none, read-le}
+use Rattle.code.specs.Refused.{judge-le, read-le}
 use Rattle.refusal.specs.Judging.{sheet-zero}
 
 -- ---- the number of an outcome

@@ -12,14 +12,14 @@ use borrow.Author.Tests.{le-leb, lt-leb, leb-false, eq-eqb, ne-eqb}
 use Rattle.polynomial.specs.Sums.{at-all}
 use Rattle.code.specs.declared.Outcome.{Outcome}
 use Rattle.code.specs.declared.Parameters.{Parameters}
-use Rattle.code.specs.Accepted.{none}
-use Rattle.code.specs.Answers.{made-done, made-refused, or-first, or-second}
+use Rattle.code.specs.Chains.{none, or-first, or-none, or-second, or-zero}
+use Rattle.code.specs.Answers.{made-done, made-refused}
 use Rattle.code.specs.Calls.{Made}
 use Rattle.code.specs.Layout.{IsPage}
 use Rattle.code.specs.Lists.{_when_, _orElse_}
 use Rattle.code.specs.Parameters.{Accepted}
 use Rattle.code.specs.Refusals.{judgeRefusal, wordRefusal, notExact}
-use Rattle.code.specs.Refused.{or-zero, or-none, word-le}
+use Rattle.code.specs.Refused.{word-le}
 use Rattle.refusal.specs.Judging.{sheet-zero, page-exact, page-clear}
 
 pub record Unrefused (p : Parameters) (x : List ℕ) (i many out exact : ℕ) : Type 0 where

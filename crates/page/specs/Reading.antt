@@ -7,13 +7,12 @@ use lib.Dec.{T, eqb, eqb→eq}
 use lib.ListN.{length}
 use Rattle.code.specs.declared.Parameters.{Parameters}
 use Rattle.code.specs.declared.Tested.{Tested}
-use Rattle.code.specs.Accepted.{none}
-use Rattle.code.specs.Answers.{or-first, or-second, sheet-pos}
+use Rattle.code.specs.Chains.{none, or-first, or-none, or-second, or-zero}
+use Rattle.code.specs.Answers.{sheet-pos}
 use Rattle.code.specs.Layout.{dataBytes, pageBytes, pageClear}
 use Rattle.code.specs.Lists.{_when_, _orElse_}
 use Rattle.code.specs.Parameters.{sheetRefusal, Tests}
 use Rattle.code.specs.Refusals.{readRefusal, readLengths, notExact}
-use Rattle.code.specs.Refused.{or-zero, or-none}
 
 -- a length that is not refused is exact
 pub exact : (c k e : ℕ) → (suc c when notExact k e) ≡ 0 → k ≡ e

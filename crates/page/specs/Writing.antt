@@ -11,13 +11,14 @@ use lib.ListN.{length}
 use Rattle.code.specs.declared.Outcome.{Outcome}
 use Rattle.code.specs.declared.Parameters.{Parameters}
 use Rattle.code.specs.declared.Tested.{Tested}
-use Rattle.code.specs.Answers.{made-refused, made-done, or-first, or-second, sheet-pos}
+use Rattle.code.specs.Chains.{or-first, or-none, or-second}
+use Rattle.code.specs.Answers.{made-refused, made-done, sheet-pos}
 use Rattle.code.specs.Calls.{Written}
 use Rattle.code.specs.Layout.{blocksClear, dataBytes, pageBytes, pageOf}
 use Rattle.code.specs.Lists.{_when_, _orElse_}
 use Rattle.code.specs.Parameters.{sheetRefusal, Tests}
 use Rattle.code.specs.Refusals.{writeRefusal, writeLengths, badWidth, notExact}
-use Rattle.code.specs.Refused.{or-none, write-le}
+use Rattle.code.specs.Refused.{write-le}
 use Rattle.page.specs.Reading.{exact}
 
 none-false : (k : ℕ) (c : Bool) → (suc k when c) ≡ 0 → c ≡ false

@@ -8,13 +8,12 @@ use lib.Dec.{T, eqb, eqb→eq}
 use lib.ListN.{length}
 use Rattle.code.specs.declared.Parameters.{Parameters}
 use Rattle.code.specs.declared.Tested.{Tested}
-use Rattle.code.specs.Accepted.{none}
-use Rattle.code.specs.Answers.{or-first, or-second, sheet-pos}
+use Rattle.code.specs.Chains.{none, or-first, or-none, or-second, or-zero}
+use Rattle.code.specs.Answers.{sheet-pos}
 use Rattle.code.specs.Layout.{pageBytes, pageClear}
 use Rattle.code.specs.Lists.{_when_, _orElse_}
 use Rattle.code.specs.Parameters.{sheetRefusal, Accepted, Tests}
 use Rattle.code.specs.Refusals.{judgeRefusal, judgeLengths, notExact}
-use Rattle.code.specs.Refused.{or-zero, or-none}
 
 module _ (p : Parameters) (x : List ℕ) where
   judge-eq : judgeRefusal p x ≡ (judgeLengths p (length x) orElse 8 when not (pageClear p x))

@@ -11,13 +11,13 @@ use borrow.Author.Tests.{lt-ltb, le-ltb, le-leb, lt-leb, ltb-true, ltb-false, le
 use Rattle.polynomial.specs.Digits.{value}
 use Rattle.code.specs.declared.Parameters.{Parameters}
 use Rattle.code.specs.declared.Tested.{Tested}
-use Rattle.code.specs.Accepted.{last, neither, nonzero}
-use Rattle.code.specs.Answers.{or-first, or-second, sheet-pos}
+use Rattle.code.specs.Chains.{last, neither, nonzero, or-first, or-le, or-none, or-second, when-le}
+use Rattle.code.specs.Answers.{sheet-pos}
 use Rattle.code.specs.Code.{degree}
 use Rattle.code.specs.Lists.{_when_, _orElse_}
 use Rattle.code.specs.Parameters.{Accepted, Tests, full, sheetRefusal}
 use Rattle.code.specs.Refusals.{badWidth, feedRefusal, openRefusal}
-use Rattle.code.specs.Refused.{Width, or-le, or-none, sheet-le, when-le}
+use Rattle.code.specs.Refused.{Width, sheet-le}
 use Rattle.code.specs.Register.{Register}
 
 unfoldable pub numbersRefusal : Parameters → ℕ → ℕ → ℕ → ℕ → ℕ

@@ -7,12 +7,12 @@ use mathlib.Core.List.{List, [], _∷_}
 use Prim.Native.Nat.{ℕ, zero, suc, _≤_, zero-le}
 use lib.Dec.{ltb, nltb→le}
 use Rattle.code.specs.declared.Parameters.{Parameters}
-use Rattle.code.specs.Accepted.{last}
+use Rattle.code.specs.Chains.{last, or-none}
 use Rattle.code.specs.Calls.{leaves}
 use Rattle.code.specs.Lists.{_when_, _orElse_}
 use Rattle.code.specs.Parameters.{Accepted, sheetRefusal}
 use Rattle.code.specs.Refusals.{openRefusal}
-use Rattle.code.specs.Refused.{or-none, sheet-le}
+use Rattle.code.specs.Refused.{sheet-le}
 use Rattle.sizes.specs.declared.Size.{Size}
 
 abbrev pub sizeNumber : Size → ℕ

@@ -13,8 +13,8 @@ use lib.ListN.{length, take, replicate, length-drop, length-take}
 use lib.Seq.{getD-take, take-all}
 use borrow.Author.Tests.{ne-eqb}
 use Rattle.code.specs.declared.Parameters.{Parameters}
+use Rattle.code.specs.Chains.{or-first}
 use Rattle.code.specs.Accepted.{accepted}
-use Rattle.code.specs.Answers.{or-first}
 use Rattle.code.specs.Layout.{blocksClear, dataBytes, pageBytes}
 use Rattle.code.specs.Lists.{_orElse_, _when_}
 use Rattle.code.specs.Parameters.{Accepted, sheetRefusal}

@@ -18,7 +18,8 @@ use Rattle.generator.specs.Exponents.{exponents, exponents-mono, orbit-exponent
 use Rattle.generator.specs.Generator.{length-le, width, width-eq}
 use Rattle.generator.specs.Distinct.{distinct}
 use Rattle.code.specs.declared.Parameters.{Parameters}
-use Rattle.code.specs.Accepted.{Rules, accepted, none, rising}
+use Rattle.code.specs.Chains.{none}
+use Rattle.code.specs.Accepted.{Rules, accepted, rising}
 use Rattle.code.specs.Code.{checkBits, degree, level}
 use Rattle.code.specs.Layout.{blockOffset, blockSizes, dataBits, dataBytes}
 use Rattle.code.specs.Lists.{_orElse_, _when_, range, sum}

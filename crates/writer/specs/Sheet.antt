@@ -7,12 +7,12 @@ use native.Mathlib.Nat as Nat
 use lib.ListN.{length, replicate}
 use Rattle.code.specs.declared.Parameters.{Parameters}
 use Rattle.code.specs.declared.Tested.{Tested}
-use Rattle.code.specs.Answers.{or-first, sheet-pos}
+use Rattle.code.specs.Chains.{or-first, or-none}
+use Rattle.code.specs.Answers.{sheet-pos}
 use Rattle.code.specs.Layout.{blocksClear, dataBytes, pageBytes}
 use Rattle.code.specs.Lists.{_orElse_, _when_}
 use Rattle.code.specs.Parameters.{Accepted, Tests, sheetRefusal, tested, testedNumber, testedOf}
 use Rattle.code.specs.Refusals.{badWidth, notExact, writeLengths, writeRefusal}
-use Rattle.code.specs.Refused.{or-none}
 use Rattle.code.specs.Writer.{Wrote, blocksGiven, lead, sheetGiven}
 use Rattle.writer.specs.Output.{wrote-refused}
 

@@ -1,0 +1,96 @@
+-- Demand 3 of the C calls, from demand 3: a C call's promise is that of the call behind it, with the number of its answer.
+use mathlib.Core.Path.{_≡_, refl, sym, ap, _∙_}
+use mathlib.Core.Logic.{_↔_}
+use mathlib.Core.List.{List}
+use Prim.Native.Nat.{ℕ}
+use lib.ListN.{length}
+use Rattle.polynomial.specs.Sums.{add}
+use Rattle.code.specs.declared.Outcome.{Outcome}
+use Rattle.code.specs.declared.Parameters.{Parameters}
+use Rattle.code.specs.declared.Verdict.{Verdict}
+use Rattle.code.specs.Answers.{judged, judged-zero, made-of, outcome-number, read, read-zero}
+use Rattle.code.specs.Calls.{Judged, JudgedC, ReadOutC, Written, WrittenC, judgeAnswer, outcome, outcomeNumber, readAnswer, verdictNumber}
+use Rattle.code.specs.Demands.{AlikeC, Demand3C, DemandsC, RewritesC, SumsC}
+use Rattle.code.specs.Layout.{Fits, IsPage, pageOf}
+use Rattle.code.specs.Parameters.{Accepted}
+use Rattle.code.specs.Refusals.{writeRefusal}
+use Rattle.code.specs.Refused.{BlocksBuffer, PageBuffer, Width}
+use Rattle.code.specs.Theorems.{demand3}
+
+module _ (p : Parameters) (A : Accepted p) where
+  abbrev refusal : ℕ → List ℕ → List ℕ → ℕ
+  refusal L b old = writeRefusal p L b (length old)
+
+  written : (L : ℕ) (b old after : List ℕ) (r : ℕ) → WrittenC p L b old after r → Written p L b old after (outcome (refusal L b old))
+  written L b old after r W = made-of (refusal L b old) (pageOf p b) old after r W
+
+  -- a C call that is done has the number 0, and no other has
+  zero-of : (r k : ℕ) → r ≡ k → outcome k ≡ Outcome.Done → r ≡ 0
+  zero-of r k e d = e ∙ sym (outcome-number k) ∙ ap outcomeNumber d
+
+  alike-c : (L M : ℕ) (blocks old old′ after after′ : List ℕ) (r r′ : ℕ) → Width L → Width M → length old ≡ length old′
+      → WrittenC p L blocks old after r → WrittenC p M blocks old′ after′ r′ → AlikeC after after′ r r′
+  alike-c L M b old old′ after after′ r r′ w w′ e W W′ =
+      let k = refusal L b old in
+      let k′ = refusal M b old′ in
+      let a = demand3 p A .alike L M b old old′ after after′ (outcome k) (outcome k′) w w′ e (written L b old after r W) (written M b old′ after′ r′ W′) in
+      record {
+        answers = W .answers ∙ sym (outcome-number k) ∙ ap outcomeNumber (a .answers) ∙ outcome-number k′ ∙ sym (W′ .answers);
+        pages = λ z. a .pages (ap outcome (sym (W .answers) ∙ z));
+      }
+
+  sums-c : (K L M : ℕ) (a b old-a old-b old-sum page-a page-b page-sum : List ℕ) (r-a r-b r-sum : ℕ)
+      → Width K → Width L → Width M → Fits p a → Fits p b → PageBuffer p old-a → PageBuffer p old-b → PageBuffer p old-sum
+      → WrittenC p K a old-a page-a r-a → WrittenC p L b old-b page-b r-b → WrittenC p M (add a b) old-sum page-sum r-sum
+      → SumsC p a b page-a page-b page-sum r-a r-b r-sum
+  sums-c K L M a b oa ob os pa pb ps ra rb rs wk wl wm h j ea eb es Wa Wb Ws =
+      let s = demand3 p A .sums K L M a b oa ob os pa pb ps (outcome (refusal K a oa)) (outcome (refusal L b ob)) (outcome (refusal M (add a b) os))
+            wk wl wm h j ea eb es (written K a oa pa ra Wa) (written L b ob pb rb Wb) (written M (add a b) os ps rs Ws) in
+      record {
+        fits = s .fits;
+        done-a = zero-of ra (refusal K a oa) (Wa .answers) (s .done-a);
+        done-b = zero-of rb (refusal L b ob) (Wb .answers) (s .done-b);
+        done = zero-of rs (refusal M (add a b) os) (Ws .answers) (s .done);
+        page = s .page;
+      }
+
+  judge-iff : (x : List ℕ) (j : ℕ) → JudgedC p x j → (j ≡ 0) ↔ (judgeAnswer p x ≡ Verdict.Member)
+  judge-iff x j J = (
+    (λ e. judged-zero p x (sym (J .answers) ∙ e)),
+    (λ e. J .answers ∙ sym (judged p x (judgeAnswer p x) refl .number) ∙ ap verdictNumber e),
+  )
+
+  read-iff : (x old out : List ℕ) (r : ℕ) → ReadOutC p x old out r → (r ≡ 0) ↔ (readAnswer p x old ≡ Verdict.Member)
+  read-iff x old out r O = (
+    (λ e. read-zero p x old (sym (O .answers) ∙ e)),
+    (λ e. O .answers ∙ sym (read p x old (readAnswer p x old) out refl (O .buffer) .number) ∙ ap verdictNumber e),
+  )
+
+  through : {X Y Z : Type 0} → X ↔ Y → Y ↔ Z → X ↔ Z
+  through f g = ((λ x. g .0 (f .0 x)), (λ z. f .1 (g .1 z)))
+
+  rewrites-c : (L : ℕ) (x old-blocks blocks old-page after : List ℕ) (j r w : ℕ) → Width L → IsPage p x → BlocksBuffer p old-blocks → PageBuffer p old-page
+      → JudgedC p x j → ReadOutC p x old-blocks blocks r → WrittenC p L blocks old-page after w → RewritesC x after j r w
+  rewrites-c L x ob blocks op after j r o w h eb ep J O W =
+      let k = refusal L blocks op in
+      let s = demand3 p A .rewrites L x ob blocks op after (judgeAnswer p x) (readAnswer p x ob) (outcome k) w h eb ep
+            (judged p x (judgeAnswer p x) refl) (read p x ob (readAnswer p x ob) blocks refl (O .buffer)) (written L blocks op after o W) in
+      record {
+        done = zero-of o k (W .answers) (s .done);
+        by-judge = through (judge-iff x j J) (s .by-judge);
+        by-read-out = through (read-iff x ob blocks r O) (s .by-read-out);
+      }
+
+  member-c : (x : List ℕ) → JudgedC p x 0 → Judged p x Verdict.Member
+  member-c x J = judged p x Verdict.Member (sym (judge-iff x 0 J .0 refl))
+
+  pub demand3-c : Demand3C p
+  demand3-c = record {
+    alike = alike-c;
+    sums = sums-c;
+    rewrites = rewrites-c;
+    apart = λ x y b c J K n. demand3 p A .apart x y b c (member-c x J) (member-c y K) n;
+  }
+
+pub demands-c : DemandsC
+demands-c = demand3-c
