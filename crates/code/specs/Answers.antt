@@ -18,9 +18,31 @@ use Rattle.code.specs.Chains.{when-le}
 use Rattle.code.specs.Code.{N, failing, failingNested, failingNumber, failingValues, verdict}
 use Rattle.code.specs.Layout.{dataOf, wordsOf}
 use Rattle.code.specs.Lists.{_orElse_, lastRefusal, valuesBy}
-use Rattle.code.specs.Parameters.{Tests, sheetRefusal, tested, testedOf}
+use Rattle.code.specs.Parameters.{Tests, sheetRefusal, sheetValues, tested, testedNumber, testedOf, testedValues}
 use Rattle.code.specs.Refusals.{judgeRefusal, nestingRefusal, readRefusal}
-use Rattle.code.specs.Refused.{BlocksBuffer, judge-le, read-judge, read-le}
+use Rattle.code.specs.Refused.{BlocksBuffer, judge-le, read-judge, read-le, sheet-le}
+
+-- ---- the test of parameters
+tested-number : (p : Parameters) (r : ℕ) → testedNumber (testedOf p r) ≡ r
+tested-number p zero = refl
+tested-number p (suc r) = refl
+
+tested-values : (p : Parameters) (r : ℕ)
+    → testedValues (testedOf p r) ≡ valuesBy r (p .q ∷ p .m ∷ p .v ∷ p .t0 ∷ p .t1 ∷ p .t2 ∷ p .t3 ∷ [])
+tested-values p zero = refl
+tested-values p (suc r) = refl
+
+module _ (p : Parameters) where
+  number-is : testedNumber (tested p) ≡ sheetRefusal p
+  unfolding tested
+  number-is = tested-number p (sheetRefusal p)
+
+  values-are : testedValues (tested p) ≡ sheetValues p
+  unfolding tested sheetValues
+  values-are = tested-values p (sheetRefusal p)
+
+  pub tests : (r : Tested) → r ≡ tested p → Tests p r
+  tests r e = record { answers = e; number = ap testedNumber e ∙ number-is; values = ap testedValues e ∙ values-are; small = sheet-le p }
 
 -- ---- a refused sheet's number is above 0
 tested-pos : (p : Parameters) (r k : ℕ) → testedOf p r ≡ Tested.Refused k → 0 < k
@@ -219,7 +241,7 @@ nesting-values-by : (i l r : ℕ) → nestingValues (nestingBy r (N i l)) ≡ va
 nesting-values-by i l zero = refl
 nesting-values-by i l (suc r) = refl
 
-nesting-eq : (i l : ℕ) → nesting i l ≡ nestingBy (nestingRefusal i l) (N i l)
+pub nesting-eq : (i l : ℕ) → nesting i l ≡ nestingBy (nestingRefusal i l) (N i l)
 unfolding nesting
 nesting-eq i l = refl
 

@@ -1,5 +1,5 @@
 -- Laws of chains of refusals: what a link shows that refuses, and what one shows that does not.
-use mathlib.Core.Path.{_≡_, refl}
+use mathlib.Core.Path.{_≡_, refl, sym, _∙_}
 use mathlib.Core.Logic.{_⊎_, inl, inr}
 use mathlib.Core.Bool.{Bool, true, false, not, _||_}
 use Prim.Native.Nat.{ℕ, zero, suc, _≤_, _<_, zero-le}
@@ -81,3 +81,7 @@ when-or c false b = refl
 -- a length that is not refused is exact
 pub exact-of : (c k exact : ℕ) → (suc c when notExact k exact) ≡ 0 → k ≡ exact
 exact-of c k exact z = eqb→eq k exact (none c (eqb k exact) 0 (or-zero (suc c when notExact k exact) 0 z refl) .0)
+
+-- a number that is not 0, found at the first link, is the chain's
+pub first-of : (k r s : ℕ) → k ≡ r → (k ≡ 0 → ⊥) → k ≡ (r orElse s)
+first-of k r s e h = e ∙ sym (or-first r s (Nat.pos-of-ne-zero (λ z. h (e ∙ z))))

@@ -13,7 +13,7 @@ use lib.ListN.{length}
 use Rattle.code.specs.declared.Parameters.{Parameters}
 use Rattle.code.specs.declared.Outcome.{Outcome}
 use Rattle.code.specs.declared.Verdict.{Verdict}
-use Rattle.code.specs.Chains.{either, exact-none, exact-of, neither, none, nonzero, off, off′, or-le, or-none, or-zero, when-le}
+use Rattle.code.specs.Chains.{either, exact-none, exact-of, neither, none, nonzero, off, off′, or-assoc, or-le, or-none, or-zero, when-le}
 use Rattle.code.specs.Calls.{judgeAnswer, readAnswer, readLeaves, unlessRefused, writeAnswer, writeLeaves}
 use Rattle.code.specs.Code.{verdict}
 use Rattle.code.specs.Layout.{Bytes, Fits, IsPage, blocksClear, dataBytes, dataOf, pageBytes, pageClear, pageOf, wordsOf}
@@ -75,6 +75,22 @@ module _ (p : Parameters) where
       → writeRefusal p L a k ≡ ((sheetRefusal p orElse 5 when badWidth L orElse blocks-6 (length a) orElse page-7 k) orElse 8 when not (blocksClear p a))
   unfolding writeRefusal writeLengths
   write-chain L a k = refl
+
+  -- ---- the links of a chain in their order
+  pub judge-links : (x : List ℕ) → judgeRefusal p x ≡ (sheetRefusal p orElse page-7 (length x) orElse stray-8 x)
+  judge-links x = judge-chain x ∙ or-assoc (sheetRefusal p) (page-7 (length x)) (stray-8 x)
+
+  pub read-links : (x : List ℕ) (k : ℕ) → readRefusal p x k ≡ (sheetRefusal p orElse blocks-6 k orElse page-7 (length x) orElse stray-8 x)
+  read-links x k =
+      read-chain x k ∙ or-assoc (sheetRefusal p) (blocks-6 k orElse page-7 (length x)) (stray-8 x)
+      ∙ ap (λ (r : ℕ). sheetRefusal p orElse r) (or-assoc (blocks-6 k) (page-7 (length x)) (stray-8 x))
+
+  pub write-links : (L : ℕ) (a : List ℕ) (k : ℕ)
+      → writeRefusal p L a k ≡ (sheetRefusal p orElse 5 when badWidth L orElse blocks-6 (length a) orElse page-7 k orElse 8 when not (blocksClear p a))
+  write-links L a k =
+      write-chain L a k ∙ or-assoc (sheetRefusal p) (5 when badWidth L orElse blocks-6 (length a) orElse page-7 k) (8 when not (blocksClear p a))
+      ∙ ap (λ (r : ℕ). sheetRefusal p orElse r) (or-assoc (5 when badWidth L) (blocks-6 (length a) orElse page-7 k) (8 when not (blocksClear p a))
+      ∙ ap (λ (r : ℕ). 5 when badWidth L orElse r) (or-assoc (blocks-6 (length a)) (page-7 k) (8 when not (blocksClear p a))))
 
   -- ---- no refusal's number is above the last
   pub judge-le : (x : List ℕ) → judgeRefusal p x ≤ lastRefusal

@@ -4,8 +4,8 @@ ghost use Prim.Native.Nat.{ℕ, _+_, _-_, _<_, _≤_, _^_};
 ghost use lib.Dec.{T, eqb};
 ghost use lib.ListN.{length, getD};
 ghost use Rattle.polynomial.specs.Digits.{value};
-ghost use Rattle.code.specs.Calls.{generators};
-ghost use Rattle.code.specs.Code.{degree, remainder, nested, failing, failingNested, verdict};
+ghost use Rattle.code.specs.Calls.{Named, generators};
+ghost use Rattle.code.specs.Code.{degree, remainder, nested, failing, failingNested};
 ghost use Rattle.code.specs.Layout.{pageBytes, pageClear, wordsOf};
 ghost use Rattle.code.specs.Parameters.{Accepted, nestedBytes, stored};
 ghost use Rattle.levels.specs.Ready.{Prepared};
@@ -92,22 +92,23 @@ fn first_failing_nested(
     v
 }
 
-// Judge's answer on a page.
-pub fn verdict_of(p: Parameters, page: &[u8]) -> Verdict
-    requires { ⌜ Accepted p × (length (now page) ≡ pageBytes p) × T (pageClear p (now page)) ⌝ }
-    ensures { λ r. ⌜ r ≡ verdict p (wordsOf p (now (page .entry))) ⌝ }
+// Judge's answer on a page, by the generators' rows. The array has one word more than the table: so the table stands at a multiple of 16 bytes in the frame of
+// the C call, where two words are read at a time, and no read crosses a line of the cache.
+pub fn verdict_of(p: Parameters, rows: [[u64; 13]; 4], page: &[u8]) -> Verdict
+    requires { ⌜ Accepted p × (rows ≡ generators p) × (length (now page) ≡ pageBytes p) × T (pageClear p (now page)) ⌝ }
+    ensures { λ r. ⌜ Named p (wordsOf p (now (page .entry))) r ⌝ }
 {
-    let rows = levels::rows(p);
     let w = levels::degree_at(p, rows, 0) as usize;
-    let mut t = [0u64; 3072];
-    levels::prepare(&mut t, p, rows, 0, w);
-    let i = first_failing(p, page, &t, w);
+    let mut table = [0u64; 3073];
+    let mut room = [0u8; 520];
+    let k = layout::sub_word_bytes(p) + 8;
+    let t = &mut table[..3072];
+    levels::prepare(t, p, rows, 0, w);
+    let i = first_failing(p, page, t, w);
     if i < p.m as usize {
         return Verdict::SubWord(i);
     }
-    let mut room = [0u8; 520];
-    let k = layout::sub_word_bytes(p) + 8;
-    let l = first_failing_nested(p, page, rows, &mut t, &mut room[..k]);
+    let l = first_failing_nested(p, page, rows, t, &mut room[..k]);
     if l < p.v as usize {
         return Verdict::NestedWord(l);
     }

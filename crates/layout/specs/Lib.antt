@@ -3,6 +3,5 @@ pub mod Sizes
 pub mod Runs
 pub mod Parts
 pub mod Clear
-pub mod Chains
 pub mod Replaced
 pub mod SubWords

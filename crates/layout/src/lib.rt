@@ -2,10 +2,9 @@
 ghost use mathlib.Core.Path.{_≡_};
 ghost use Prim.Native.Nat.{_+_, _/_, _^_, _≤_, _<_};
 ghost use lib.ListN.{length};
-ghost use Rattle.code.specs.Parameters.{Accepted, stored, subWordBytes};
+ghost use Rattle.code.specs.Parameters.{Accepted, full, stored, subWordBytes};
 ghost use Rattle.code.specs.Code.{level, checkBits};
 ghost use Rattle.code.specs.Layout.{pageBytes, dataBits, dataBytes, blockOffset, pageClear, blocksClear};
-ghost use Rattle.code.specs.Refusals.{writeLengths, readLengths, judgeLengths};
 ghost use Rattle.layout.specs.Sizes.{Degrees};
 ghost use Rattle.layout.specs.Runs.{runClear};
 use code::Parameters;
@@ -34,6 +33,14 @@ pub fn sub_word_bytes(p: Parameters) -> usize
     ensures { λ r. ⌜ r ≡ subWordBytes p ⌝ }
 {
     two_to(p.q as usize) / 8
+}
+
+// The count at which a register is full.
+pub fn full_count(p: Parameters) -> u64
+    requires { ⌜ Accepted p ⌝ }
+    ensures { λ r. ⌜ r ≡ full p ⌝ }
+{
+    stored_of(p) as u64
 }
 
 // The bytes of a page.
@@ -151,42 +158,4 @@ pub fn blocks_clear(p: Parameters, w: &[u32], blocks: &[u8]) -> bool
         i += 1;
     }
     true
-}
-
-// ---- refusals by lengths, of accepted parameters
-
-// 7 or none.
-pub fn judge_lengths(p: Parameters, page: usize) -> u8
-    requires { ⌜ Accepted p ⌝ }
-    ensures { λ r. ⌜ r ≡ judgeLengths p page ⌝ }
-{
-    let exact = page_bytes(p);
-    if page == exact { 0 } else { 7 }
-}
-
-// 6, 7 or none.
-pub fn read_lengths(p: Parameters, w: &[u32], page: usize, blocks: usize) -> u8
-    requires { ⌜ Accepted p × Degrees p (now w) ⌝ }
-    ensures { λ r. ⌜ r ≡ readLengths p page blocks ⌝ }
-{
-    let exact = data_bytes(p, w);
-    if blocks == exact {
-        judge_lengths(p, page)
-    } else {
-        6
-    }
-}
-
-// 5, 6, 7 or none.
-pub fn write_lengths(p: Parameters, w: &[u32], width: u32, blocks: usize, page: usize) -> u8
-    requires { ⌜ Accepted p × Degrees p (now w) ⌝ }
-    ensures { λ r. ⌜ r ≡ writeLengths p width blocks page ⌝ }
-{
-    if width == 0 {
-        return 5;
-    }
-    if 64 < width {
-        return 5;
-    }
-    read_lengths(p, w, page, blocks)
 }

@@ -1,2 +1,6 @@
--- Judge's chain, link by link.
+-- The chains of refusals, link by link: what each test of a program shows, and what the end of a chain shows.
 pub mod Judging
+pub mod Reading
+pub mod Writing
+pub mod Tests
+pub mod Feeding

@@ -1,18 +1,38 @@
-// The refusal of calls that read a page.
+// The refusal of every call: the number of the first condition that it meets, 0 for none. Each function tests in the order of its chain.
 ghost use mathlib.Core.Path.{_≡_};
-ghost use Rattle.code.specs.Parameters.{Accepted};
-ghost use Rattle.code.specs.Refusals.{judgeRefusal};
+ghost use mathlib.Core.Bool.{not};
+ghost use Prim.Native.Nat.{_+_, _^_, _≤_};
+ghost use lib.Dec.{leb, ltb};
+ghost use lib.ListN.{length};
+ghost use Rattle.polynomial.specs.Digits.{value};
+ghost use Rattle.code.specs.Parameters.{Accepted, sheetRefusal};
+ghost use Rattle.code.specs.Refusals.{badWidth, judgeRefusal, openRefusal, readRefusal, writeRefusal};
+ghost use Rattle.layout.specs.Sizes.{Degrees};
+ghost use Rattle.refusal.specs.Feeding.{numbersRefusal};
 use code::Parameters;
 use code::Tested;
+
+// For any numbers: 1 to 4, or 0.
+pub fn sheet_refusal(p: Parameters) -> u8
+    ensures { λ r. ⌜ r ≡ sheetRefusal p ⌝ }
+{
+    let tested = sheet::test(p);
+    let Tested::Refused(k) = tested else {
+        return 0;
+    };
+    k
+}
+
+// ---- calls on pages
 
 // For accepted parameters: 7 for the length, 8 for a spare bit.
 pub fn page_refusal(p: Parameters, page: &[u8]) -> u8
     requires { ⌜ Accepted p ⌝ }
     ensures { λ r. ⌜ r ≡ judgeRefusal p (now (page .entry)) ⌝ }
 {
-    let r = layout::judge_lengths(p, page.len());
-    if r != 0 {
-        return r;
+    let exact = layout::page_bytes(p);
+    if page.len() != exact {
+        return 7;
     }
     if layout::page_clear(p, page) {
         return 0;
@@ -24,9 +44,120 @@ pub fn page_refusal(p: Parameters, page: &[u8]) -> u8
 pub fn judge_refusal(p: Parameters, page: &[u8]) -> u8
     ensures { λ r. ⌜ r ≡ judgeRefusal p (now (page .entry)) ⌝ }
 {
-    let tested = sheet::test(p);
-    let Tested::Refused(k) = tested else {
-        return page_refusal(p, page);
-    };
-    k
+    let k = sheet_refusal(p);
+    if k != 0 {
+        return k;
+    }
+    page_refusal(p, page)
+}
+
+// For accepted parameters, whose degrees are w, and a buffer of `blocks` bytes: 6, 7, 8, or 0.
+pub fn read_refusal(p: Parameters, w: &[u32], page: &[u8], blocks: usize) -> u8
+    requires { ⌜ Accepted p × Degrees p (now w) ⌝ }
+    ensures { λ r. ⌜ r ≡ readRefusal p (now (page .entry)) blocks ⌝ }
+{
+    let exact = layout::data_bytes(p, w);
+    if blocks != exact {
+        return 6;
+    }
+    page_refusal(p, page)
+}
+
+// The width is 1 to 64.
+fn width_good(width: u32) -> bool
+    ensures { λ r. ⌜ r ≡ not (badWidth width) ⌝ }
+{
+    if width == 0 {
+        return false;
+    }
+    width <= 64
+}
+
+// For accepted parameters, whose degrees are w, and a buffer of `page` bytes: 5, 6, 7, 8 for an unused bit, or 0.
+pub fn write_refusal(p: Parameters, w: &[u32], width: u32, blocks: &[u8], page: usize) -> u8
+    requires { ⌜ Accepted p × Degrees p (now w) ⌝ }
+    ensures { λ r. ⌜ r ≡ writeRefusal p width (now (blocks .entry)) page ⌝ }
+{
+    if !width_good(width) {
+        return 5;
+    }
+    if blocks.len() != layout::data_bytes(p, w) {
+        return 6;
+    }
+    if page != layout::page_bytes(p) {
+        return 7;
+    }
+    if layout::blocks_clear(p, w, blocks) {
+        return 0;
+    }
+    8
+}
+
+// ---- registers
+
+// For any numbers: 1 to 4, 9, or 0.
+pub fn open_refusal(p: Parameters, level: u32) -> u8
+    ensures { λ r. ⌜ r ≡ openRefusal p level ⌝ }
+{
+    let k = sheet_refusal(p);
+    if k != 0 {
+        return k;
+    }
+    if p.v < level {
+        return 9;
+    }
+    0
+}
+
+// u has no bit at `width` or above.
+fn number_fits(u: u64, width: u32) -> bool
+    requires { ⌜ (1 ≤ width) × (width ≤ 64) ⌝ }
+    ensures { λ r. ⌜ r ≡ ltb u (2 ^ width) ⌝ }
+{
+    u >> (width - 1) < 2
+}
+
+// count + width is not above n. The count may be any number, so the sum is not formed.
+fn room(count: u64, width: u64, n: u64) -> bool
+    ensures { λ r. ⌜ r ≡ leb (count + width) n ⌝ }
+{
+    if n < count {
+        return false;
+    }
+    width <= n - count
+}
+
+// For accepted parameters, u as `width` coefficients after `count` at a level: 5, 8, 11, 12 for the level, or 0.
+pub fn numbers_refusal(p: Parameters, width: u32, level: u32, count: u64, u: u64) -> u8
+    requires { ⌜ Accepted p ⌝ }
+    ensures { λ r. ⌜ r ≡ numbersRefusal p width level count u ⌝ }
+{
+    if !width_good(width) {
+        return 5;
+    }
+    if !number_fits(u, width) {
+        return 8;
+    }
+    let n = layout::full_count(p);
+    if !room(count, width as u64, n) {
+        return 11;
+    }
+    if p.v < level {
+        return 12;
+    }
+    0
+}
+
+// The words have no bit at w or above.
+pub fn remainder_fits(words: &[u64], w: usize) -> bool
+    ensures { λ r. ⌜ r ≡ ltb (value 64 (now (words .entry))) (2 ^ w) ⌝ }
+{
+    let k = w / 64;
+    if words.len() <= k {
+        return true;
+    }
+    if words[k] >> (w % 64) != 0 {
+        return false;
+    }
+    kernels::row::is_zero(&words[k + 1..])
 }

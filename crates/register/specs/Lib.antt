@@ -1,5 +1,3 @@
 -- The declared register as the definitions' value, and the laws that its functions are proved by.
 pub mod Register
-pub mod Tests
-pub mod Chains
 pub mod Advance

@@ -4,7 +4,7 @@
 --   OpenedAs p level f    f is what opening at a level hands back
 --   FedAs p L r u f       f is what feeding u as L coefficients to r hands back
 use mathlib.Core.Path.{_≡_, refl, sym, ap, _∙_}
-use mathlib.Core.List.{List}
+use mathlib.Core.List.{List, []}
 use Prim.Native.Nat.{ℕ, _+_, _*_, _^_, _≤_}
 use native.Mathlib.Nat as Nat
 use Rattle.polynomial.specs.Digits.{digits, value}
@@ -12,11 +12,12 @@ use Rattle.polynomial.specs.Xor.{xor}
 use Rattle.code.specs.declared.Outcome.{Outcome}
 use Rattle.code.specs.declared.Parameters.{Parameters}
 use Rattle.code.specs.Answers.{fed-refused}
-use Rattle.code.specs.Calls.{advanced, empty, fed, fedBy, opened, outcomeNumber}
+use Rattle.code.specs.Calls.{advanced, empty, fed, fedBy, opened, outcomeNumber, outcomeValues}
 use Rattle.code.specs.Code.{remainder}
+use Rattle.code.specs.Lists.{lastRefusal}
 use Rattle.code.specs.Refusals.{feedRefusal, openRefusal}
 use Rattle.code.specs.Register as Value
-use Rattle.register.specs.Chains.{feed-le, open-le}
+use Rattle.refusal.specs.Feeding.{feed-le, open-le}
 use Rattle.register.specs.declared.Fed.{Fed}
 use Rattle.register.specs.declared.Register.{Register}
 
@@ -29,16 +30,18 @@ fedOf f = record { outcome = f .outcome; register = valueOf (f .register) }
 abbrev pub refusedWith : ℕ → Register → Fed
 refusedWith k r = record { outcome = Outcome.Refused k; register = r }
 
--- a refusal's number is 1 to 12
+-- the number and the values are those of the outcome; the register's own stand in `answers`
 pub record OpenedAs (p : Parameters) (level : ℕ) (f : Fed) : Type 0 where
   pub answers : fedOf f ≡ opened p level
   pub number : outcomeNumber (f .outcome) ≡ openRefusal p level
-  pub small : openRefusal p level ≤ 12
+  pub values : outcomeValues (f .outcome) ≡ []
+  pub small : openRefusal p level ≤ lastRefusal
 
 pub record FedAs (p : Parameters) (L : ℕ) (r : Register) (u : ℕ) (f : Fed) : Type 0 where
   pub answers : fedOf f ≡ fed p L (valueOf r) u
   pub number : outcomeNumber (f .outcome) ≡ feedRefusal p L (valueOf r) u
-  pub small : feedRefusal p L (valueOf r) u ≤ 12
+  pub values : outcomeValues (f .outcome) ≡ []
+  pub small : feedRefusal p L (valueOf r) u ≤ lastRefusal
 
 -- ---- the defining equations
 opened-eq : (p : Parameters) (level : ℕ) → opened p level ≡ fedBy (openRefusal p level) (empty level) (empty 0)
@@ -68,6 +71,7 @@ module _ (p : Parameters) (level k : ℕ) (r : Register) (e : k ≡ openRefusal 
       rw is (record {
         answers = ap (λ (x : Value.Register). record { outcome = Outcome.Refused k; register = x }) i ∙ by-refused k (empty level) (empty 0) (openRefusal p level) e h ∙ sym (opened-eq p level);
         number = e;
+        values = refl;
         small = open-le p level;
       })
 
@@ -75,6 +79,7 @@ module _ (p : Parameters) (level k : ℕ) (r : Register) (e : k ≡ openRefusal 
   opened-done z i = record {
     answers = ap (λ (x : Value.Register). record { outcome = Outcome.Done; register = x }) i ∙ by-done k (empty level) (empty 0) (openRefusal p level) e z ∙ sym (opened-eq p level);
     number = sym z ∙ e;
+    values = refl;
     small = open-le p level;
   }
 
@@ -84,6 +89,7 @@ module _ (p : Parameters) (L : ℕ) (r : Register) (u k : ℕ) (e : k ≡ feedRe
       rw is (record {
         answers = by-refused k (advanced p L (valueOf r) u) (valueOf r) (feedRefusal p L (valueOf r) u) e h ∙ sym (fed-eq p L (valueOf r) u);
         number = e;
+        values = refl;
         small = feed-le p L (valueOf r) u;
       })
 
@@ -95,5 +101,6 @@ module _ (p : Parameters) (L : ℕ) (r : Register) (u k : ℕ) (e : k ≡ feedRe
         ∙ ap (λ (x : Value.Register). record { outcome = Outcome.Done; register = x }) (sym (advanced-eq p L (valueOf r) u))
         ∙ by-done k (advanced p L (valueOf r) u) (valueOf r) (feedRefusal p L (valueOf r) u) e z ∙ sym (fed-eq p L (valueOf r) u);
     number = sym z ∙ e;
+    values = refl;
     small = feed-le p L (valueOf r) u;
   }

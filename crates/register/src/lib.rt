@@ -1,20 +1,15 @@
 // The register: opened empty at a level, then fed coefficients, highest power first. Each feeding hands back the register that the next one takes.
 ghost use mathlib.Core.Path.{_≡_};
-ghost use mathlib.Core.Bool.{not};
 ghost use Prim.Native.Nat.{_+_, _*_, _^_, _≤_, _<_};
-ghost use lib.Dec.{leb, ltb};
 ghost use lib.ListN.{length};
 ghost use Rattle.polynomial.specs.Digits.{value, digits};
 ghost use Rattle.polynomial.specs.Xor.{xor};
 ghost use Rattle.code.specs.Calls.{empty, generators};
 ghost use Rattle.code.specs.Code.{degree, remainder};
-ghost use Rattle.code.specs.Parameters.{Accepted, full};
-ghost use Rattle.code.specs.Refusals.{badWidth, openRefusal};
-ghost use Rattle.register.specs.Chains.{numbersRefusal};
+ghost use Rattle.code.specs.Parameters.{Accepted};
 ghost use Rattle.register.specs.Register.{valueOf, refusedWith, OpenedAs, FedAs};
 use code::Outcome;
 use code::Parameters;
-use code::Tested;
 
 // A level, the count of coefficients taken, and the remainder by the level's generator in 12 words, lowest first.
 pub struct Register {
@@ -27,95 +22,6 @@ pub struct Register {
 pub struct Fed {
     pub outcome: Outcome,
     pub register: Register,
-}
-
-// ---- tests
-
-// The width is 1 to 64.
-fn width_good(width: u32) -> bool
-    ensures { λ r. ⌜ r ≡ not (badWidth width) ⌝ }
-{
-    if width == 0 {
-        return false;
-    }
-    width <= 64
-}
-
-// u has no bit at `width` or above.
-fn number_fits(u: u64, width: u32) -> bool
-    requires { ⌜ (1 ≤ width) × (width ≤ 64) ⌝ }
-    ensures { λ r. ⌜ r ≡ ltb u (2 ^ width) ⌝ }
-{
-    u >> (width - 1) < 2
-}
-
-// The count at which a register is full.
-fn full_count(p: Parameters) -> u64
-    requires { ⌜ Accepted p ⌝ }
-    ensures { λ r. ⌜ r ≡ full p ⌝ }
-{
-    (1 << p.q) - 1
-}
-
-// count + width is not above n. The count may be any number, so the sum is not formed.
-fn room(count: u64, width: u64, n: u64) -> bool
-    ensures { λ r. ⌜ r ≡ leb (count + width) n ⌝ }
-{
-    if n < count {
-        return false;
-    }
-    width <= n - count
-}
-
-// The words have no bit at w or above.
-fn remainder_fits(words: &[u64], w: usize) -> bool
-    ensures { λ r. ⌜ r ≡ ltb (value 64 (now (words .entry))) (2 ^ w) ⌝ }
-{
-    let k = w / 64;
-    if words.len() <= k {
-        return true;
-    }
-    if words[k] >> (w % 64) != 0 {
-        return false;
-    }
-    kernels::row::is_zero(&words[k + 1..])
-}
-
-// ---- refusals
-
-// For any numbers: 1 to 4, 9, or 0.
-pub fn open_refusal(p: Parameters, level: u32) -> u8
-    ensures { λ r. ⌜ r ≡ openRefusal p level ⌝ }
-{
-    let tested = sheet::test(p);
-    let Tested::Refused(k) = tested else {
-        if p.v < level {
-            return 9;
-        }
-        return 0;
-    };
-    k
-}
-
-// For accepted parameters, u as `width` coefficients after `count` at a level: 5, 8, 11, 12 for the level, or 0.
-fn numbers_refusal(p: Parameters, width: u32, level: u32, count: u64, u: u64) -> u8
-    requires { ⌜ Accepted p ⌝ }
-    ensures { λ r. ⌜ r ≡ numbersRefusal p width level count u ⌝ }
-{
-    if !width_good(width) {
-        return 5;
-    }
-    if !number_fits(u, width) {
-        return 8;
-    }
-    let n = full_count(p);
-    if !room(count, width as u64, n) {
-        return 11;
-    }
-    if p.v < level {
-        return 12;
-    }
-    0
 }
 
 // ---- the remainder
@@ -182,7 +88,7 @@ impl Register {
     pub fn open(p: Parameters, level: u32) -> Fed
         ensures { λ r. ⌜ OpenedAs p level r ⌝ }
     {
-        let k = open_refusal(p, level);
+        let k = refusal::open_refusal(p, level);
         if k != 0 {
             return Register::empty(0).refused(k);
         }
@@ -199,7 +105,7 @@ impl Register {
     {
         let level = self.level;
         let count = self.count;
-        let k = numbers_refusal(p, width, level, count, u);
+        let k = refusal::numbers_refusal(p, width, level, count, u);
         if k != 0 {
             return self.refused(k);
         }
@@ -209,7 +115,7 @@ impl Register {
         let f = self.remainder;
         let mut next = self;
         next.count = count + width as u64;
-        if !remainder_fits(&f, w) {
+        if !refusal::remainder_fits(&f, w) {
             return self.refused(12);
         }
         let g = advance(p, rows, a, w, f, u, width as usize);
@@ -224,10 +130,10 @@ impl Register {
     pub fn feed(self, p: Parameters, width: u32, u: u64) -> Fed
         ensures { λ r. ⌜ FedAs p width self u r ⌝ }
     {
-        let tested = sheet::test(p);
-        let Tested::Refused(k) = tested else {
-            return self.feed_by(p, width, u);
-        };
-        self.refused(k)
+        let k = refusal::sheet_refusal(p);
+        if k != 0 {
+            return self.refused(k);
+        }
+        self.feed_by(p, width, u)
     }
 }

@@ -9,10 +9,10 @@ use Rattle.polynomial.specs.Division.{xor-lt}
 use Rattle.polynomial.specs.Xor.{xor-is}
 use borrow.Author.Tests.{lt-ltb, le-ltb}
 use Rattle.code.specs.declared.Nesting.{Nesting}
-use Rattle.code.specs.Calls.{nesting, nestingBy}
+use Rattle.code.specs.Answers.{nesting-eq, nesting-made}
+use Rattle.code.specs.Calls.{NestingMade}
 use Rattle.code.specs.Code.{N}
 use Rattle.code.specs.Encode.{N-above}
-use Rattle.code.specs.Refusals.{nestingRefusal}
 use Rattle.code.specs.Steps.{N-first, N-start, N-step}
 
 pub at-zero : (i l : ℕ) → l ≡ 0 → 1 ≡ N i l
@@ -38,15 +38,11 @@ N-next (suc i) (suc l) hi hl p h =
     rw (ei, el, shl-exact (7 * i + 1) (suc l) 64 (N-lt i (suc l) hl) (omega arith)) (xor-is (N i l) (N i (suc l) * 2 ^ suc l) ∙ sym (N-step i l))
 
 -- ---- the call
-nesting-eq : (i l : ℕ) → nesting i l ≡ nestingBy (nestingRefusal i l) (N i l)
-unfolding nesting
-nesting-eq i l = refl
+pub nesting-i : (i l : ℕ) → 7 < i → NestingMade i l (Nesting.Refused 9)
+nesting-i i l h = nesting-made i l (Nesting.Refused 9) (sym (nesting-eq i l ∙ simp (lt-ltb 7 i h)))
 
-pub nesting-i : (i l : ℕ) → 7 < i → Nesting.Refused 9 ≡ nesting i l
-nesting-i i l h = sym (nesting-eq i l ∙ simp (lt-ltb 7 i h))
+pub nesting-l : (i l : ℕ) → i ≤ 7 → 7 < l → NestingMade i l (Nesting.Refused 9)
+nesting-l i l a h = nesting-made i l (Nesting.Refused 9) (sym (nesting-eq i l ∙ simp (le-ltb 7 i a, lt-ltb 7 l h)))
 
-pub nesting-l : (i l : ℕ) → i ≤ 7 → 7 < l → Nesting.Refused 9 ≡ nesting i l
-nesting-l i l a h = sym (nesting-eq i l ∙ simp (le-ltb 7 i a, lt-ltb 7 l h))
-
-pub nesting-is : (i l c : ℕ) → i ≤ 7 → l ≤ 7 → c ≡ N i l → Nesting.Coefficient c ≡ nesting i l
-nesting-is i l c a b e = rw e (sym (nesting-eq i l ∙ simp (le-ltb 7 i a, le-ltb 7 l b)))
+pub nesting-is : (i l c : ℕ) → i ≤ 7 → l ≤ 7 → c ≡ N i l → NestingMade i l (Nesting.Coefficient c)
+nesting-is i l c a b e = nesting-made i l (Nesting.Coefficient c) (rw e (sym (nesting-eq i l ∙ simp (le-ltb 7 i a, le-ltb 7 l b))))

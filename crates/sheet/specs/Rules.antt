@@ -9,8 +9,8 @@ use Rattle.field.specs.Irreducible.{both}
 use Rattle.code.specs.declared.Parameters.{Parameters}
 use Rattle.code.specs.declared.Tested.{Tested}
 use Rattle.code.specs.Lists.{_when_, _orElse_}
-use Rattle.code.specs.Parameters.{len, strength, fieldKnown, shapeFits, placeFits, strengthsFit, clashes, sheetRefusal, tested, testedOf, testedNumber, Tests}
-use Rattle.code.specs.Refused.{sheet-le}
+use Rattle.code.specs.Answers.{tests}
+use Rattle.code.specs.Parameters.{len, strength, fieldKnown, shapeFits, placeFits, strengthsFit, clashes, sheetRefusal, tested, testedOf, Tests}
 use Rattle.tables.specs.declared.Chosen.{Chosen}
 use Rattle.tables.specs.declared.Entry.{Entry}
 use Rattle.tables.specs.Choice.{known, entry, chosen, chosenBy, ChosenFor}
@@ -145,29 +145,17 @@ module _ (p : Parameters) where
   unfolding fieldKnown
   known-eq = refl
 
-  -- the answer's number is the refusal
-  number-is : testedNumber (tested p) ≡ sheetRefusal p
-  unfolding tested
-  number-is = by (sheetRefusal p)
-    where
-      by : (r : ℕ) → testedNumber (testedOf p r) ≡ r
-      by zero = refl
-      by (suc r) = refl
-
-  tests : (r : Tested) → r ≡ tested p → Tests p r
-  tests r e = record { answers = e; number = ap testedNumber e ∙ number-is; small = sheet-le p }
-
   pub test-field : known (p .q) ≡ false → Tests p (Tested.Refused 1)
-  test-field h = tests (Tested.Refused 1) (sym (tested-eq ∙ simp (known-eq, h)))
+  test-field h = tests p (Tested.Refused 1) (sym (tested-eq ∙ simp (known-eq, h)))
 
   pub test-shape : known (p .q) ≡ true → false ≡ shapeFits p → Tests p (Tested.Refused 2)
-  test-shape k h = tests (Tested.Refused 2) (sym (tested-eq ∙ simp (known-eq, k, ← h)))
+  test-shape k h = tests p (Tested.Refused 2) (sym (tested-eq ∙ simp (known-eq, k, ← h)))
 
   pub test-strengths : known (p .q) ≡ true → true ≡ shapeFits p → false ≡ strengthsFit p → Tests p (Tested.Refused 3)
-  test-strengths k s h = tests (Tested.Refused 3) (sym (tested-eq ∙ simp (known-eq, k, ← s, ← h)))
+  test-strengths k s h = tests p (Tested.Refused 3) (sym (tested-eq ∙ simp (known-eq, k, ← s, ← h)))
 
   pub test-clash : known (p .q) ≡ true → true ≡ shapeFits p → true ≡ strengthsFit p → true ≡ clashes p → Tests p (Tested.Refused 4)
-  test-clash k s t h = tests (Tested.Refused 4) (sym (tested-eq ∙ simp (known-eq, k, ← s, ← t, ← h)))
+  test-clash k s t h = tests p (Tested.Refused 4) (sym (tested-eq ∙ simp (known-eq, k, ← s, ← t, ← h)))
 
   pub test-accepted : known (p .q) ≡ true → true ≡ shapeFits p → true ≡ strengthsFit p → false ≡ clashes p → Tests p (Tested.Accepted (p .q) (p .m) (p .v) (p .t0) (p .t1) (p .t2) (p .t3))
-  test-accepted k s t h = tests (Tested.Accepted (p .q) (p .m) (p .v) (p .t0) (p .t1) (p .t2) (p .t3)) (sym (tested-eq ∙ simp (known-eq, k, ← s, ← t, ← h)))
+  test-accepted k s t h = tests p (Tested.Accepted (p .q) (p .m) (p .v) (p .t0) (p .t1) (p .t2) (p .t3)) (sym (tested-eq ∙ simp (known-eq, k, ← s, ← t, ← h)))

@@ -2,7 +2,7 @@
 ghost use mathlib.Core.Path.{_≡_};
 ghost use Prim.Native.Nat.{ℕ, _<_, _≤_, _+_, _*_, _-_, _%_};
 ghost use Rattle.code.specs.Code.{N};
-ghost use Rattle.code.specs.Calls.{nesting};
+ghost use Rattle.code.specs.Calls.{NestingMade};
 ghost use Rattle.code.specs.Parameters.{len, strength, shapeFits, placeFits, strengthsFit, clashes, Tests};
 ghost use Rattle.sheet.specs.Clashes.{hits, anyFrom};
 use code::Nesting;
@@ -175,7 +175,7 @@ pub fn nest(i: usize, l: usize) -> u64
 
 // N(i, l) for i and l up to 7, the refusal 9 above.
 pub fn nesting_coefficient(i: usize, l: usize) -> Nesting
-    ensures { λ r. ⌜ r ≡ nesting i l ⌝ }
+    ensures { λ r. ⌜ NestingMade i l r ⌝ }
 {
     if 7 < i {
         return Nesting::Refused(9);

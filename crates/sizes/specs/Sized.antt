@@ -1,17 +1,13 @@
 -- A size as an answer: the number, or the refusal.
---   sizeNumber r, sizeValues r    document 01's number of an answer, 0 where nothing is refused, and its values
+--   sizeNumber r, sizeValues r    the requirement's number of an answer, 0 where nothing is refused, and its values
 --   sizeBy k x                    the answer by the refusal k, 0 for none
 --   Sized k x r                   what a call promises: r is the size x, or the refusal k
 use mathlib.Core.Path.{_≡_, refl, sym, _∙_}
 use mathlib.Core.List.{List, [], _∷_}
 use Prim.Native.Nat.{ℕ, zero, suc, _≤_, zero-le}
-use lib.Dec.{ltb, nltb→le}
 use Rattle.code.specs.declared.Parameters.{Parameters}
-use Rattle.code.specs.Chains.{last, or-none}
-use Rattle.code.specs.Calls.{leaves}
-use Rattle.code.specs.Lists.{_when_, _orElse_}
+use Rattle.code.specs.Lists.{lastRefusal, valuesBy}
 use Rattle.code.specs.Parameters.{Accepted, sheetRefusal}
-use Rattle.code.specs.Refusals.{openRefusal}
 use Rattle.code.specs.Refused.{sheet-le}
 use Rattle.sizes.specs.declared.Size.{Size}
 
@@ -30,14 +26,14 @@ sizeBy (suc k) x = Size.Refused (suc k)
 pub record Sized (refusal size : ℕ) (r : Size) : Type 0 where
   pub answers : r ≡ sizeBy refusal size
   pub number : sizeNumber r ≡ refusal
-  pub values : sizeValues r ≡ leaves refusal (size ∷ []) []
-  pub small : refusal ≤ 12
+  pub values : sizeValues r ≡ valuesBy refusal (size ∷ [])
+  pub small : refusal ≤ lastRefusal
 
-refused-by : (k size : ℕ) → (k ≡ 0 → ⊥) → k ≤ 12 → Sized k size (Size.Refused k)
+refused-by : (k size : ℕ) → (k ≡ 0 → ⊥) → k ≤ lastRefusal → Sized k size (Size.Refused k)
 refused-by zero size h b = absurd (h refl)
 refused-by (suc k) size h b = record { answers = refl; number = refl; values = refl; small = b }
 
-pub sized-refused : (refusal size k : ℕ) → k ≡ refusal → (k ≡ 0 → ⊥) → refusal ≤ 12 → Sized refusal size (Size.Refused k)
+pub sized-refused : (refusal size k : ℕ) → k ≡ refusal → (k ≡ 0 → ⊥) → refusal ≤ lastRefusal → Sized refusal size (Size.Refused k)
 sized-refused refusal size k e h b = rw (← e) (refused-by k size h (rw e b))
 
 is-by : (x : ℕ) → Sized 0 x (Size.Is x)
@@ -45,21 +41,6 @@ is-by x = record { answers = refl; number = refl; values = refl; small = zero-le
 
 pub sized-is : (refusal size x : ℕ) → refusal ≡ 0 → x ≡ size → Sized refusal size (Size.Is x)
 sized-is refusal size x z e = rw (z, ← e) (is-by x)
-
--- ---- what no refusal of a level says
-module _ (p : Parameters) (a : ℕ) where
-  chain : openRefusal p a ≡ (sheetRefusal p orElse 9 when ltb (p .v) a)
-  unfolding openRefusal
-  chain = refl
-
-  none : openRefusal p a ≡ 0 → (sheetRefusal p ≡ 0) × ((9 when ltb (p .v) a) ≡ 0)
-  none z = or-none (sheetRefusal p) (9 when ltb (p .v) a) (sym chain ∙ z)
-
-  pub open-accepted : openRefusal p a ≡ 0 → Accepted p
-  open-accepted z = none z .0
-
-  pub open-level : openRefusal p a ≡ 0 → a ≤ p .v
-  open-level z = nltb→le (p .v) a (last 8 (ltb (p .v) a) (none z .1))
 
 -- ---- where the sheet is refused, and where it is not
 module _ (p : Parameters) (k : ℕ) (e : k ≡ sheetRefusal p) where

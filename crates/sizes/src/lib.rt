@@ -7,7 +7,6 @@ ghost use Rattle.code.specs.Parameters.{Accepted, sheetRefusal};
 ghost use Rattle.code.specs.Refusals.{openRefusal};
 ghost use Rattle.sizes.specs.Sized.{Sized};
 use code::Parameters;
-use code::Tested;
 
 // A size, or the number of the refusal.
 pub enum Size {
@@ -15,22 +14,11 @@ pub enum Size {
     Refused(u8),
 }
 
-// The refusal of the parameters, 1 to 4, or 0.
-fn sheet_refusal(p: Parameters) -> u8
-    ensures { λ r. ⌜ r ≡ sheetRefusal p ⌝ }
-{
-    let tested = sheet::test(p);
-    let Tested::Refused(k) = tested else {
-        return 0;
-    };
-    k
-}
-
 // The degree of the level's generator; 9 for a level above v.
 pub fn degree(p: Parameters, level: u32) -> Size
     ensures { λ r. ⌜ Sized (openRefusal p level) (Code·degree p level) r ⌝ }
 {
-    let k = register::open_refusal(p, level);
+    let k = refusal::open_refusal(p, level);
     if k != 0 {
         return Size::Refused(k);
     }
@@ -43,7 +31,7 @@ pub fn degree(p: Parameters, level: u32) -> Size
 pub fn page_bytes(p: Parameters) -> Size
     ensures { λ r. ⌜ Sized (sheetRefusal p) (pageBytes p) r ⌝ }
 {
-    let k = sheet_refusal(p);
+    let k = refusal::sheet_refusal(p);
     if k != 0 {
         return Size::Refused(k);
     }
@@ -55,7 +43,7 @@ pub fn page_bytes(p: Parameters) -> Size
 pub fn data_bytes(p: Parameters) -> Size
     ensures { λ r. ⌜ Sized (sheetRefusal p) (dataBytes p) r ⌝ }
 {
-    let k = sheet_refusal(p);
+    let k = refusal::sheet_refusal(p);
     if k != 0 {
         return Size::Refused(k);
     }
@@ -106,7 +94,7 @@ fn least(p: Parameters) -> u32
 pub fn distance(p: Parameters) -> Size
     ensures { λ r. ⌜ Sized (sheetRefusal p) (Code·distance p) r ⌝ }
 {
-    let k = sheet_refusal(p);
+    let k = refusal::sheet_refusal(p);
     if k != 0 {
         return Size::Refused(k);
     }

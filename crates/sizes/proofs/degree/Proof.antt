@@ -1,8 +1,8 @@
 use borrow.Author.Needs.{needs}
 use mathlib.Core.Path.{_≡_, sym, _∙_}
 use Rattle.code.specs.Refusals.{openRefusal}
-use Rattle.register.specs.Chains.{open-le}
-use Rattle.sizes.specs.Sized.{sized-refused, sized-is, open-accepted, open-level}
+use Rattle.refusal.specs.Feeding.{open-le, open-zero}
+use Rattle.sizes.specs.Sized.{sized-refused, sized-is}
 use Rattle.sizes.proofs.degree.Statement.{statement}
 use Rattle.sizes.proofs.degree.Tie as tie
 
@@ -19,10 +19,10 @@ returns c =
     sized-refused _ _ _ (c .before .open-refusal .ensures) (c .if1 .taken) (open-le (a .p) (a .level))
 
 rows-requires : tie.Need-rows-requires
-rows-requires c κs = open-accepted _ _ (none c)
+rows-requires c κs = open-zero _ _ (none c) .0
 
 degree-at-requires : tie.Need-degree-at-requires
-degree-at-requires c κs = (open-accepted _ _ (none (c .before)), c .rows .ensures, open-level _ _ (none (c .before)))
+degree-at-requires c κs = let o = open-zero _ _ (none (c .before)) in (o .0, c .rows .ensures, o .1)
 
 cast-t7 : tie.Need-cast-t7
 cast-t7 c = search needs

@@ -3,9 +3,9 @@ use borrow.Author.Tests.{not-true, not-false, ltb-true}
 use mathlib.Core.Path.{refl, sym, _∙_}
 use native.Mathlib.Nat.{suc-ne-zero}
 use native.Mathlib.Omega.{arith}
-use Rattle.register.specs.Chains.{numbers-fit, feed-numbers, feed-bits, feed-none}
+use Rattle.refusal.specs.Feeding.{numbers-fit, feed-numbers, feed-bits, feed-none}
 use Rattle.register.specs.Register.{valueOf, feeding-refused, feeding-done}
-use Rattle.register.specs.Tests.{full-lt}
+use Rattle.refusal.specs.Tests.{full-lt}
 use Rattle.register.proofs.Register.feed_by.Statement.{statement}
 use Rattle.register.proofs.Register.feed_by.Tie as tie
 

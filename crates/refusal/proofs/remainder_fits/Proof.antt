@@ -1,8 +1,8 @@
 use borrow.Author.Needs.{needs}
 use mathlib.Core.Path.{_∙_}
-use Rattle.register.specs.Tests.{words-short, words-bit, words-rest}
-use Rattle.register.proofs.remainder_fits.Statement.{statement}
-use Rattle.register.proofs.remainder_fits.Tie as tie
+use Rattle.refusal.specs.Tests.{words-short, words-bit, words-rest}
+use Rattle.refusal.proofs.remainder_fits.Statement.{statement}
+use Rattle.refusal.proofs.remainder_fits.Tie as tie
 
 returns : tie.Need-returns
 returns c =

@@ -1,6 +1,7 @@
 use borrow.Author.Needs.{needs}
-use Rattle.sizes.proofs.sheet_refusal.Statement.{statement}
-use Rattle.sizes.proofs.sheet_refusal.Tie as tie
+use mathlib.Core.Path.{sym}
+use Rattle.refusal.proofs.sheet_refusal.Statement.{statement}
+use Rattle.refusal.proofs.sheet_refusal.Tie as tie
 
 test-requires : tie.Need-test-requires
 test-requires c κs = search needs
@@ -18,5 +19,4 @@ returns-2 : tie.Need-returns-2
 returns-2 c = (rw (c .before .tested .given .1) at (c .before .before .before .test .ensures)) .number
 
 pub sheet-refusal-spec : {M : Type 1} → statement M
-sheet-refusal-spec =
-    tie.close (tie.spec test-requires enum-known-tested enum-told returns returns-2)
+sheet-refusal-spec = tie.close (tie.spec test-requires enum-known-tested enum-told returns returns-2)

@@ -1,6 +1,6 @@
-use Rattle.register.specs.Tests.{width-zero, width-above}
-use Rattle.register.proofs.width_good.Statement.{statement}
-use Rattle.register.proofs.width_good.Tie as tie
+use Rattle.refusal.specs.Tests.{width-zero, width-above}
+use Rattle.refusal.proofs.width_good.Statement.{statement}
+use Rattle.refusal.proofs.width_good.Tie as tie
 
 returns : tie.Need-returns
 returns c = width-zero (c .before .args .width) (c .if1 .taken)

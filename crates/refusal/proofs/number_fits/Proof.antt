@@ -1,7 +1,7 @@
 use borrow.Author.Needs.{needs}
-use Rattle.register.specs.Tests.{below-pow}
-use Rattle.register.proofs.number_fits.Statement.{statement}
-use Rattle.register.proofs.number_fits.Tie as tie
+use Rattle.refusal.specs.Tests.{below-pow}
+use Rattle.refusal.proofs.number_fits.Statement.{statement}
+use Rattle.refusal.proofs.number_fits.Tie as tie
 
 sub-result : tie.Need-sub-result
 sub-result c = search needs

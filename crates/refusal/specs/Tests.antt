@@ -16,7 +16,7 @@ use Rattle.kernels.specs.Value.{Bounded, value-lt, drop-shr, digit-at}
 use Rattle.code.specs.declared.Parameters.{Parameters}
 use Rattle.code.specs.Parameters.{Accepted, full}
 use Rattle.code.specs.Refusals.{badWidth}
-use Rattle.layout.specs.Sizes.{q-fits, shifted}
+use Rattle.layout.specs.Sizes.{q-fits}
 
 -- two tests that pass together are one
 same : (a b : Bool) → (a ≡ true → b ≡ true) → (b ≡ true → a ≡ true) → a ≡ b
@@ -47,9 +47,6 @@ below-pow u L h =
 
 -- ---- the count
 module _ (p : Parameters) (A : Accepted p) where
-  pub full-is : 1 * 2 ^ p .q % 2 ^ 64 - 1 ≡ full p
-  full-is = ap (λ (x : ℕ). x - 1) (shifted (p .q) (q-fits p A))
-
   pub full-lt : full p < 2 ^ 64
   full-lt = Nat.lt-of-le-of-lt (Nat.sub-le (2 ^ p .q) 1) (pow-lt (q-fits p A))
 

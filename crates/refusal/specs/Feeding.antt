@@ -3,21 +3,19 @@
 --   NumbersFit p L a k          what is known where there is none
 --   bitsRefusal p r             the refusal of a register with a bit at or above its level's degree: 12, or 0
 use mathlib.Core.Path.{_≡_, refl, sym, ap, _∙_}
-use mathlib.Core.Bool.{Bool, true, false, not, _||_}
-use Prim.Native.Nat.{ℕ, zero, suc, _+_, _^_, _≤_, _<_}
+use mathlib.Core.Bool.{true, false, not, _||_}
+use Prim.Native.Nat.{ℕ, _+_, _^_, _≤_, _<_}
 use native.Mathlib.Nat as Nat
-use lib.Dec.{T, eqb, leb, ltb, lit≤, nltb→le}
+use lib.Dec.{leb, ltb, lit≤, nltb→le}
 use borrow.Author.Tests.{lt-ltb, le-ltb, le-leb, lt-leb, ltb-true, ltb-false, leb-true, leb-false, not-true, not-false}
 use Rattle.polynomial.specs.Digits.{value}
 use Rattle.code.specs.declared.Parameters.{Parameters}
-use Rattle.code.specs.declared.Tested.{Tested}
-use Rattle.code.specs.Chains.{last, neither, nonzero, or-first, or-le, or-none, or-second, when-le}
-use Rattle.code.specs.Answers.{sheet-pos}
+use Rattle.code.specs.Chains.{first-of, last, or-assoc, or-first, or-le, or-none, or-second, when-le, when-none, when-or}
 use Rattle.code.specs.Code.{degree}
-use Rattle.code.specs.Lists.{_when_, _orElse_}
-use Rattle.code.specs.Parameters.{Accepted, Tests, full, sheetRefusal}
+use Rattle.code.specs.Lists.{_when_, _orElse_, lastRefusal}
+use Rattle.code.specs.Parameters.{Accepted, full, sheetRefusal}
 use Rattle.code.specs.Refusals.{badWidth, feedRefusal, openRefusal}
-use Rattle.code.specs.Refused.{Width, sheet-le}
+use Rattle.code.specs.Refused.{Width, sheet-le, width-of}
 use Rattle.code.specs.Register.{Register}
 
 unfoldable pub numbersRefusal : Parameters → ℕ → ℕ → ℕ → ℕ → ℕ
@@ -32,24 +30,9 @@ pub record NumbersFit (p : Parameters) (L a k : ℕ) : Type 0 where
   pub level : a ≤ p .v
 
 -- ---- chains
-or-assoc : (r s t : ℕ) → ((r orElse s) orElse t) ≡ (r orElse s orElse t)
-or-assoc zero s t = refl
-or-assoc (suc r) s t = refl
-
 assoc-four : (a b c d t : ℕ) → ((a orElse b orElse c orElse d) orElse t) ≡ (a orElse b orElse c orElse d orElse t)
 assoc-four a b c d t =
     or-assoc a (b orElse c orElse d) t ∙ ap (λ (s : ℕ). a orElse s) (or-assoc b (c orElse d) t ∙ ap (λ (s : ℕ). b orElse s) (or-assoc c d t))
-
-when-or : (c : ℕ) (a b : Bool) → ((suc c when a) orElse (suc c when b)) ≡ (suc c when (a || b))
-when-or c true b = refl
-when-or c false b = refl
-
--- ---- a refused sheet refuses the call
-pub sheet-refused : (p : Parameters) (k : ℕ) → Tests p (Tested.Refused k) → k ≡ 0 → ⊥
-sheet-refused p k t z = Nat.not-suc-le-zero (rw z at (sheet-pos p k t))
-
-refused-first : (p : Parameters) (k s : ℕ) → Tests p (Tested.Refused k) → k ≡ (sheetRefusal p orElse s)
-refused-first p k s t = sym (ap (λ (n : ℕ). n orElse s) (sym (t .number)) ∙ or-first k s (sheet-pos p k t))
 
 -- ---- opening
 module _ (p : Parameters) (level : ℕ) where
@@ -57,11 +40,17 @@ module _ (p : Parameters) (level : ℕ) where
   unfolding openRefusal
   open-eq = refl
 
-  pub open-le : openRefusal p level ≤ 12
+  pub open-le : openRefusal p level ≤ lastRefusal
   open-le = rw open-eq (or-le (sheetRefusal p) (9 when ltb (p .v) level) (sheet-le p) (when-le 9 (ltb (p .v) level) (lit≤ tt)))
 
-  pub open-sheet : (k : ℕ) → Tests p (Tested.Refused k) → k ≡ openRefusal p level
-  open-sheet k t = refused-first p k (9 when ltb (p .v) level) t ∙ sym open-eq
+  pub open-sheet : (k : ℕ) → k ≡ sheetRefusal p → (k ≡ 0 → ⊥) → k ≡ openRefusal p level
+  open-sheet k e h = first-of k (sheetRefusal p) (9 when ltb (p .v) level) e h ∙ sym open-eq
+
+  -- a chain that ends in 0
+  pub open-zero : openRefusal p level ≡ 0 → Accepted p × (level ≤ p .v)
+  open-zero z =
+      let s = or-none (sheetRefusal p) (9 when ltb (p .v) level) (sym open-eq ∙ z) in
+      (s .0, nltb→le (p .v) level (last 8 (ltb (p .v) level) (s .1)))
 
   module _ (A : Accepted p) where
     open-accepted : openRefusal p level ≡ (9 when ltb (p .v) level)
@@ -74,12 +63,6 @@ module _ (p : Parameters) (level : ℕ) where
     open-none h = sym (open-accepted ∙ simp (le-ltb (p .v) level h))
 
 -- ---- the numbers of a feeding
-width-is : (L : ℕ) → T (not (badWidth L)) → Width L
-width-is L t = let n = neither (eqb L 0) (ltb 64 L) t in record { low = nonzero L (n .0); high = nltb→le 64 L (n .1) }
-
-pub width-of : (L : ℕ) → true ≡ not (badWidth L) → Width L
-width-of L e = width-is L (rw (← e) tt)
-
 module _ (p : Parameters) (L a k u : ℕ) where
   abbrev stray-8 : ℕ
   stray-8 = 8 when leb (2 ^ L) u
@@ -117,7 +100,7 @@ module _ (p : Parameters) (L a k u : ℕ) where
         pub numbers-none : a ≤ p .v → 0 ≡ numbersRefusal p L a k u
         numbers-none h = sym (numbers-left ∙ simp (le-ltb (p .v) a h))
 
-  pub numbers-le : numbersRefusal p L a k u ≤ 12
+  pub numbers-le : numbersRefusal p L a k u ≤ lastRefusal
   unfolding numbersRefusal
   numbers-le =
       or-le (5 when badWidth L) (stray-8 orElse full-11 orElse level-12) (when-le 5 (badWidth L) (lit≤ tt))
@@ -129,7 +112,7 @@ module _ (p : Parameters) (L a k u : ℕ) where
   numbers-fit r e z =
       let w = or-none (5 when badWidth L) (stray-8 orElse full-11 orElse level-12) (sym e ∙ z) in
       let s = or-none full-11 level-12 (or-none stray-8 (full-11 orElse level-12) (w .1) .1) in
-      record { width = width-is L (last 4 (badWidth L) (w .0)); room = nltb→le (full p) (k + L) (last 10 (ltb (full p) (k + L)) (s .0)); level = nltb→le (p .v) a (last 11 (ltb (p .v) a) (s .1)) }
+      record { width = width-of L (rw (when-none 4 (badWidth L) (w .0)) refl); room = nltb→le (full p) (k + L) (last 10 (ltb (full p) (k + L)) (s .0)); level = nltb→le (p .v) a (last 11 (ltb (p .v) a) (s .1)) }
 
 -- ---- feeding
 module _ (p : Parameters) (L : ℕ) (r : Register) (u : ℕ) where
@@ -143,10 +126,10 @@ module _ (p : Parameters) (L : ℕ) (r : Register) (u : ℕ) where
       (sym (when-or 11 (ltb (p .v) (r .level)) (leb (2 ^ degree p (r .level)) (value 64 (r .remainder)))))
       ∙ ap (λ (s : ℕ). sheetRefusal p orElse s) (sym (assoc-four (5 when badWidth L) (8 when leb (2 ^ L) u) (11 when ltb (full p) (r .count + L)) (12 when ltb (p .v) (r .level)) (bitsRefusal p r)))
 
-  pub feed-sheet : (k : ℕ) → Tests p (Tested.Refused k) → k ≡ feedRefusal p L r u
-  feed-sheet k t = refused-first p k (numbers orElse bitsRefusal p r) t ∙ sym feed-eq
+  pub feed-sheet : (k : ℕ) → k ≡ sheetRefusal p → (k ≡ 0 → ⊥) → k ≡ feedRefusal p L r u
+  feed-sheet k e h = first-of k (sheetRefusal p) (numbers orElse bitsRefusal p r) e h ∙ sym feed-eq
 
-  pub feed-le : feedRefusal p L r u ≤ 12
+  pub feed-le : feedRefusal p L r u ≤ lastRefusal
   feed-le =
       rw feed-eq (or-le (sheetRefusal p) (numbers orElse bitsRefusal p r) (sheet-le p)
       (or-le numbers (bitsRefusal p r) (numbers-le p L (r .level) (r .count) u) (when-le 12 (leb (2 ^ degree p (r .level)) (value 64 (r .remainder))) (lit≤ tt))))

@@ -1,9 +1,10 @@
 use borrow.Author.Needs.{needs}
 use borrow.Author.Tests.{not-true, not-false}
 use mathlib.Core.Path.{sym, _∙_}
-use Rattle.register.specs.Chains.{width-of, numbers-width, numbers-stray, numbers-full, numbers-level, numbers-none}
-use Rattle.register.proofs.numbers_refusal.Statement.{statement}
-use Rattle.register.proofs.numbers_refusal.Tie as tie
+use Rattle.code.specs.Refused.{width-of}
+use Rattle.refusal.specs.Feeding.{numbers-width, numbers-stray, numbers-full, numbers-level, numbers-none}
+use Rattle.refusal.proofs.numbers_refusal.Statement.{statement}
+use Rattle.refusal.proofs.numbers_refusal.Tie as tie
 
 width-good-requires : tie.Need-width-good-requires
 width-good-requires c κs = search needs

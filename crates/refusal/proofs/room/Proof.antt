@@ -1,6 +1,6 @@
-use Rattle.register.specs.Tests.{room-none, room-left}
-use Rattle.register.proofs.room.Statement.{statement}
-use Rattle.register.proofs.room.Tie as tie
+use Rattle.refusal.specs.Tests.{room-none, room-left}
+use Rattle.refusal.proofs.room.Statement.{statement}
+use Rattle.refusal.proofs.room.Tie as tie
 
 returns : tie.Need-returns
 returns c = let s = c .before .args in room-none (s .count) (s .width) (s .n) (c .if1 .taken)
