@@ -13,14 +13,14 @@ use Rattle.code.specs.declared.Parameters.{Parameters}
 use Rattle.code.specs.declared.Tested.{Tested}
 use Rattle.code.specs.declared.Verdict.{Verdict}
 use Rattle.code.specs.Register.{Register}
-use Rattle.code.specs.Calls.{Judged, Made, MadeC, Named, NestingMade, ReadOut, fedBy, judgeAnswer, judgeNumber, judgeValues, leaves, nesting, nestingBy, nestingNumber, nestingValues, outcome, outcomeNumber, outcomeValues, readAnswer, readLeaves, readNumber, readValues, unlessRefused, verdictNumber, verdictValues}
+use Rattle.code.specs.Calls.{Judged, Made, MadeC, Named, NestingMade, ReadOut, Written, fedBy, judgeAnswer, judgeNumber, judgeValues, leaves, nesting, nestingBy, nestingNumber, nestingValues, outcome, outcomeNumber, outcomeValues, readAnswer, readLeaves, readNumber, readValues, unlessRefused, verdictNumber, verdictValues}
 use Rattle.code.specs.Chains.{when-le}
 use Rattle.code.specs.Code.{N, failing, failingNested, failingNumber, failingValues, verdict}
-use Rattle.code.specs.Layout.{dataOf, wordsOf}
+use Rattle.code.specs.Layout.{dataOf, pageOf, wordsOf}
 use Rattle.code.specs.Lists.{_orElse_, lastRefusal, valuesBy}
 use Rattle.code.specs.Parameters.{Tests, sheetRefusal, sheetValues, tested, testedNumber, testedOf, testedValues}
-use Rattle.code.specs.Refusals.{judgeRefusal, nestingRefusal, readRefusal}
-use Rattle.code.specs.Refused.{BlocksBuffer, judge-le, read-judge, read-le, sheet-le}
+use Rattle.code.specs.Refusals.{judgeRefusal, nestingRefusal, readRefusal, writeRefusal}
+use Rattle.code.specs.Refused.{BlocksBuffer, judge-le, read-judge, read-le, sheet-le, write-le}
 
 -- ---- the test of parameters
 tested-number : (p : Parameters) (r : ℕ) → testedNumber (testedOf p r) ≡ r
@@ -79,6 +79,14 @@ made-done refusal result old after e f = record {
   small = rw e zero-le;
   buffer = f ∙ sym (ap (λ (r : ℕ). leaves r result old) e);
 }
+
+-- ---- write
+module _ (p : Parameters) (L : ℕ) (b x : List ℕ) where
+  pub written-refused : (k : ℕ) → k ≡ writeRefusal p L b (length x) → (k ≡ 0 → ⊥) → Written p L b x x (Outcome.Refused k)
+  written-refused k e h = made-refused (writeRefusal p L b (length x)) k (pageOf p b) x (sym e) (Nat.pos-of-ne-zero h) (write-le p L b (length x))
+
+  pub written-done : (y : List ℕ) → writeRefusal p L b (length x) ≡ 0 → y ≡ pageOf p b → Written p L b x y Outcome.Done
+  written-done y z e = made-done (writeRefusal p L b (length x)) (pageOf p b) x y z e
 
 -- ---- feeding and opening
 pub fed-refused : (k : ℕ) (next old : Register) → 0 < k → fedBy k next old ≡ record { outcome = Outcome.Refused k; register = old }
@@ -196,10 +204,11 @@ module _ (p : Parameters) (x : List ℕ) where
       buffer = f;
     }
 
-    pub read-refused : (k : ℕ) → k ≡ readRefusal p x (length b) → 0 < k → ReadOut p x b b (Verdict.Refused k)
+    pub read-refused : (k : ℕ) → k ≡ readRefusal p x (length b) → (k ≡ 0 → ⊥) → ReadOut p x b b (Verdict.Refused k)
     read-refused k e h =
-        read (Verdict.Refused k) b (unless-refused p (wordsOf p x) (readRefusal p x (length b)) k e h ∙ sym read-eq)
-        (sym (leaves-eq ∙ ap (λ (r : ℕ). leaves r (dataOf p x) b) (sym e) ∙ leaves-refused k (dataOf p x) b h))
+        let l = Nat.pos-of-ne-zero h in
+        read (Verdict.Refused k) b (unless-refused p (wordsOf p x) (readRefusal p x (length b)) k e l ∙ sym read-eq)
+        (sym (leaves-eq ∙ ap (λ (r : ℕ). leaves r (dataOf p x) b) (sym e) ∙ leaves-refused k (dataOf p x) b l))
 
     pub read-done : (r : Verdict) (y : List ℕ) → readRefusal p x (length b) ≡ 0 → r ≡ verdict p (wordsOf p x) → y ≡ dataOf p x → ReadOut p x b y r
     read-done r y z e f =

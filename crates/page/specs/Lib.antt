@@ -1,5 +1,2 @@
--- Pages and blocks part by part.
-pub mod Answers
-pub mod Reading
+-- Blocks of a page, one by one.
 pub mod Taken
-pub mod Writing

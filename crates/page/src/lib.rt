@@ -1,6 +1,6 @@
 // Pages: written, judged, read out.
 ghost use mathlib.Core.Path.{_≡_};
-ghost use Prim.Native.Nat.{ℕ, _<_, _≤_, _/_, _^_};
+ghost use Prim.Native.Nat.{_<_, _/_, _^_};
 ghost use lib.Dec.{T};
 ghost use lib.ListN.{length, getD};
 ghost use Rattle.polynomial.specs.Digits.{digits};
@@ -13,7 +13,6 @@ ghost use Rattle.layout.specs.Replaced.{replaced};
 ghost use Rattle.page.specs.Taken.{sizeOf};
 use code::Outcome;
 use code::Parameters;
-use code::Tested;
 use code::Verdict;
 
 // Block i of the page is put in its place among the blocks.
@@ -53,7 +52,8 @@ pub fn judge(p: Parameters, page: &[u8]) -> Verdict
     if k != 0 {
         return Verdict::Refused(k);
     }
-    judge::verdict_of(p, page)
+    let rows = levels::rows(p);
+    judge::verdict_of(p, rows, page)
 }
 
 // Read out, for accepted parameters.
@@ -63,26 +63,23 @@ fn read_by(p: Parameters, page: &[u8], blocks: &mut [u8]) -> Verdict
 {
     let rows = levels::rows(p);
     let w = levels::degrees(p, rows);
-    let k = layout::read_lengths(p, &w, page.len(), blocks.len());
+    let k = refusal::read_refusal(p, &w, page, blocks.len());
     if k != 0 {
         return Verdict::Refused(k);
     }
-    if !layout::page_clear(p, page) {
-        return Verdict::Refused(8);
-    }
     take_blocks(p, &w, page, blocks);
-    judge::verdict_of(p, page)
+    judge::verdict_of(p, rows, page)
 }
 
 // The blocks of the page, member or not, and judge's answer.
 pub fn read_out(p: Parameters, page: &[u8], blocks: &mut [u8]) -> Verdict
     ensures { λ r. ⌜ ReadOut p (now (page .entry)) (now (blocks .entry)) (now (blocks .exit)) r ⌝ }
 {
-    let tested = sheet::test(p);
-    let Tested::Refused(k) = tested else {
-        return read_by(p, page, blocks);
-    };
-    Verdict::Refused(k)
+    let k = refusal::sheet_refusal(p);
+    if k != 0 {
+        return Verdict::Refused(k);
+    }
+    read_by(p, page, blocks)
 }
 
 // Write, for accepted parameters.
@@ -92,12 +89,9 @@ fn write_by(p: Parameters, width: u32, blocks: &[u8], page: &mut [u8]) -> Outcom
 {
     let rows = levels::rows(p);
     let w = levels::degrees(p, rows);
-    let k = layout::write_lengths(p, &w, width, blocks.len(), page.len());
+    let k = refusal::write_refusal(p, &w, width, blocks, page.len());
     if k != 0 {
         return Outcome::Refused(k);
-    }
-    if !layout::blocks_clear(p, &w, blocks) {
-        return Outcome::Refused(8);
     }
     encode::encode(p, rows, &w, blocks, page, width as usize);
     Outcome::Done
@@ -107,9 +101,9 @@ fn write_by(p: Parameters, width: u32, blocks: &[u8], page: &mut [u8]) -> Outcom
 pub fn write(p: Parameters, width: u32, blocks: &[u8], page: &mut [u8]) -> Outcome
     ensures { λ r. ⌜ Written p width (now (blocks .entry)) (now (page .entry)) (now (page .exit)) r ⌝ }
 {
-    let tested = sheet::test(p);
-    let Tested::Refused(k) = tested else {
-        return write_by(p, width, blocks, page);
-    };
-    Outcome::Refused(k)
+    let k = refusal::sheet_refusal(p);
+    if k != 0 {
+        return Outcome::Refused(k);
+    }
+    write_by(p, width, blocks, page)
 }

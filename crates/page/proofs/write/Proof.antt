@@ -1,41 +1,29 @@
 use borrow.Author.Needs.{needs}
-use mathlib.Core.Path.{sym}
-use Rattle.page.specs.Writing.{write-sheet}
+use mathlib.Core.Path.{sym, _∙_}
+use lib.ListN.{length}
+use Rattle.code.specs.Answers.{written-refused}
+use Rattle.refusal.specs.Writing.{write-sheet}
 use Rattle.page.proofs.write.Statement.{statement}
 use Rattle.page.proofs.write.Tie as tie
 
-test-requires : tie.Need-test-requires
-test-requires c κs = search needs
+sheet-refusal-requires : tie.Need-sheet-refusal-requires
+sheet-refusal-requires c κs = search needs
 
-enum-known-tested : tie.Need-enum-known-tested
-enum-known-tested c = search needs
-
-enum-told : tie.Need-enum-told
-enum-told c = search needs
+returns : tie.Need-returns
+returns c = 
+    let k = c .before in
+    let a = k .before .before .before .args in
+    written-refused (a .p) (a .width) (a .blocks .now) (a .page .now) (k .sheet-refusal .result)
+    (write-sheet (a .p) (a .width) (a .blocks .now) (length (a .page .now)) (k .sheet-refusal .result) (k .sheet-refusal .ensures) (c .if1 .taken)) (c .if1 .taken)
 
 write-by-requires : tie.Need-write-by-requires
-write-by-requires c κs = let e = c .before in sym ((rw (e .enum-told .given .1) at (e .before .before .test .ensures)) .number)
+write-by-requires c κs = let e = c .before in sym (e .before .sheet-refusal .ensures) ∙ e .if1 .left
 
 same-length : tie.Need-same-length
 same-length c = search needs
 
-returns : tie.Need-returns
-returns c = search needs
-
 returns-2 : tie.Need-returns-2
-returns-2 c =
-    let t = c .before .before .before in
-    let a = t .before .before .before .args in
-    write-sheet (a .p) (a .width) (a .blocks .now) (a .page .now) _ (rw (c .before .tested .given .1) at (t .test .ensures))
+returns-2 c = search needs
 
 pub write-spec : {M : Type 1} → statement M
-write-spec =
-    tie.close
-    (tie.spec
-    test-requires
-    enum-known-tested
-    enum-told
-    write-by-requires
-    same-length
-    returns
-    returns-2)
+write-spec = tie.close (tie.spec sheet-refusal-requires returns write-by-requires same-length returns-2)
