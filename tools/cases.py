@@ -1,5 +1,6 @@
 #!/usr/bin/env python3
-"""Worked cases for the definitions of crates/code: another encoder and judge, written from document 01.
+"""Worked cases for the definitions of crates/code: another encoder and judge, written from the requirement
+(docs/REQUIREMENT.md).
 
     python3 tools/cases.py > crates/cases/specs/Own.antt
 
@@ -330,7 +331,7 @@ def fed(sheet, width, register, u):
     return 0, (level, count + width, number(divided(formed, gen(sheet, level))[1]))
 
 
-# ---- the refusals: document 01's table, read from the top
+# ---- the refusals: the requirement's table (docs/REQUIREMENT.md, "Refusals"), read from the top
 
 def broken(sheet):
     q, m, v, *t = sheet
@@ -529,7 +530,7 @@ def least_weight(sheet):
 
 
 def self_test():
-    """Document 01's own numbers, the equal form as a whole, and the distance by trial."""
+    """The requirement's own numbers (docs/REQUIREMENT.md, "On the counter"), the equal form as a whole, and the distance by trial."""
     assert [number(generator(4, t)) for t in (1, 2, 3, 4, 7)] == [0x13, 0x1D1, 0x537, 0x7FFF, 0x7FFF]
     assert page_of_blocks(A, [0x00, 0x01, 0x00]) == [0x13, 0x00, 0x13, 0x00]
     assert page_of_blocks(A, [0x01, 0x01, 0x00]) == [0xC2, 0x01, 0x13, 0x00]

@@ -1,11 +1,12 @@
 #!/usr/bin/env python3
-"""The input of crates/trial, and what it must write.
+"""The input of crates/gate_trial, and what it must write.
 
     python3 tools/trial.py crates/gate_trial
 
-writes stdin and stdout there. The answers come from tools/cases.py, another encoder written from document 01. For the
-large fields two of its parts are done again here: generators by the product of x + alpha^s over the roots, and the
-elimination on the code's conditions with its columns as numbers. Nothing is drawn at random but from its fixed sequence.
+writes stdin and stdout there. The answers come from tools/cases.py, another encoder written from the requirement
+(docs/REQUIREMENT.md). For the large fields two of its parts are done again here: generators by the product of
+x + alpha^s over the roots, and the elimination on the code's conditions with its columns as numbers. Nothing is drawn at
+random but from its fixed sequence.
 """
 import sys
 from functools import lru_cache
