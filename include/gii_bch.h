@@ -2,9 +2,17 @@
  * Pages of generalized integrated interleaved BCH (GII-BCH) codes: the C functions of libgii_bch.a.
  *
  * Every function tests all that it is given and works everything out afresh: there is no state, no allocation and no
- * input or output. The functions may be called from several threads at once, on buffers of their own.
+ * input or output.
  *
- * Parameters (every function)
+ * What the archive needs
+ *
+ *   machine   x86-64 with SSE2, which every x86-64 has, and the System V calling convention, its red zone included; the
+ *             code is position-independent
+ *   symbols   memcpy and memset, from the C library or the firmware; nothing else is left undefined
+ *   stack     at most 32 KiB a call
+ *   threads   calls may run at once in several threads, each on buffers of its own
+ *
+ * Parameters (every function): the sheet, struct gii_sheet
  *
  *   q         4, 8 or 12: the field is GF(2^q), and n = 2^q - 1
  *   m         the number of sub-words, v + 1 to 8
@@ -22,7 +30,7 @@
  *             The unused top bits of its last byte are 0. Here w = w_(v-i) for i < v and w_0 from i = v on, and w_a, the
  *             degree of the generator of strength t_a, is the number of different values of j * 2^s mod n, for j from 1
  *             to 2 t_a and s from 0 to q - 1. At q = 4, t = 1, 2, 3, 4 it is 4, 8, 10, 14; at most it is q * t_a.
- *             examples/c/demo.c works it out.
+ *             gii_sheet_block_bits and gii_sheet_blocks_bytes give the sizes.
  *   list      syndromes S_1, S_2, .., 16 bits each, two bytes a number, low byte first: GII_LIST_BYTES(t), 2 t numbers.
  *
  *   Examples  q 4, m 2, v 1, t 1, 2:              page 4 bytes, blocks 1 + 2 = 3 bytes
@@ -48,11 +56,22 @@
 #include <stddef.h>
 #include <stdint.h>
 
+/* The version. A function or a number that is given a new meaning moves the first number on. */
+#define GII_BCH_VERSION_MAJOR 1
+#define GII_BCH_VERSION_MINOR 0
+#define GII_BCH_VERSION_PATCH 0
+#define GII_BCH_VERSION "1.0.0"
+
 /* Bytes of a page, q being 4, 8 or 12. */
 #define GII_PAGE_BYTES(q, m) ((size_t)(m) * ((size_t)1 << (q)) / 8)
 
 /* Bytes of a list of 2t syndromes: t is t0 for a sub-word, t_(v-l) for nested word l. */
 #define GII_LIST_BYTES(t) ((size_t)4 * (size_t)(t))
+
+/* The most bytes of a page (q 12, m 8), of blocks (q 12, m 8, v 1, t 1, 2) and of a list (t 64). */
+#define GII_PAGE_MAX 4096
+#define GII_BLOCKS_MAX 4086
+#define GII_LIST_MAX 256
 
 /* The numbers that are returned. */
 enum gii_answer {
@@ -77,6 +96,9 @@ enum gii_answer {
     GII_SUB_WORD = 32,   /* 32 + i: sub-word i is the lowest that is no multiple of g_0 */
     GII_NESTED_WORD = 64 /* 64 + l: every sub-word is, and nested word l is the lowest that is no multiple of g_(v-l) */
 };
+
+/* Whether a number is a refusal. Refusals are 1 to 31, all numbers from 32 on verdicts. */
+#define GII_IS_REFUSAL(number) ((uint32_t)(number) - 1u < 31u)
 
 #ifdef __cplusplus
 extern "C" {
@@ -127,6 +149,125 @@ uint32_t gii_syndromes(uint32_t q, uint32_t m, uint32_t v, uint32_t t0, uint32_t
  */
 uint32_t gii_nested_syndromes(uint32_t q, uint32_t m, uint32_t v, uint32_t t0, uint32_t t1, uint32_t t2, uint32_t t3,
                               const uint8_t *page, size_t page_len, uint32_t index, uint8_t *list, size_t list_len);
+
+/* The parameters of a code in one place, and the functions above on them. Later versions may add members behind these. */
+struct gii_sheet {
+    uint32_t q, m, v;
+    uint32_t t[4]; /* t0 .. t3 */
+};
+
+static inline uint32_t gii_sheet_write(const struct gii_sheet *sheet, uint32_t width, const uint8_t *blocks,
+                                       size_t blocks_len, uint8_t *page, size_t page_len)
+{
+    return gii_write(sheet->q, sheet->m, sheet->v, sheet->t[0], sheet->t[1], sheet->t[2], sheet->t[3],
+                     width, blocks, blocks_len, page, page_len);
+}
+
+static inline uint32_t gii_sheet_read_out(const struct gii_sheet *sheet, const uint8_t *page, size_t page_len,
+                                          uint8_t *blocks, size_t blocks_len)
+{
+    return gii_read_out(sheet->q, sheet->m, sheet->v, sheet->t[0], sheet->t[1], sheet->t[2], sheet->t[3],
+                        page, page_len, blocks, blocks_len);
+}
+
+static inline uint32_t gii_sheet_judge(const struct gii_sheet *sheet, const uint8_t *page, size_t page_len)
+{
+    return gii_judge(sheet->q, sheet->m, sheet->v, sheet->t[0], sheet->t[1], sheet->t[2], sheet->t[3], page, page_len);
+}
+
+static inline uint32_t gii_sheet_syndromes(const struct gii_sheet *sheet, const uint8_t *page, size_t page_len,
+                                           uint32_t index, uint8_t *list, size_t list_len)
+{
+    return gii_syndromes(sheet->q, sheet->m, sheet->v, sheet->t[0], sheet->t[1], sheet->t[2], sheet->t[3],
+                         page, page_len, index, list, list_len);
+}
+
+static inline uint32_t gii_sheet_nested_syndromes(const struct gii_sheet *sheet, const uint8_t *page, size_t page_len,
+                                                  uint32_t index, uint8_t *list, size_t list_len)
+{
+    return gii_nested_syndromes(sheet->q, sheet->m, sheet->v, sheet->t[0], sheet->t[1], sheet->t[2], sheet->t[3],
+                                page, page_len, index, list, list_len);
+}
+
+/* Whether the sheet is accepted: GII_DONE, or its refusal, 1 to 4. No page has 0 bytes: judge refuses one by 7 at best. */
+static inline uint32_t gii_sheet_test(const struct gii_sheet *sheet)
+{
+    const uint8_t none = 0;
+    const uint32_t answer = gii_sheet_judge(sheet, &none, 0);
+
+    return answer == GII_PAGE ? (uint32_t)GII_DONE : answer;
+}
+
+/* Bytes of a page; 0 where the sheet is refused. */
+static inline size_t gii_sheet_page_bytes(const struct gii_sheet *sheet)
+{
+    return gii_sheet_test(sheet) == GII_DONE ? GII_PAGE_BYTES(sheet->q, sheet->m) : 0;
+}
+
+/*
+ * Data bits of block i; 0 where the sheet is refused or has no block i. The check bits are counted by the sets
+ * {j, 2j, 4j, ..} mod n, each at its least number. This is plain C and not proved; write and read out test the length.
+ */
+static inline uint32_t gii_sheet_block_bits(const struct gii_sheet *sheet, uint32_t i)
+{
+    uint32_t n, t, j, e, size, bits;
+
+    if (gii_sheet_test(sheet) != GII_DONE || i >= sheet->m)
+        return 0;
+    n = ((uint32_t)1 << sheet->q) - 1;
+    t = sheet->t[i < sheet->v ? sheet->v - i : 0];
+    bits = n;
+    for (j = 1; j <= 2 * t; j++) {
+        for (e = 2 * j % n, size = 1; e > j; e = 2 * e % n)
+            size++;
+        if (e == j)
+            bits -= size;
+    }
+    return bits;
+}
+
+/* Bytes of all blocks; 0 where the sheet is refused. */
+static inline size_t gii_sheet_blocks_bytes(const struct gii_sheet *sheet)
+{
+    size_t bytes = 0;
+    uint32_t i, bits;
+
+    for (i = 0; (bits = gii_sheet_block_bits(sheet, i)) != 0; i++)
+        bytes += (bits + 7) / 8;
+    return bytes;
+}
+
+/* A number in words. */
+static inline const char *gii_answer_text(uint32_t number)
+{
+    switch (number) {
+    case GII_DONE: return "done; a member";
+    case GII_FIELD: return "field: q is not 4, 8 or 12";
+    case GII_SHAPE: return "shape: v or m is out of range";
+    case GII_STRENGTHS: return "strengths: a rule on t is broken";
+    case GII_CLASH: return "clash: some d * j is a multiple of n";
+    case GII_WIDTH: return "width: not 1 to 64";
+    case GII_BLOCKS: return "blocks: the length is not exact";
+    case GII_PAGE: return "page: the length is not exact";
+    case GII_STRAY: return "stray: a spare or unused bit is 1";
+    case GII_INDEX: return "index: no such sub-word or nested word";
+    case GII_LIST: return "list: the length is not exact";
+    case GII_FULL: return "full: a register would take more than n coefficients";
+    case GII_REGISTER: return "register: level or remainder out of range";
+    case GII_SUB_WORD + 0: return "sub-word 0 fails";
+    case GII_SUB_WORD + 1: return "sub-word 1 fails";
+    case GII_SUB_WORD + 2: return "sub-word 2 fails";
+    case GII_SUB_WORD + 3: return "sub-word 3 fails";
+    case GII_SUB_WORD + 4: return "sub-word 4 fails";
+    case GII_SUB_WORD + 5: return "sub-word 5 fails";
+    case GII_SUB_WORD + 6: return "sub-word 6 fails";
+    case GII_SUB_WORD + 7: return "sub-word 7 fails";
+    case GII_NESTED_WORD + 0: return "nested word 0 fails";
+    case GII_NESTED_WORD + 1: return "nested word 1 fails";
+    case GII_NESTED_WORD + 2: return "nested word 2 fails";
+    default: return "no answer of this version";
+    }
+}
 
 #ifdef __cplusplus
 }

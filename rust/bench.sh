@@ -5,7 +5,7 @@ set -euo pipefail
 cd "$(dirname "$0")"
 mkdir -p target
 (cd .. && rt staticlib gii_bch) > target/bench.log
-cargo build --offline --quiet --release -p board
+cargo build --offline --quiet --release -p compare
 target/release/bench target/figures.csv > target/calls.md
 ./leaves.sh > target/leaves.md
 python3 plot.py target/figures.csv ../docs/benchmarks.svg

@@ -6,10 +6,10 @@ set -euo pipefail
 cd "$(dirname "$0")"
 export GII_ARCHIVE=target/release/libstandin.a GII_CASES=${GII_CASES:-2}
 cargo build --offline --quiet --release -p standin
-cargo build --offline --quiet --release -p board --tests
-cargo build --offline --quiet --release -p board
+cargo build --offline --quiet --release -p compare --tests
+cargo build --offline --quiet --release -p compare
 
-run() { GII_FAULT=$1 cargo test --offline --quiet --release -p board --no-fail-fast > target/faults.out 2>&1; }
+run() { GII_FAULT=$1 cargo test --offline --quiet --release -p compare --no-fail-fast > target/faults.out 2>&1; }
 run none || { cat target/faults.out; echo "the tests fail without a fault"; exit 1; }
 target/release/fuzz 20000 > target/faults.out || { cat target/faults.out; exit 1; }
 echo "no fault: nothing found"

@@ -1,7 +1,8 @@
 /*
  * Any calls from C: any numbers, any lengths, any bytes, on buffers of their own from malloc. Each answer is one that the
- * call may give, what is only read stays, and a refusal leaves every byte. Usage: fuzz CALLS SEED. It is built with the
- * sanitizers, and without them for valgrind, which sees every access of the archive.
+ * call may give and has a text, what is only read stays, a refusal leaves every byte, and the header's sizes are never
+ * refused. Usage: fuzz CALLS SEED. It is built with the sanitizers, and without them for valgrind, which sees every access
+ * of the archive.
  */
 #include "gii_bch.h"
 
@@ -29,13 +30,9 @@ static int once_in(uint32_t n)
     return below(n) == 0;
 }
 
-struct sheet {
-    uint32_t q, m, v, t[4];
-};
-
-static struct sheet any_sheet(void)
+static struct gii_sheet any_sheet(void)
 {
-    struct sheet s;
+    struct gii_sheet s;
     s.q = 4 * (1 + below(3));
     s.v = 1 + below(3);
     s.m = s.v + 1 + below(8 - s.v);
@@ -49,27 +46,6 @@ static struct sheet any_sheet(void)
         *field[below(7)] = once_in(2) ? (uint32_t)any() : below(70);
     }
     return s;
-}
-
-/* The bytes of all blocks, or 0 for numbers that are out of range. */
-static size_t blocks_bytes(struct sheet s)
-{
-    static uint8_t seen[4096];
-    size_t bytes = 0;
-    if ((s.q != 4 && s.q != 8 && s.q != 12) || s.v < 1 || s.v > 3 || s.m > 8)
-        return 0;
-    uint32_t n = (1u << s.q) - 1;
-    for (uint32_t i = 0; i < s.m; i++) {
-        uint32_t t = s.t[i < s.v ? s.v - i : 0], w = 0;
-        if (t > 64)
-            return 0;
-        memset(seen, 0, sizeof seen);
-        for (uint32_t j = 1; j <= 2 * t; j++)
-            for (uint32_t k = 0, e = j % n; k < s.q; k++, e = 2 * e % n)
-                w += !seen[e], seen[e] = 1;
-        bytes += (n - w + 7) / 8;
-    }
-    return bytes;
 }
 
 struct buffer {
@@ -107,15 +83,18 @@ static void give_back(struct buffer b)
 
 static int refused(uint32_t r)
 {
-    return r >= 1 && r <= 10;
+    return GII_IS_REFUSAL(r) && r <= GII_LIST;
 }
 
 static int verdict(uint32_t r)
 {
-    return r == 0 || (r >= 32 && r <= 39) || (r >= 64 && r <= 66);
+    return r == GII_MEMBER || (r >= GII_SUB_WORD && r < GII_SUB_WORD + 8) || (r >= GII_NESTED_WORD && r < GII_NESTED_WORD + 3);
 }
 
-#define NUMBERS s.q, s.m, s.v, s.t[0], s.t[1], s.t[2], s.t[3]
+static int has_text(uint32_t r)
+{
+    return strcmp(gii_answer_text(r), gii_answer_text(UINT32_MAX)) != 0;
+}
 
 int main(int argc, char **argv)
 {
@@ -124,39 +103,41 @@ int main(int argc, char **argv)
     unsigned long answers[128] = {0};
     state = seed * 0x9E3779B97F4A7C15u + 1;
     for (unsigned long k = 0; k < calls; k++) {
-        struct sheet s = any_sheet();
-        size_t exact = s.q < 16 && s.m < 64 ? GII_PAGE_BYTES(s.q, s.m) : 16;
+        struct gii_sheet s = any_sheet();
+        size_t exact = s.q < 16 && s.m < 64 ? GII_PAGE_BYTES(s.q, s.m) : 16, blocks = gii_sheet_blocks_bytes(&s);
         uint32_t index = below(10), level = s.t[index <= s.v && s.v < 4 ? s.v - index : 0] % 100;
         int call = (int)below(5), good;
-        struct buffer page = lend(exact), other = lend(call < 2 ? blocks_bytes(s) : GII_LIST_BYTES(call == 3 ? s.t[0] % 100 : level));
+        struct buffer page = lend(exact), other = lend(call < 2 ? blocks : GII_LIST_BYTES(call == 3 ? s.t[0] % 100 : level));
         uint32_t r;
         for (size_t i = 0, word = exact / (s.m ? s.m : 1); call && word && i < page.length; i++)
             if ((i + 1) % word == 0 && !once_in(20))
                 page.bytes[i] &= 127, page.before[i] &= 127;
         switch (call) {
         case 0:
-            r = gii_write(NUMBERS, once_in(9) ? (uint32_t)any() : below(66), other.bytes, other.length, page.bytes, page.length);
+            r = gii_sheet_write(&s, once_in(9) ? (uint32_t)any() : below(66), other.bytes, other.length, page.bytes, page.length);
             good = kept(other) && (r == 0 || (refused(r) && kept(page)));
             break;
         case 1:
-            r = gii_read_out(NUMBERS, page.bytes, page.length, other.bytes, other.length);
+            r = gii_sheet_read_out(&s, page.bytes, page.length, other.bytes, other.length);
             good = kept(page) && (verdict(r) || (refused(r) && kept(other)));
             break;
         case 2:
-            r = gii_judge(NUMBERS, page.bytes, page.length);
+            r = gii_sheet_judge(&s, page.bytes, page.length);
             good = kept(page) && (verdict(r) || refused(r));
             break;
         case 3:
-            r = gii_syndromes(NUMBERS, page.bytes, page.length, index, other.bytes, other.length);
+            r = gii_sheet_syndromes(&s, page.bytes, page.length, index, other.bytes, other.length);
             good = kept(page) && (r == 0 || (refused(r) && kept(other)));
             break;
         default:
-            r = gii_nested_syndromes(NUMBERS, page.bytes, page.length, index, other.bytes, other.length);
+            r = gii_sheet_nested_syndromes(&s, page.bytes, page.length, index, other.bytes, other.length);
             good = kept(page) && (r == 0 || (refused(r) && kept(other)));
             break;
         }
+        good = good && has_text(r) && !(r == GII_PAGE && page.length == gii_sheet_page_bytes(&s)) && !(r == GII_BLOCKS && other.length == blocks);
         if (!good) {
-            printf("call %lu of seed %llu: %d answers %u for q %u m %u v %u t %u %u %u %u\n", k, (unsigned long long)seed, call, r, NUMBERS);
+            printf("call %lu of seed %llu: %d answers %u (%s) for q %u m %u v %u t %u %u %u %u\n", k, (unsigned long long)seed, call, r,
+                   gii_answer_text(r), s.q, s.m, s.v, s.t[0], s.t[1], s.t[2], s.t[3]);
             return 1;
         }
         answers[r & 127]++;

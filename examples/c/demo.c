@@ -3,21 +3,17 @@
  * its buffers. Prints what it does; the first surprise ends it with status 1.
  *
  *   rt staticlib gii_bch
- *   cc -std=c99 -pedantic -Wall -Wextra -Werror -O2 -Iinclude examples/c/demo.c target/staticlib/libgii_bch.a -o target/demo
- *   target/demo
+ *   cc -O2 -Iinclude examples/c/demo.c target/staticlib/libgii_bch.a -o target/demo && target/demo
+ *
+ * or, installed (install.sh):
+ *
+ *   cc -O2 examples/c/demo.c $(pkg-config --cflags --libs gii_bch) -o target/demo && target/demo
  */
 #include "gii_bch.h"
 
 #include <stdio.h>
 #include <stdlib.h>
 #include <string.h>
-
-struct sheet {
-    uint32_t q, m, v, t[4];
-};
-
-/* The seven leading arguments of every function. */
-#define SHEET(s) (s)->q, (s)->m, (s)->v, (s)->t[0], (s)->t[1], (s)->t[2], (s)->t[3]
 
 static void must(int holds, const char *what)
 {
@@ -26,52 +22,20 @@ static void must(int holds, const char *what)
         exit(1);
 }
 
-/* The degree of the generator of strength t: how many values j * 2^s mod n has, j from 1 to 2t. */
-static uint32_t degree(uint32_t q, uint32_t t)
-{
-    static uint8_t seen[4095];
-    uint32_t n = ((uint32_t)1 << q) - 1, count = 0, j, s, e;
-
-    memset(seen, 0, sizeof seen);
-    for (j = 1; j <= 2 * t; j++)
-        for (s = 0, e = j % n; s < q; s++, e = 2 * e % n)
-            if (!seen[e]) {
-                seen[e] = 1;
-                count++;
-            }
-    return count;
-}
-
-/* Data bits of block i. */
-static uint32_t block_bits(const struct sheet *s, uint32_t i)
-{
-    return ((uint32_t)1 << s->q) - 1 - degree(s->q, s->t[i < s->v ? s->v - i : 0]);
-}
-
-/* Bytes of the blocks before block i; of all blocks for i = m. */
-static size_t blocks_before(const struct sheet *s, uint32_t i)
-{
-    size_t sum = 0;
-    uint32_t k;
-
-    for (k = 0; k < i; k++)
-        sum += (block_bits(s, k) + 7) / 8;
-    return sum;
-}
-
 /* Any data, unused bits 0. */
-static void fill_blocks(const struct sheet *s, uint8_t *blocks)
+static void fill_blocks(const struct gii_sheet *s, uint8_t *blocks)
 {
-    uint32_t number = 1, i;
-    size_t k;
+    uint32_t number = 1, i, bits;
+    size_t k = 0, end = 0;
 
     for (i = 0; i < s->m; i++) {
-        for (k = blocks_before(s, i); k < blocks_before(s, i + 1); k++) {
+        bits = gii_sheet_block_bits(s, i);
+        for (end += (bits + 7) / 8; k < end; k++) {
             number = number * 1664525u + 1013904223u;
             blocks[k] = (uint8_t)(number >> 24);
         }
-        if (block_bits(s, i) % 8)
-            blocks[k - 1] &= (uint8_t)((1u << block_bits(s, i) % 8) - 1);
+        if (bits % 8)
+            blocks[end - 1] &= (uint8_t)((1u << bits % 8) - 1);
     }
 }
 
@@ -85,14 +49,12 @@ static void print_bytes(const char *name, const uint8_t *bytes, size_t length)
     printf("%s (%lu bytes)\n", length > 16 ? " .." : "", (unsigned long)length);
 }
 
-enum { MOST = 4096 };
-
 /* A page's way: written, judged, read out; damaged, judged, read out. */
-static void round_trip(const struct sheet *s)
+static void round_trip(const struct gii_sheet *s)
 {
-    static uint8_t blocks[MOST], page[MOST], other[MOST], out[MOST];
-    size_t blocks_len = blocks_before(s, s->m), page_len = GII_PAGE_BYTES(s->q, s->m), k;
-    uint8_t list[GII_LIST_BYTES(64)];
+    static uint8_t blocks[GII_BLOCKS_MAX], page[GII_PAGE_MAX], other[GII_PAGE_MAX], out[GII_BLOCKS_MAX];
+    size_t blocks_len = gii_sheet_blocks_bytes(s), page_len = gii_sheet_page_bytes(s), k;
+    uint8_t list[GII_LIST_MAX];
     uint32_t i, t;
     int zero;
 
@@ -101,13 +63,13 @@ static void round_trip(const struct sheet *s)
     fill_blocks(s, blocks);
     print_bytes("blocks", blocks, blocks_len);
     memset(page, 0xA5, sizeof page);
-    must(gii_write(SHEET(s), 64, blocks, blocks_len, page, page_len) == GII_DONE, "written, 64 coefficients a step");
+    must(gii_sheet_write(s, 64, blocks, blocks_len, page, page_len) == GII_DONE, "written, 64 coefficients a step");
     print_bytes("page", page, page_len);
-    must(gii_write(SHEET(s), 1, blocks, blocks_len, other, page_len) == GII_DONE, "written, 1 coefficient a step");
+    must(gii_sheet_write(s, 1, blocks, blocks_len, other, page_len) == GII_DONE, "written, 1 coefficient a step");
     must(memcmp(page, other, page_len) == 0, "the pages are equal");
-    must(gii_judge(SHEET(s), page, page_len) == GII_MEMBER, "the page is a member");
+    must(gii_sheet_judge(s, page, page_len) == GII_MEMBER, "the page is a member");
     memset(out, 0xA5, sizeof out);
-    must(gii_read_out(SHEET(s), page, page_len, out, blocks_len) == GII_MEMBER, "read out");
+    must(gii_sheet_read_out(s, page, page_len, out, blocks_len) == GII_MEMBER, "read out");
     must(memcmp(out, blocks, blocks_len) == 0, "the blocks come back");
 
     for (i = 0; i <= s->m; i++) {
@@ -115,9 +77,9 @@ static void round_trip(const struct sheet *s)
         t = i < s->m ? s->t[0] : s->t[s->v];
         memset(list, 0xA5, sizeof list);
         if (i < s->m)
-            must(gii_syndromes(SHEET(s), page, page_len, i, list, GII_LIST_BYTES(t)) == GII_DONE, "syndromes");
+            must(gii_sheet_syndromes(s, page, page_len, i, list, GII_LIST_BYTES(t)) == GII_DONE, "syndromes");
         else
-            must(gii_nested_syndromes(SHEET(s), page, page_len, 0, list, GII_LIST_BYTES(t)) == GII_DONE, "nested syndromes");
+            must(gii_sheet_nested_syndromes(s, page, page_len, 0, list, GII_LIST_BYTES(t)) == GII_DONE, "nested syndromes");
         for (k = 0, zero = 1; k < GII_LIST_BYTES(t); k++)
             zero = zero && list[k] == 0;
         must(zero, "they are 0");
@@ -126,9 +88,9 @@ static void round_trip(const struct sheet *s)
     for (i = 0; i < s->m; i++) {
         memcpy(other, page, page_len);
         other[i * (page_len / s->m) + 1] ^= 0x10;
-        must(gii_judge(SHEET(s), other, page_len) == GII_SUB_WORD + i, "one bit flipped: its sub-word fails");
-        must(gii_read_out(SHEET(s), other, page_len, out, blocks_len) == GII_SUB_WORD + i, "read out says so too");
-        must(gii_syndromes(SHEET(s), other, page_len, i, list, GII_LIST_BYTES(s->t[0])) == GII_DONE, "syndromes");
+        must(gii_sheet_judge(s, other, page_len) == GII_SUB_WORD + i, "one bit flipped: its sub-word fails");
+        must(gii_sheet_read_out(s, other, page_len, out, blocks_len) == GII_SUB_WORD + i, "read out says so too");
+        must(gii_sheet_syndromes(s, other, page_len, i, list, GII_LIST_BYTES(s->t[0])) == GII_DONE, "syndromes");
         must(list[0] != 0 || list[1] != 0, "S_1 is not 0");
     }
 }
@@ -136,19 +98,19 @@ static void round_trip(const struct sheet *s)
 /* The counter's cases that are known byte for byte. */
 static void known_pages(void)
 {
-    static const struct sheet a = {4, 2, 1, {1, 2, 0, 0}};
+    static const struct gii_sheet a = {4, 2, 1, {1, 2, 0, 0}};
     static const uint8_t blocks[3] = {0x01, 0x01, 0x00}, page[4] = {0xC2, 0x01, 0x13, 0x00};
     static const uint8_t ones[4] = {0xFF, 0x7F, 0xFF, 0x7F}, one[4] = {0x01}, multiple[4] = {0x13};
     static const uint8_t second[4] = {0x02}, syndromes[8] = {2, 0, 4, 0, 8, 0, 3, 0};
     uint8_t out[4], list[8];
 
     printf("known pages of q 4, m 2, v 1, t 1, 2\n");
-    must(gii_write(SHEET(&a), 8, blocks, sizeof blocks, out, sizeof out) == GII_DONE, "blocks 01 / 01 00 written");
+    must(gii_sheet_write(&a, 8, blocks, sizeof blocks, out, sizeof out) == GII_DONE, "blocks 01 / 01 00 written");
     must(memcmp(out, page, sizeof page) == 0, "page C2 01 13 00");
-    must(gii_judge(SHEET(&a), ones, sizeof ones) == GII_MEMBER, "FF 7F FF 7F is a member");
-    must(gii_judge(SHEET(&a), one, sizeof one) == GII_SUB_WORD + 0, "01 00 00 00: sub-word 0 fails");
-    must(gii_judge(SHEET(&a), multiple, sizeof multiple) == GII_NESTED_WORD + 0, "13 00 00 00: nested word 0 fails");
-    must(gii_nested_syndromes(SHEET(&a), second, sizeof second, 0, list, sizeof list) == GII_DONE, "syndromes of 02 00");
+    must(gii_sheet_judge(&a, ones, sizeof ones) == GII_MEMBER, "FF 7F FF 7F is a member");
+    must(gii_sheet_judge(&a, one, sizeof one) == GII_SUB_WORD + 0, "01 00 00 00: sub-word 0 fails");
+    must(gii_sheet_judge(&a, multiple, sizeof multiple) == GII_NESTED_WORD + 0, "13 00 00 00: nested word 0 fails");
+    must(gii_sheet_nested_syndromes(&a, second, sizeof second, 0, list, sizeof list) == GII_DONE, "syndromes of 02 00");
     must(memcmp(list, syndromes, sizeof list) == 0, "2, 4, 8, 3");
 }
 
@@ -159,41 +121,42 @@ struct lent {
 
 enum call { WRITE, READ_OUT, JUDGE, SYNDROMES, NESTED_SYNDROMES };
 
-static void refused(enum call call, const struct sheet *s, uint32_t number, size_t blocks_len, size_t page_len,
+static void refused(enum call call, const struct gii_sheet *s, uint32_t number, size_t blocks_len, size_t page_len,
                     size_t list_len, const struct lent *holds, uint32_t expected, const char *what)
 {
     static const char *const names[] = {"write", "read out", "judge", "syndromes", "nested syndromes"};
     struct lent lent = *holds;
-    char line[96];
+    char line[160];
     uint32_t answer = 0;
 
     switch (call) {
     case WRITE:
-        answer = gii_write(SHEET(s), number, lent.blocks, blocks_len, lent.page, page_len);
+        answer = gii_sheet_write(s, number, lent.blocks, blocks_len, lent.page, page_len);
         break;
     case READ_OUT:
-        answer = gii_read_out(SHEET(s), lent.page, page_len, lent.blocks, blocks_len);
+        answer = gii_sheet_read_out(s, lent.page, page_len, lent.blocks, blocks_len);
         break;
     case JUDGE:
-        answer = gii_judge(SHEET(s), lent.page, page_len);
+        answer = gii_sheet_judge(s, lent.page, page_len);
         break;
     case SYNDROMES:
-        answer = gii_syndromes(SHEET(s), lent.page, page_len, number, lent.list, list_len);
+        answer = gii_sheet_syndromes(s, lent.page, page_len, number, lent.list, list_len);
         break;
     case NESTED_SYNDROMES:
-        answer = gii_nested_syndromes(SHEET(s), lent.page, page_len, number, lent.list, list_len);
+        answer = gii_sheet_nested_syndromes(s, lent.page, page_len, number, lent.list, list_len);
         break;
     }
-    sprintf(line, "%s, %s: refused by %u, every byte stays", names[call], what, (unsigned)expected);
-    must(answer == expected && memcmp(&lent, holds, sizeof lent) == 0, line);
+    sprintf(line, "%s, %s: refused by %u (%s), every byte stays", names[call], what, (unsigned)expected,
+            gii_answer_text(expected));
+    must(answer == expected && GII_IS_REFUSAL(answer) && memcmp(&lent, holds, sizeof lent) == 0, line);
 }
 
 static void refusals(void)
 {
-    static const struct sheet a = {4, 2, 1, {1, 2, 0, 0}};
-    static const struct sheet field = {5, 2, 1, {1, 2, 0, 0}}, shape = {4, 1, 1, {1, 2, 0, 0}};
-    static const struct sheet strengths = {4, 2, 1, {2, 2, 0, 0}}, clash = {4, 4, 2, {1, 2, 3, 0}};
-    static const struct sheet greatest = {UINT32_MAX, UINT32_MAX, UINT32_MAX, {UINT32_MAX, UINT32_MAX, UINT32_MAX, UINT32_MAX}};
+    static const struct gii_sheet a = {4, 2, 1, {1, 2, 0, 0}};
+    static const struct gii_sheet field = {5, 2, 1, {1, 2, 0, 0}}, shape = {4, 1, 1, {1, 2, 0, 0}};
+    static const struct gii_sheet strengths = {4, 2, 1, {2, 2, 0, 0}}, clash = {4, 4, 2, {1, 2, 3, 0}};
+    static const struct gii_sheet greatest = {UINT32_MAX, UINT32_MAX, UINT32_MAX, {UINT32_MAX, UINT32_MAX, UINT32_MAX, UINT32_MAX}};
     struct lent fits, stray;
     int call;
 
@@ -236,19 +199,36 @@ static void refusals(void)
     }
 }
 
+/* What the header gives beside the functions. */
+static void header(void)
+{
+    static const struct gii_sheet most = {12, 8, 1, {1, 2, 0, 0}}, large = {12, 8, 3, {28, 32, 39, 58}};
+    static const struct gii_sheet clash = {4, 4, 2, {1, 2, 3, 0}};
+    char version[16];
+
+    printf("the header\n");
+    sprintf(version, "%d.%d.%d", GII_BCH_VERSION_MAJOR, GII_BCH_VERSION_MINOR, GII_BCH_VERSION_PATCH);
+    must(strcmp(version, GII_BCH_VERSION) == 0, "version " GII_BCH_VERSION);
+    must(gii_sheet_page_bytes(&most) == GII_PAGE_MAX && gii_sheet_blocks_bytes(&most) == GII_BLOCKS_MAX, "the most bytes");
+    must(GII_LIST_BYTES(64) == GII_LIST_MAX, "the longest list");
+    must(gii_sheet_blocks_bytes(&large) == 3695, "3695 bytes of blocks at q 12, m 8, v 3, t 28, 32, 39, 58");
+    must(gii_sheet_test(&clash) == GII_CLASH && gii_sheet_blocks_bytes(&clash) == 0, gii_answer_text(GII_CLASH));
+    must(!GII_IS_REFUSAL(GII_DONE) && !GII_IS_REFUSAL(GII_SUB_WORD) && !GII_IS_REFUSAL(UINT32_MAX), "no refusals");
+}
+
 int main(void)
 {
-    static const struct sheet sheets[] = {
+    static const struct gii_sheet sheets[] = {
         {4, 2, 1, {1, 2, 0, 0}},
         {8, 4, 2, {4, 8, 16, 0}},
         {12, 8, 3, {28, 32, 39, 58}},
     };
     size_t k;
 
+    header();
     known_pages();
     for (k = 0; k < sizeof sheets / sizeof *sheets; k++)
         round_trip(&sheets[k]);
-    must(blocks_before(&sheets[2], 8) == 3695, "3695 bytes of blocks at q 12, m 8, v 3, t 28, 32, 39, 58");
     refusals();
     printf("all as expected\n");
     return 0;

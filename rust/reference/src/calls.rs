@@ -1,4 +1,4 @@
-//! The five C calls, on slices. Each gives document 01's number; a refusal leaves every byte.
+//! The five C calls, on slices. Each gives the requirement's number; a refusal leaves every byte.
 
 use crate::parameters::{Condition, Parameters, Sheet, first};
 

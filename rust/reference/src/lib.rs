@@ -1,4 +1,4 @@
-//! Another encoder for the pages of document 01, to compare the proved library with.
+//! Another encoder for the pages of the requirement (docs/REQUIREMENT.md), to compare the proved library with.
 //!
 //! It is written from the definitions and takes none of the library's ways:
 //!

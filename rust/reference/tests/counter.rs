@@ -1,4 +1,4 @@
-//! Document 01's cases ('On the counter'), the starred ones and those that a C call or the reference can show.
+//! The requirement's cases ('On the counter'), the starred ones and those that a C call or the reference can show.
 
 use reference::calls::{judge, nested_syndromes, read_out, syndromes, write};
 use reference::field::Field;

@@ -5,6 +5,7 @@
 use reference::layout::{bit, set};
 use reference::parameters::Sheet;
 use reference::{Parameters, calls, generator, linear};
+use std::hint::black_box;
 use std::slice::{from_raw_parts, from_raw_parts_mut};
 use std::sync::OnceLock;
 
@@ -107,104 +108,66 @@ fn level_0_only(p: &Parameters, blocks: &[u8], page: &mut [u8]) {
     sheet.put_page(&words, page);
 }
 
-/// # Safety
-/// As the header says.
-#[unsafe(no_mangle)]
-#[allow(clippy::too_many_arguments)]
-pub unsafe extern "C" fn gii_write(
-    q: u32,
-    m: u32,
-    v: u32,
-    t0: u32,
-    t1: u32,
-    t2: u32,
-    t3: u32,
-    width: u32,
-    blocks: *const u8,
-    blocks_len: usize,
-    page: *mut u8,
-    page_len: usize,
-) -> u32 {
-    let p = &Parameters { q, m, v, t: [t0, t1, t2, t3] };
-    let given = unsafe { from_raw_parts(blocks, blocks_len) };
-    let lent = unsafe { from_raw_parts_mut(page, page_len) };
+fn write(p: &Parameters, width: u32, blocks: &[u8], page: &mut [u8]) -> u32 {
     if fault("refuse-all") {
         return 4;
     }
-    if fault("page-before-blocks") && p.accepted() && page_len != Sheet::of(p).page_bytes() {
+    if fault("page-before-blocks") && p.accepted() && page.len() != Sheet::of(p).page_bytes() {
         return 7;
     }
-    let old = lent.to_vec();
-    let number = calls::write(p, width, given, lent);
+    let old = page.to_vec();
+    let number = calls::write(p, width, blocks, page);
     if number != 0 {
         if fault("half-written-refusal") && number == 8 {
-            lent[0] = 0;
+            page[0] = 0;
         }
-        return leave(number, lent);
+        return leave(number, page);
     }
+    let end = page.len();
     if fault("write-touches-nothing") {
-        lent.copy_from_slice(&old);
+        page.copy_from_slice(&old);
     }
     if fault("zero-page") {
-        lent.fill(0);
+        page.fill(0);
     }
     if fault("level-0-only") {
-        level_0_only(p, given, lent);
+        level_0_only(p, blocks, page);
     }
     if fault("data-high") {
-        calls::write(p, width, &higher(p, given), lent);
+        calls::write(p, width, &higher(p, blocks), page);
     }
     if fault("width-37") && width == 37 {
-        lent[0] ^= 1;
+        page[0] ^= 1;
     }
     if fault("one-strength") && p.t[p.v as usize] == 64 {
-        lent[page_len - 2] ^= 0x40;
+        page[end - 2] ^= 0x40;
     }
     if fault("last-byte-left") {
-        lent[page_len - 1] = old[page_len - 1];
+        page[end - 1] = old[end - 1];
     }
     if fault("overrun") {
-        unsafe { *page.add(page_len) = 0 };
+        unsafe { *black_box(page.as_mut_ptr()).add(end) = 0 };
     }
     if fault("alters-blocks") {
-        unsafe { *blocks.cast_mut() = 0 };
+        unsafe { *black_box(blocks.as_ptr().cast_mut()) = 0 };
     }
     number
 }
 
-/// # Safety
-/// As the header says.
-#[unsafe(no_mangle)]
-#[allow(clippy::too_many_arguments)]
-pub unsafe extern "C" fn gii_read_out(
-    q: u32,
-    m: u32,
-    v: u32,
-    t0: u32,
-    t1: u32,
-    t2: u32,
-    t3: u32,
-    page: *const u8,
-    page_len: usize,
-    blocks: *mut u8,
-    blocks_len: usize,
-) -> u32 {
-    let p = &Parameters { q, m, v, t: [t0, t1, t2, t3] };
-    let given = unsafe { from_raw_parts(page, page_len) };
-    let lent = unsafe { from_raw_parts_mut(blocks, blocks_len) };
-    let old = lent.to_vec();
-    let number = match calls::read_out(p, given, lent) {
-        refused @ 1..=12 => return leave(refused, lent),
-        _ => judge(p, given),
+fn read_out(p: &Parameters, page: &[u8], blocks: &mut [u8]) -> u32 {
+    let old = blocks.to_vec();
+    let number = match calls::read_out(p, page, blocks) {
+        refused @ 1..=12 => return leave(refused, blocks),
+        _ => judge(p, page),
     };
     if fault("read-out-of-members-only") && number != 0 {
-        lent.copy_from_slice(&old);
+        blocks.copy_from_slice(&old);
     }
     if fault("unused-bits-left") {
-        let last = blocks_len - 1;
+        let last = blocks.len() - 1;
         let sheet = Sheet::of(p);
         let used = (1u32 << ((sheet.block_bits(sheet.m - 1) - 1) % 8 + 1)) - 1;
-        lent[last] |= old[last] & !(used as u8);
+        blocks[last] |= old[last] & !(used as u8);
     }
     if fault("read-out-answers-done") {
         return 0;
@@ -212,89 +175,62 @@ pub unsafe extern "C" fn gii_read_out(
     number
 }
 
-/// # Safety
-/// As the header says.
-#[unsafe(no_mangle)]
-#[allow(clippy::too_many_arguments)]
-pub unsafe extern "C" fn gii_judge(
-    q: u32,
-    m: u32,
-    v: u32,
-    t0: u32,
-    t1: u32,
-    t2: u32,
-    t3: u32,
-    page: *const u8,
-    page_len: usize,
-) -> u32 {
-    let p = &Parameters { q, m, v, t: [t0, t1, t2, t3] };
-    let given = unsafe { from_raw_parts(page, page_len) };
-    if fault("stray-missed") && p.accepted() && page_len == Sheet::of(p).page_bytes() {
-        let mut cleared = given.to_vec();
+fn judge_any(p: &Parameters, page: &[u8]) -> u32 {
+    if fault("stray-missed") && p.accepted() && page.len() == Sheet::of(p).page_bytes() {
+        let mut cleared = page.to_vec();
         cleared.chunks_mut(Sheet::of(p).sub_word_bytes()).for_each(|bytes| *bytes.last_mut().unwrap() &= 0x7F);
         return judge(p, &cleared);
     }
     if fault("clash-missed") && p.refusal() == 4 {
         return 7;
     }
-    judge(p, given)
+    judge(p, page)
 }
 
-/// # Safety
-/// As the header says.
-#[unsafe(no_mangle)]
-#[allow(clippy::too_many_arguments)]
-pub unsafe extern "C" fn gii_syndromes(
-    q: u32,
-    m: u32,
-    v: u32,
-    t0: u32,
-    t1: u32,
-    t2: u32,
-    t3: u32,
-    page: *const u8,
-    page_len: usize,
-    index: u32,
-    list: *mut u8,
-    list_len: usize,
-) -> u32 {
-    let p = &Parameters { q, m, v, t: [t0, t1, t2, t3] };
-    let given = unsafe { from_raw_parts(page, page_len) };
-    let lent = unsafe { from_raw_parts_mut(list, list_len) };
-    if fault("index-before-stray") && p.accepted() && page_len == Sheet::of(p).page_bytes() && index >= m {
+fn syndromes(p: &Parameters, page: &[u8], index: u32, list: &mut [u8]) -> u32 {
+    if fault("index-before-stray") && p.accepted() && page.len() == Sheet::of(p).page_bytes() && index >= p.m {
         return 9;
     }
-    let old = lent.to_vec();
-    let number = calls::syndromes(p, given, index, lent);
+    let old = list.to_vec();
+    let number = calls::syndromes(p, page, index, list);
     if number == 0 && fault("high-byte-first") {
-        lent.chunks_mut(2).for_each(|pair| pair.swap(0, 1));
+        list.chunks_mut(2).for_each(|pair| pair.swap(0, 1));
     }
     if number == 0 && fault("last-syndrome-left") {
-        lent[list_len - 2..].copy_from_slice(&old[list_len - 2..]);
+        let kept = list.len() - 2;
+        list[kept..].copy_from_slice(&old[kept..]);
     }
-    leave(number, lent)
+    leave(number, list)
 }
 
-/// # Safety
-/// As the header says.
-#[unsafe(no_mangle)]
-#[allow(clippy::too_many_arguments)]
-pub unsafe extern "C" fn gii_nested_syndromes(
-    q: u32,
-    m: u32,
-    v: u32,
-    t0: u32,
-    t1: u32,
-    t2: u32,
-    t3: u32,
-    page: *const u8,
-    page_len: usize,
-    index: u32,
-    list: *mut u8,
-    list_len: usize,
-) -> u32 {
-    let p = &Parameters { q, m, v, t: [t0, t1, t2, t3] };
-    let given = unsafe { from_raw_parts(page, page_len) };
-    let lent = unsafe { from_raw_parts_mut(list, list_len) };
-    leave(nested(p, given, index, lent), lent)
+fn nested_syndromes(p: &Parameters, page: &[u8], index: u32, list: &mut [u8]) -> u32 {
+    leave(nested(p, page, index, list), list)
+}
+
+/// Exports a function on parameters, numbers and slices by the name that C has for it.
+macro_rules! exported {
+    ($($name:ident($($parameter:ident: $kind:ty),*) = $call:ident($($argument:expr),*);)*) => {$(
+        /// # Safety
+        /// As the header says.
+        #[unsafe(no_mangle)]
+        #[allow(clippy::too_many_arguments)]
+        pub unsafe extern "C" fn $name(
+            q: u32, m: u32, v: u32, t0: u32, t1: u32, t2: u32, t3: u32, $($parameter: $kind),*
+        ) -> u32 {
+            unsafe { $call(&Parameters { q, m, v, t: [t0, t1, t2, t3] }, $($argument),*) }
+        }
+    )*};
+}
+
+exported! {
+    gii_write(width: u32, blocks: *const u8, blocks_len: usize, page: *mut u8, page_len: usize)
+        = write(width, from_raw_parts(blocks, blocks_len), from_raw_parts_mut(page, page_len));
+    gii_read_out(page: *const u8, page_len: usize, blocks: *mut u8, blocks_len: usize)
+        = read_out(from_raw_parts(page, page_len), from_raw_parts_mut(blocks, blocks_len));
+    gii_judge(page: *const u8, page_len: usize)
+        = judge_any(from_raw_parts(page, page_len));
+    gii_syndromes(page: *const u8, page_len: usize, index: u32, list: *mut u8, list_len: usize)
+        = syndromes(from_raw_parts(page, page_len), index, from_raw_parts_mut(list, list_len));
+    gii_nested_syndromes(page: *const u8, page_len: usize, index: u32, list: *mut u8, list_len: usize)
+        = nested_syndromes(from_raw_parts(page, page_len), index, from_raw_parts_mut(list, list_len));
 }

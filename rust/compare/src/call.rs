@@ -1,5 +1,6 @@
 //! One call, made to the archive and to the reference: the numbers and every byte must agree.
 
+use gii_bch::{Refusal, Sheet, Verdict};
 use reference::{Parameters, calls};
 
 #[derive(Clone, Copy, Debug, PartialEq, Eq, PartialOrd, Ord)]
@@ -41,13 +42,16 @@ impl Call {
     /// The call made to the archive, likewise.
     pub fn by_archive(&self, read: &[u8], lent: &mut [u8]) -> u32 {
         let Call { name, p, number, .. } = self;
-        match name {
-            Name::Write => crate::write(p, *number, read, lent),
-            Name::ReadOut => crate::read_out(p, read, lent),
-            Name::Judge => crate::judge(p, read),
-            Name::Syndromes => crate::syndromes(p, read, *number, lent),
-            Name::NestedSyndromes => crate::nested_syndromes(p, read, *number, lent),
-        }
+        let sheet = sheet(p);
+        let done = |()| Verdict::Member;
+        let answer = match name {
+            Name::Write => sheet.write(*number, read, lent).map(done),
+            Name::ReadOut => sheet.read_out(read, lent),
+            Name::Judge => sheet.judge(read),
+            Name::Syndromes => sheet.syndromes(read, *number, lent).map(done),
+            Name::NestedSyndromes => sheet.nested_syndromes(read, *number, lent).map(done),
+        };
+        answer.map_or_else(Refusal::number, Verdict::number)
     }
 
     /// The number and the lent bytes on which both sides agree, or how they part. `shift` moves the buffers in memory.
@@ -79,6 +83,11 @@ impl Call {
         let (read, lent) = (shown(&self.read), shown(&self.lent));
         Err(format!("{name:?} {found}\n{p:?}, width or index {number}\nread {read}\nlent {lent}"))
     }
+}
+
+/// The reference's parameters as the archive's.
+pub fn sheet(p: &Parameters) -> Sheet {
+    Sheet::new(p.q, p.m, p.v, p.t)
 }
 
 /// The length and the bytes, or the first of them.

@@ -1,7 +1,7 @@
 //! Any calls, archive and reference alike: fuzz CALLS, 100,000 if none is given. The seed is GII_SEED, or 1.
 
-use board::compare::NAMES;
-use board::draw;
+use compare::call::NAMES;
+use compare::draw;
 use reference::sample::Random;
 use std::collections::BTreeMap;
 

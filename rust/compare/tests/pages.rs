@@ -1,7 +1,7 @@
 //! Accepted parameters: every call on members and damaged pages, archive and reference alike.
 
-use board::compare::{Call, NAMES, Name};
-use board::draw::{break_nested, exact, flip, say, seed};
+use compare::call::{Call, NAMES, Name};
+use compare::draw::{break_nested, exact, flip, say, seed};
 use reference::Parameters;
 use reference::parameters::Sheet;
 use reference::sample::{Random, all_parameters};
@@ -60,7 +60,7 @@ impl Run {
         ones.chunks_mut(sheet.sub_word_bytes()).for_each(|bytes| *bytes.last_mut().unwrap() = 0x7F);
         self.page(p, ones);
         for _ in 0..pages {
-            let drawn = board::draw::page(&mut self.random, p);
+            let drawn = compare::draw::page(&mut self.random, p);
             self.page(p, drawn);
         }
         for name in NAMES {

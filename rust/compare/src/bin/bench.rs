@@ -7,7 +7,7 @@
 //! Samples of all rows take turns, so that a disturbance of the machine falls on all. Buffers are not cleared between
 //! calls, and the data are drawn once. The reference keeps its generators and tables between calls, the archive nothing.
 
-use board::compare::{Call, Name};
+use compare::call::{Call, Name};
 use reference::Parameters;
 use reference::parameters::Sheet;
 use reference::sample::Random;
@@ -178,14 +178,18 @@ fn main() {
     }
     let median = |timed: &Timed| timed.percentiles()[1];
     let crc = rows.iter().find(|row| row.call == "CRC-32").map_or(1.0, |row| median(&row.sides[0].1));
-    println!("\n| sheet | page bytes | call | width | archive | of a CRC-32 of 4,096 bytes | per byte | reference | reference to archive |");
+    println!(
+        "\n| sheet | page bytes | call | width | archive | of a CRC-32 of 4,096 bytes | per byte | reference | reference to archive |"
+    );
     println!("|---|---|---|---|---|---|---|---|---|");
     for row in rows.iter().filter(|row| row.sides.len() == 2) {
         let Row { sheet, call, width, bytes, sides } = row;
         let time = median(&sides[0].1);
         let (of_crc, per_byte, slower) = (time / crc, time / *bytes as f64, median(&sides[1].1) / time);
         let (archive, reference) = (with_spread(&sides[0].1), with_spread(&sides[1].1));
-        println!("| {sheet} | {bytes} | {call} | {width} | {archive} | {of_crc:.2} | {per_byte:.2} ns | {reference} | {slower:.1} |");
+        println!(
+            "| {sheet} | {bytes} | {call} | {width} | {archive} | {of_crc:.2} | {per_byte:.2} ns | {reference} | {slower:.1} |"
+        );
     }
 
     if let Some(file) = std::env::args().nth(1) {

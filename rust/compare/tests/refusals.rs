@@ -1,7 +1,7 @@
 //! Refusals: every set of conditions that a call can meet gives its least number, and every byte stays.
 
-use board::compare::{NAMES, Name};
-use board::draw::{conditions, exact, say, seed, spoil};
+use compare::call::{NAMES, Name};
+use compare::draw::{conditions, exact, say, seed, spoil};
 use reference::Parameters;
 use reference::sample::{Random, all_parameters};
 use std::collections::BTreeSet;
@@ -63,7 +63,7 @@ fn every_parameter_over_a_range() {
         for name in NAMES {
             // Buffers that fit the parameters where these are accepted, and those of sheet A where not.
             let exact_for = if p.accepted() { p } else { Parameters { q: 4, m: 2, v: 1, t: [1, 2, 0, 0] } };
-            let call = board::compare::Call { p, ..exact(random, name, &exact_for) };
+            let call = compare::call::Call { p, ..exact(random, name, &exact_for) };
             calls += 1;
             if let Err(found) = call.compare(0) {
                 panic!("seed {}: {found}", seed());

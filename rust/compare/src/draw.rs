@@ -1,6 +1,6 @@
 //! Calls drawn from a seed: exact ones, and ones that are spoiled in a known way or in any way.
 
-use crate::compare::{Call, NAMES, Name};
+use crate::call::{Call, NAMES, Name};
 use reference::Parameters;
 use reference::layout::{bit, set};
 use reference::parameters::Sheet;

@@ -1,0 +1,298 @@
+//! Pages of generalized integrated interleaved BCH (GII-BCH) codes: writing, reading out, judging, syndromes.
+//!
+//! The work is done by `libgii_bch.a`, a library proved by machine. This crate is not proved: it links the archive, lends
+//! it slices and gives its numbers names. A slice is never null, exactly as long as it says, and a mutable one overlaps no
+//! other, which is all that the archive asks of its callers: no safe call here can break its rules.
+//!
+//! ```
+//! use gii_bch::{Sheet, Verdict};
+//!
+//! let sheet = Sheet::new(4, 2, 1, [1, 2, 0, 0]);
+//! let blocks = [0x01, 0x01, 0x00];
+//! let mut page = vec![0; sheet.page_bytes()?];
+//! sheet.write(64, &blocks, &mut page)?;
+//! assert_eq!(page, [0xC2, 0x01, 0x13, 0x00]);
+//!
+//! let mut back = vec![0; sheet.blocks_bytes()?];
+//! assert_eq!(sheet.read_out(&page, &mut back)?, Verdict::Member);
+//! assert_eq!(back, blocks);
+//!
+//! page[0] ^= 1;
+//! assert_eq!(sheet.judge(&page)?, Verdict::SubWord(0));
+//! # Ok::<(), gii_bch::Refusal>(())
+//! ```
+//!
+//! `build.rs` links the archive that the variable `GII_ARCHIVE` names (a path from `rust/`), or
+//! `target/staticlib/libgii_bch.a` of the repository, which `rt staticlib gii_bch` makes. It is for x86-64 and takes at
+//! most 32 KiB of stack a call. Calls may run at once in several threads.
+
+#![no_std]
+#![deny(missing_docs)]
+
+use core::fmt;
+
+/// Declares C functions, whose first seven parameters are those of the sheet.
+macro_rules! c_functions {
+    ($(fn $name:ident($($parameter:ident: $kind:ty),*);)*) => {
+        mod c {
+            unsafe extern "C" {
+                $(pub fn $name(
+                    q: u32, m: u32, v: u32, t0: u32, t1: u32, t2: u32, t3: u32, $($parameter: $kind),*
+                ) -> u32;)*
+            }
+        }
+    };
+}
+
+c_functions! {
+    fn gii_write(width: u32, blocks: *const u8, blocks_len: usize, page: *mut u8, page_len: usize);
+    fn gii_read_out(page: *const u8, page_len: usize, blocks: *mut u8, blocks_len: usize);
+    fn gii_judge(page: *const u8, page_len: usize);
+    fn gii_syndromes(page: *const u8, page_len: usize, index: u32, list: *mut u8, list_len: usize);
+    fn gii_nested_syndromes(page: *const u8, page_len: usize, index: u32, list: *mut u8, list_len: usize);
+}
+
+/// Calls a C function with the parameters of a sheet before the others.
+macro_rules! call {
+    ($name:ident, $sheet:expr, $($argument:expr),*) => {{
+        let &Sheet { q, m, v, t: [t0, t1, t2, t3] } = $sheet;
+        // Every pointer given below is a slice's, with its length.
+        answer(unsafe { c::$name(q, m, v, t0, t1, t2, t3, $($argument),*) })
+    }};
+}
+
+/// The parameters of a code. n is 2^q − 1.
+#[derive(Clone, Copy, Debug, PartialEq, Eq, Hash)]
+#[non_exhaustive]
+pub struct Sheet {
+    /// 4, 8 or 12: the field is GF(2^q).
+    pub q: u32,
+    /// The number of sub-words, v + 1 to 8.
+    pub m: u32,
+    /// 1 to 3: there are v + 1 levels of strength.
+    pub v: u32,
+    /// The strengths: 1 ≤ t_0 < t_1 ≤ .. ≤ t_v ≤ 64 and 2 t_v ≤ n − 1; those past t_v are 0.
+    pub t: [u32; 4],
+}
+
+/// What a page was found to be.
+#[derive(Clone, Copy, Debug, PartialEq, Eq, PartialOrd, Ord, Hash)]
+pub enum Verdict {
+    /// A member of the code.
+    Member,
+    /// This sub-word is the lowest that is no multiple of g_0.
+    SubWord(u32),
+    /// Every sub-word is a multiple of g_0; this nested word l is the lowest that is no multiple of g_(v−l).
+    NestedWord(u32),
+}
+
+/// Why a call was refused: the least of the conditions that it met. Every byte lent to it is as it was.
+#[derive(Clone, Copy, Debug, PartialEq, Eq, PartialOrd, Ord, Hash)]
+#[non_exhaustive]
+pub enum Refusal {
+    /// q is not 4, 8 or 12.
+    Field = 1,
+    /// v or m is out of range.
+    Shape = 2,
+    /// A rule on the strengths is broken, or one past t_v is not 0.
+    Strengths = 3,
+    /// d × j is a multiple of n for some d below m and some j up to 2 t_v.
+    Clash = 4,
+    /// The width is not 1 to 64.
+    Width = 5,
+    /// The blocks' length is not exact.
+    Blocks = 6,
+    /// The page's length is not exact.
+    Page = 7,
+    /// A spare bit of the page, or an unused bit of the blocks, that is read is 1.
+    Stray = 8,
+    /// There is no such sub-word or nested word.
+    Index = 9,
+    /// The list's length is not exact.
+    List = 10,
+}
+
+const REFUSALS: [Refusal; 10] = [
+    Refusal::Field,
+    Refusal::Shape,
+    Refusal::Strengths,
+    Refusal::Clash,
+    Refusal::Width,
+    Refusal::Blocks,
+    Refusal::Page,
+    Refusal::Stray,
+    Refusal::Index,
+    Refusal::List,
+];
+
+const SUB_WORD: u32 = 32;
+const NESTED_WORD: u32 = 64;
+
+/// The archive's number by name.
+fn answer(number: u32) -> Result<Verdict, Refusal> {
+    match number {
+        0 => Ok(Verdict::Member),
+        1..=10 => Err(REFUSALS[number as usize - 1]),
+        SUB_WORD..=39 => Ok(Verdict::SubWord(number - SUB_WORD)),
+        NESTED_WORD..=66 => Ok(Verdict::NestedWord(number - NESTED_WORD)),
+        _ => panic!("the archive answers {number}, which this version does not know"),
+    }
+}
+
+/// The answer of a call that judges nothing.
+fn done(answer: Result<Verdict, Refusal>) -> Result<(), Refusal> {
+    answer.map(|verdict| assert_eq!(verdict, Verdict::Member))
+}
+
+impl Verdict {
+    /// The number of `enum gii_answer`: 0, 32 + i or 64 + l.
+    pub fn number(self) -> u32 {
+        match self {
+            Verdict::Member => 0,
+            Verdict::SubWord(i) => SUB_WORD + i,
+            Verdict::NestedWord(l) => NESTED_WORD + l,
+        }
+    }
+}
+
+impl Refusal {
+    /// The number of `enum gii_answer`, 1 to 10.
+    pub fn number(self) -> u32 {
+        self as u32
+    }
+}
+
+impl fmt::Display for Verdict {
+    fn fmt(&self, f: &mut fmt::Formatter) -> fmt::Result {
+        match self {
+            Verdict::Member => f.write_str("a member"),
+            Verdict::SubWord(i) => write!(f, "sub-word {i} fails"),
+            Verdict::NestedWord(l) => write!(f, "nested word {l} fails"),
+        }
+    }
+}
+
+impl fmt::Display for Refusal {
+    fn fmt(&self, f: &mut fmt::Formatter) -> fmt::Result {
+        f.write_str(match self {
+            Refusal::Field => "q is not 4, 8 or 12",
+            Refusal::Shape => "v or m is out of range",
+            Refusal::Strengths => "a rule on the strengths is broken",
+            Refusal::Clash => "some d × j is a multiple of n",
+            Refusal::Width => "the width is not 1 to 64",
+            Refusal::Blocks => "the blocks' length is not exact",
+            Refusal::Page => "the page's length is not exact",
+            Refusal::Stray => "a spare or unused bit is 1",
+            Refusal::Index => "no such sub-word or nested word",
+            Refusal::List => "the list's length is not exact",
+        })
+    }
+}
+
+impl core::error::Error for Refusal {}
+
+impl Sheet {
+    /// These parameters, accepted or not. The strengths past t_v are to be 0.
+    pub const fn new(q: u32, m: u32, v: u32, t: [u32; 4]) -> Sheet {
+        Sheet { q, m, v, t }
+    }
+
+    /// Whether the parameters are accepted; else their refusal: field, shape, strengths or clash.
+    pub fn test(&self) -> Result<(), Refusal> {
+        // No page has 0 bytes, so that judge refuses this one at the latest by its length.
+        match self.judge(&[]) {
+            Err(Refusal::Page) => Ok(()),
+            answer => done(answer),
+        }
+    }
+
+    /// Bytes of a page: m sub-words of 2^q / 8.
+    pub fn page_bytes(&self) -> Result<usize, Refusal> {
+        self.test()?;
+        Ok(self.m as usize * (1 << self.q) / 8)
+    }
+
+    /// Data bits of block i: n less the check bits of sub-word i. This count is not the archive's; write and read out test
+    /// the length.
+    pub fn block_bits(&self, i: u32) -> Result<usize, Refusal> {
+        self.test()?;
+        if i >= self.m {
+            return Err(Refusal::Index);
+        }
+        let n = (1usize << self.q) - 1;
+        let t = self.t[self.v.saturating_sub(i) as usize] as usize;
+        // The set {j, 2j, 4j, ..} mod n, taken at its least number.
+        let set = |j: usize| {
+            let mut size = 1;
+            let mut e = 2 * j % n;
+            while e > j {
+                (e, size) = (2 * e % n, size + 1);
+            }
+            if e == j { size } else { 0 }
+        };
+        Ok(n - (1..=2 * t).map(set).sum::<usize>())
+    }
+
+    /// Bytes of all blocks, each on whole bytes.
+    pub fn blocks_bytes(&self) -> Result<usize, Refusal> {
+        self.test()?;
+        (0..self.m).map(|i| self.block_bits(i).map(|bits| bits.div_ceil(8))).sum()
+    }
+
+    /// Bytes of the list of a sub-word's syndromes: 2 t_0 numbers of two bytes.
+    pub fn list_bytes(&self) -> Result<usize, Refusal> {
+        self.test()?;
+        Ok(4 * self.t[0] as usize)
+    }
+
+    /// Bytes of the list of nested word l's syndromes: 2 t_(v−l) numbers of two bytes.
+    pub fn nested_list_bytes(&self, l: u32) -> Result<usize, Refusal> {
+        self.test()?;
+        if l >= self.v {
+            return Err(Refusal::Index);
+        }
+        Ok(4 * self.t[(self.v - l) as usize] as usize)
+    }
+
+    /// The page of the blocks, check bits and all. `width` is the number of coefficients taken in a step, 1 to 64; it never
+    /// alters a byte. Refuses the parameters, the width, both lengths, an unused bit of the blocks.
+    pub fn write(&self, width: u32, blocks: &[u8], page: &mut [u8]) -> Result<(), Refusal> {
+        done(call!(gii_write, self, width, blocks.as_ptr(), blocks.len(), page.as_mut_ptr(), page.len()))
+    }
+
+    /// The data bits of the page, member or not, and what [`Sheet::judge`] gives for it. Nothing is corrected. Refuses the
+    /// parameters, both lengths, a spare bit of the page.
+    pub fn read_out(&self, page: &[u8], blocks: &mut [u8]) -> Result<Verdict, Refusal> {
+        call!(gii_read_out, self, page.as_ptr(), page.len(), blocks.as_mut_ptr(), blocks.len())
+    }
+
+    /// Whether the page is a member of the code. Refuses the parameters, the length, a spare bit.
+    pub fn judge(&self, page: &[u8]) -> Result<Verdict, Refusal> {
+        call!(gii_judge, self, page.as_ptr(), page.len())
+    }
+
+    /// S_1 to S_(2 t_0) of sub-word `index`, two bytes a number, low byte first; [`numbers`] reads them. Refuses the
+    /// parameters, the page's length, a spare bit anywhere in the page, the index, the list's length.
+    pub fn syndromes(&self, page: &[u8], index: u32, list: &mut [u8]) -> Result<(), Refusal> {
+        done(call!(gii_syndromes, self, page.as_ptr(), page.len(), index, list.as_mut_ptr(), list.len()))
+    }
+
+    /// S_1 to S_(2 t_(v−l)) of nested word l, l being `index`; else as [`Sheet::syndromes`].
+    pub fn nested_syndromes(&self, page: &[u8], index: u32, list: &mut [u8]) -> Result<(), Refusal> {
+        done(call!(gii_nested_syndromes, self, page.as_ptr(), page.len(), index, list.as_mut_ptr(), list.len()))
+    }
+}
+
+/// The numbers of a list of syndromes: elements of GF(2^q), α being 2.
+///
+/// ```
+/// # use gii_bch::{Sheet, numbers};
+/// let sheet = Sheet::new(4, 2, 1, [1, 2, 0, 0]);
+/// let mut list = vec![0; sheet.nested_list_bytes(0)?];
+/// sheet.nested_syndromes(&[0x02, 0, 0, 0], 0, &mut list)?;
+/// assert!(numbers(&list).eq([2, 4, 8, 3]));
+/// # Ok::<(), gii_bch::Refusal>(())
+/// ```
+pub fn numbers(list: &[u8]) -> impl Iterator<Item = u16> + '_ {
+    list.chunks_exact(2).map(|pair| u16::from_le_bytes([pair[0], pair[1]]))
+}
