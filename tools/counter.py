@@ -3,8 +3,9 @@
 
     python3 tools/counter.py > crates/gate_counter/stdout
 
-The answers come from tools/cases.py, another encoder written from document 01; the generators of the large field from
-tools/trial.py. Each misreading of the layout is worked out too, and must give something else in its case.
+The answers come from tools/cases.py, another encoder written from the requirement (docs/REQUIREMENT.md); the generators
+of the large field from tools/trial.py. Each misreading of the layout is worked out too, and must give something else in
+its case.
 """
 import cases
 import trial  # gives cases its generators of the large field
