@@ -3,14 +3,23 @@
 (docs/REQUIREMENT.md).
 
     python3 tools/cases.py > crates/cases/specs/Own.antt
+    python3 tools/cases.py --check
 
-writes the tables of Own.antt, in rt fmt's layout. Each row has what a definition gives, as a term, and what this
-program works out, as numbers. It shares no method with the definitions: generators by trying every polynomial, pages
-by elimination on the code's linear conditions, membership by evaluation at the roots, nested words by turning lists
-of bits, remainders by long division. Nothing is drawn at random but from the fixed sequence of `below`.
+The first writes the tables of Own.antt, in rt fmt's layout; the second says nothing where they stand there already, else
+it names the file and ends with 1. A row has what a definition gives, as a term, and what this program works out, as
+numbers; the rows are of definitions that no compiled call gives back. What the calls give is compared by programs:
+tools/trial.py, tools/counter.py and tools/writer.py take their answers from here.
+
+It shares no method with the definitions: generators by trying every polynomial, pages by elimination on the code's
+linear conditions, membership by evaluation at the roots, nested words by turning lists of bits, remainders by long
+division. Nothing is drawn at random but from the fixed sequence of `below`.
 """
+import sys
 from functools import lru_cache
 from itertools import product as tuples
+from pathlib import Path
+
+OWN = 'crates/cases/specs/Own.antt'
 
 FIELD = {4: 19, 8: 285, 12: 4179}
 
@@ -283,6 +292,31 @@ def newton(sheet, page, l):
     return out
 
 
+def carried(ws, i):
+    """What the words after sub-word i add to its rule."""
+    out = []
+    for k in range(i + 1, len(ws)):
+        out = added(out, multiplied(nesting(k, i), ws[k]))
+    return out
+
+
+def divisor(sheet, l):
+    """g_(v-l) / g_0."""
+    quotient, none = divided(gen(sheet, sheet[2] - l), gen(sheet, 0))
+    assert none == []
+    return quotient
+
+
+def cut(word, widths):
+    """A word of as many bits in parts of these widths, the highest first."""
+    out, top = [], len(word)
+    for width in widths:
+        out.append(number(word[top - width:top]))
+        top -= width
+    assert top == 0
+    return out
+
+
 # ---- the calls, each after its refusal
 
 def remainder_bytes(sheet, page, i):
@@ -290,9 +324,7 @@ def remainder_bytes(sheet, page, i):
 
 
 def short_bytes(sheet, page, l):
-    divisor, none = divided(gen(sheet, sheet[2] - l), gen(sheet, 0))
-    assert none == []
-    return bytes_of_bits(divided(nested(sheet, words(sheet, page), l), divisor)[1], 96)
+    return bytes_of_bits(divided(nested(sheet, words(sheet, page), l), divisor(sheet, l))[1], 96)
 
 
 def nested_bytes(sheet, page, l):
@@ -489,35 +521,33 @@ def call(name, *arguments):
     return ' '.join([name] + text)
 
 
-def answered(term, answer):
-    """The answer's number, then bytes."""
-    row(term, listed([answer[0]] + hexed(answer[1:])))
-
-
 def numbers(term, expected):
     row(term, listed(expected))
 
 
-def refused(term, code):
-    row(term + ' ∷ []', listed([code]))
+def alone(term, x):
+    row(term + ' ∷ []', listed([x]))
 
 
 # ---- the sheets
 
 A = (4, 2, 1, 1, 2, 0, 0)
 B = (4, 3, 2, 1, 2, 3, 0)
-EVERY = [(4, m, v, *t) for v in (1, 2, 3) for m in range(v + 1, 9) for t in tuples(range(8), repeat=4)
-         if refusal((4, m, v, *t)) == 0]
 ALIKE = (4, 2, 1, 4, 5, 0, 0)              # g_1 = g_0
 WIDE = (4, 5, 2, 1, 2, 2, 0)               # x^(l i) with l i above 3
 DEEP = (4, 5, 3, 1, 2, 2, 2)
 TIGHT = (4, 3, 2, 2, 5, 7, 0)              # two blocks of one bit
 SMALL = (4, 3, 2, 6, 7, 7, 0)              # all blocks of one bit, g_0 = g_1 = g_2
-LARGE = (8, 8, 3, 1, 2, 2, 2)
+EIGHT = (8, 8, 3, 1, 2, 2, 2)
+LARGE = (12, 8, 3, 28, 32, 39, 58)
 CHOSEN = [A, B, ALIKE, WIDE, DEEP, TIGHT, SMALL, (4, 4, 1, 1, 2, 0, 0), (4, 5, 1, 1, 2, 0, 0), (4, 3, 1, 2, 3, 0, 0),
           (4, 2, 1, 3, 7, 0, 0), (4, 3, 2, 1, 3, 3, 0), (4, 4, 3, 1, 2, 2, 2)]
-WIDTHS = [1, 7, 8, 63, 64]
 U32, U64 = 2 ** 32 - 1, 2 ** 64 - 1
+
+
+def every():
+    """Every accepted sheet of q = 4."""
+    return [(4, m, v, *t) for v in (1, 2, 3) for m in range(v + 1, 9) for t in tuples(range(8), repeat=4) if refusal((4, m, v, *t)) == 0]
 
 
 def least_weight(sheet):
@@ -540,380 +570,133 @@ def self_test():
     assert [syndrome(4, bits(2), j) for j in (1, 2, 3, 4)] == [2, 4, 8, 3]
     assert refusal((4, 4, 2, 1, 2, 3, 0)) == 4 and refusal((4, 4, 2, 1, 2, 2, 0)) == 0
     assert refusal((8, 4, 1, 1, 42, 0, 0)) == 0 and refusal((8, 4, 1, 1, 43, 0, 0)) == 4
-    assert distance((12, 8, 3, 28, 32, 39, 58)) == 117 and page_bytes((12, 8, 3, 28, 32, 39, 58)) == 4096
+    assert distance(LARGE) == 117 and page_bytes(LARGE) == 4096
     assert number(nesting(2, 1)) == 0b11 and number(nesting(4, 2)) == 0b11011
     assert writer([0x04, 0x02, 0x01, 0x08, 0x01, 0x02, 0x01, 0x01, 0x00]) == [0x00, 0xC2, 0x01, 0x13, 0x00] and writer([]) == [1]
     for s in CHOSEN:
         whole = lambda x: all(has_roots(4, newton(s, x, l), strength(s, s[2] - l)) for l in range(s[2]))
         assert whole(some_member(s)) and not any(whole(page_failing_at(s, l)) for l in range(s[2]) if degree(s, s[2] - l) > degree(s, 0))
-    small = [s for s in EVERY if sum(block_bits(s)) <= 16 or s == A]
+    small = [s for s in every() if sum(block_bits(s)) <= 16 or s == A]
     assert least_weight(A) == distance(A) and all(least_weight(s) >= distance(s) for s in small)
 
 
 # ---- the cases
 
-def tested_sheets():
-    table('sheets', 'Testing a sheet: its number, then its seven numbers if it is accepted.', 'tested')
-    edges = [A, B, WIDE, DEEP, (5, 2, 1, 1, 2, 0, 0), (0, 0, 0, 0, 0, 0, 0), (3, 9, 4, 0, 0, 0, 1), (16, 2, 1, 1, 2, 0, 0),
-             (4, 2, 0, 1, 2, 0, 0), (4, 1, 1, 1, 2, 0, 0), (4, 2, 2, 1, 2, 2, 0), (4, 3, 3, 1, 2, 2, 2), (4, 5, 4, 1, 2, 2, 2),
-             (4, 9, 1, 1, 2, 0, 0), (4, 8, 1, 1, 2, 0, 0), (4, 6, 1, 1, 2, 0, 0), (4, 0, 0, 9, 9, 9, 9), (8, 8, 1, 1, 2, 0, 0),
-             (8, 9, 1, 1, 2, 0, 0), (4, 2, 1, 0, 1, 0, 0), (4, 2, 1, 1, 1, 0, 0), (4, 2, 1, 2, 1, 0, 0), (4, 2, 1, 1, 2, 2, 0),
-             (4, 2, 1, 1, 2, 0, 1), (4, 3, 2, 1, 2, 1, 0), (4, 3, 2, 1, 2, 2, 2), (4, 3, 2, 1, 2, 0, 0), (4, 4, 3, 1, 2, 3, 2),
-             (4, 4, 3, 1, 2, 2, 3), (4, 4, 3, 1, 1, 2, 2), (4, 2, 1, 6, 7, 0, 0), (4, 2, 1, 7, 8, 0, 0), (4, 2, 1, 1, 8, 0, 0),
-             (4, 3, 2, 6, 7, 8, 0), (4, 4, 1, 1, 3, 0, 0), (4, 4, 1, 1, 2, 0, 0), (4, 4, 3, 1, 3, 3, 7), (8, 2, 1, 1, 64, 0, 0),
-             (8, 2, 1, 1, 65, 0, 0), (8, 4, 3, 1, 2, 3, 43), (8, 4, 3, 1, 2, 3, 42), (12, 8, 3, 28, 32, 39, 58),
-             (12, 8, 3, 61, 62, 63, 64), (12, 8, 3, 61, 62, 63, 65), (12, 8, 3, 61, 61, 63, 64), (12, 8, 3, 0, 62, 63, 64)]
-    for s in edges:
-        code = refusal(s)
-        numbers(call('tests', s), [code] + ([] if code else list(s)))
-    table('strengths', 'Every pair of strengths up to 8 at v = 1: the refusals for t_1 from 0 to 8, row by row of t_0.', 'sheetRefusal range')
-    for m in (2, 3, 4, 6):
-        for t0 in range(9):
-            numbers('map (λ t. sheetRefusal (sheet 4 %d 1 %d t 0 0)) (range 0 9)' % (m, t0), [refusal((4, m, 1, t0, t1, 0, 0)) for t1 in range(9)])
-    table('accepted', 'Every accepted sheet of q = 4: its refusal, page bytes, data bytes and distance.', 'sheetRefusal dataBytes distance')
-    for s in EVERY:
-        text = named(s)
-        numbers('layoutOf %s' % text, [0, page_bytes(s), data_bytes(s), distance(s)])
+def as_list(xs):
+    return '(%s)' % listed(xs)
 
 
 def layouts():
-    table('layout', 'Data bits and bytes of each block, where each begins, and the degrees by level.', 'blockBits blockSizes blockOffset degree range')
-    for s in CHOSEN:
-        m, v = s[1], s[2]
-        numbers(call('blockBits', s), block_bits(s))
-        numbers(call('blockSizes', s), block_bytes(s))
-        numbers('map (blockOffset %s) (range 0 %d)' % (named(s), m), [sum(block_bytes(s)[:i]) for i in range(m)])
-        numbers('map (degree %s) (range 0 %d)' % (named(s), v + 1), [degree(s, a) for a in range(v + 1)])
+    table('offsets', 'Where each block begins.', 'blockOffset range')
+    for s in [A, B, TIGHT, EIGHT]:
+        numbers('map (blockOffset %s) (range 0 %d)' % (named(s), s[1]), [sum(block_bytes(s)[:i]) for i in range(s[1])])
     table('placedBits', 'Coefficients of a page and bits of blocks, read off their bytes.', 'blockOffset range')
-    for s in [A, B, WIDE, TIGHT]:
-        x, data_ = some_page(s), some_blocks(s)
-        for i in range(s[1]):
-            numbers('map (coefficientOf %s %s %d) (range 0 15)' % (named(s), data(x), i), words(s, x)[i])
-            b = block_bits(s)[i]
-            numbers('map (blockBit %s %s %d) (range 0 %d)' % (named(s), data(data_), i, b), blocks_with_unused(s, data_)[i][:b])
-
-
-def rows_of_generators():
-    table('generatorRows', 'Generators by level: 13 words each, 0 past v and for a refused sheet.', 'generators pow xor rem')
-    for s in [A, B, ALIKE, DEEP, TIGHT, (4, 2, 1, 3, 6, 0, 0), (4, 4, 2, 1, 2, 3, 0), (255, 2, 1, 1, 2, 0, 0), (U32, 2, 1, 1, 2, 0, 0), (4, 2, 1, 1, U32, 0, 0)]:
-        numbers('length (generators %s) ∷ []' % named(s), [4])
-        for a in range(4):
-            g = [number(gen(s, a))] if refusal(s) == 0 and a <= s[2] else [0]
-            numbers('getD (generators %s) %d []' % (named(s), a), g + [0] * 12)
-
-
-def write_cases():
-    table('pages', 'Write: its number, then the page left in a buffer with old bytes.', 'writeRefusal pageOf pow')
-    for k, s in enumerate(CHOSEN):
-        answered_write(s, WIDTHS[k % 5], some_blocks(s))
-    for s, width in [(A, 64), (B, 63)]:
-        answered_write(s, width, all_ones(s))
-    blocks = some_blocks(A)
-    for width in WIDTHS + [0, 65]:
-        answered_write(A, width, blocks)
-    table('singleBits', 'Write: the page of a single bit, one of each block.', 'writeRefusal pageOf pow')
-    for s in [A, B, WIDE, DEEP]:
-        for i, b in enumerate(block_bits(s)):
-            answered_write(s, WIDTHS[i % 5], one_bit(s, i, 0 if i >= s[2] else b - 1))
-
-
-def answered_write(s, width, blocks):
-    old = some_bytes(page_bytes(s))
-    answered(call('written', s, width, blocks, old), write(s, width, blocks, old))
-
-
-def read_cases():
-    table('readings', 'Read out: its number, then the blocks left in a buffer with old bytes; members and others.', 'readAnswer readLeaves pow')
-    for k, s in enumerate(CHOSEN):
-        old = some_bytes(data_bytes(s))
-        x = some_member(s) if k % 2 == 0 else some_page(s)
-        answered(call('readOut', s, x, old), read_out(s, x, old))
-    table('verdicts', 'Judge: its number, then its values; a member, then the same with flipped bits in sub-words i and later.', 'judgeAnswer pow')
-    for s in [B, DEEP]:
-        x = some_member(s)
-        row_of_judge(s, x)
-        for i in range(s[1]):
-            row_of_judge(s, flipped(s, x, (i, below(15)), *[(k, below(15)) for k in range(i + 1, s[1]) if below(2)]))
-    table('nestedVerdicts', 'Judge on pages whose sub-words all hold: the lowest nested word that fails.', 'judgeAnswer pow')
-    for s, l in [(A, 0), (B, 0), (B, 1), (WIDE, 1), (DEEP, 1), (DEEP, 2)]:
-        row_of_judge(s, page_failing_at(s, l))
-    for s, x in [(B, [0xFF, 0x7F] * 3), (ALIKE, [0xFF, 0x7F, 0x00, 0x00]), (B, [0x13, 0x00, 0x00, 0x00, 0x00, 0x00])]:
-        row_of_judge(s, x)
-
-
-def row_of_judge(s, x):
-    numbers(call('judged', s, x), judged(s, x))
-
-
-def word_cases():
-    table('remainders', 'The remainder of a sub-word by g_0, in 96 bytes.', 'wordRefusal remainderBytes pow')
-    for s in [A, B, ALIKE, DEEP, TIGHT]:
+    for s, i in [(A, 0), (B, 2), (WIDE, 4)]:
         x = some_page(s)
-        for i in range(s[1]):
-            answered(call('remainderMade', s, x, i, [0xAA] * 96), [0] + remainder_bytes(s, x, i))
-    table('shortRemainders', 'The short remainder of a nested word by g_(v-l) / g_0, in 96 bytes.', 'wordRefusal shortBytes pow')
-    for s in [A, B, ALIKE, WIDE, DEEP]:
-        x = some_page(s)
-        for l in range(s[2]):
-            answered(call('shortMade', s, x, l, [0xAA] * 96), [0] + short_bytes(s, x, l))
-    table('nestedWords', 'Nested words, their bits turned round.', 'wordRefusal nestedWordBytes')
-    for s in [A, B, WIDE, DEEP, TIGHT]:
-        for x in [some_page(s), page_of_words(s, [[0] * 14 + [1]] * s[1])]:
-            for l in range(s[2]):
-                answered(call('nestedMade', s, x, l, [0xFF, 0xFF]), [0] + nested_bytes(s, x, l))
+        numbers('map (%s %d) (range 0 15)' % (call('coefficientOf', s, x), i), words(s, x)[i])
+    for s, i in [(A, 1), (B, 2), (TIGHT, 1)]:
+        blocks, b = some_blocks(s), block_bits(s)[i]
+        numbers('map (%s %d) (range 0 %d)' % (call('blockBit', s, blocks), i, b), blocks_with_unused(s, blocks)[i][:b])
+
+
+def equal_form():
+    table('nestings', 'N(i, l) past what the call gives: i above 7, and l above i.', 'N range')
+    numbers('map (N 9) (range 0 11)', [number(nesting(9, l)) for l in range(11)])
+    numbers('map (λ i. N i 4) (range 0 10)', [number(nesting(i, 4)) for i in range(10)])
     table('newtonSums', 'The sums Σ N(i, l) × c_i of the equal form.', 'wordsOf combine N')
-    for s in [A, B, WIDE, DEEP]:
+    for s, l in [(A, 0), (B, 0), (B, 1), (WIDE, 1), (DEEP, 2)]:
         x = some_page(s)
-        for l in range(s[2]):
-            numbers('newton %d (wordsOf %s %s) ∷ []' % (l, named(s), data(x)), [number(newton(s, x, l))])
-    table('syndromeLists', 'Syndromes of a sub-word, as numbers and as C takes them.', 'wordRefusal syndromeList asBytes')
-    for s in [A, B, ALIKE, DEEP, SMALL]:
+        alone('newton %d (%s)' % (l, call('wordsOf', s, x)), number(newton(s, x, l)))
+    table('carries', 'What the later words add to the rule of sub-word i, at its level: nothing at level 0.', 'carried wordsOf')
+    for s, i in [(A, 0), (B, 1), (DEEP, 0), (DEEP, 3)]:
         x = some_page(s)
-        t = strength(s, 0)
-        for i in (0, s[1] - 1):
-            numbers(call('syndromesMade', s, x, i, [0xAA] * (2 * t)), [0] + syndrome_list(s, x, i))
-        numbers(call('syndromesMadeC', s, x, 1, [0xAA] * (4 * t)), [0] + low_byte_first(syndrome_list(s, x, 1)))
-    numbers('asBytes (0 ∷ 255 ∷ 256 ∷ 4095 ∷ 65535 ∷ [])', low_byte_first([0, 255, 256, 4095, 65535]))
-    table('nestedSyndromeLists', 'Syndromes of a nested word, as numbers and as C takes them.', 'wordRefusal nestedSyndromeList asBytes')
-    for s in [A, B, ALIKE, WIDE, DEEP, TIGHT]:
-        x = some_page(s)
-        for l in range(s[2]):
-            t = strength(s, s[2] - l)
-            numbers(call('nestedSyndromesMade', s, x, l, [0xAA] * (2 * t)), [0] + nested_syndrome_list(s, x, l))
-        numbers(call('nestedSyndromesMadeC', s, x, 0, [0xAA] * (4 * strength(s, s[2]))), [0] + low_byte_first(nested_syndrome_list(s, x, 0)))
+        level = max(s[2] - i, 0)
+        alone('carried %d %d (drop %d (%s))' % (level, i, i + 1, call('wordsOf', s, x)), number(carried(words(s, x), i)) if level else 0)
+
+
+def divisors():
+    table('divisors', 'g_(v-l) / g_0; 1 where the two are one.', 'divisor range pow')
+    for s in [B, ALIKE, DEEP]:
+        numbers('map (divisor %s) (range 0 %d)' % (named(s), s[2]), [number(divisor(s, l)) for l in range(s[2])])
 
 
 def page_differences():
     table('bitsApart', 'Two pages: at how many places they differ; their spare bits count for nothing.', 'differences')
-    for s in [A, B, DEEP]:
-        x, y = some_page(s), some_page(s)
-        for a, b in [(x, y), (y, x), (x, x), (x, flipped(s, x, (1, 14), (0, 0))), ([0] * page_bytes(s), [0xFF] * page_bytes(s))]:
-            numbers(call('differences', s, a, b) + ' ∷ []', [differences(s, a, b)])
+    x, y = some_page(B), some_page(B)
+    for s, a, b in [(B, x, y), (B, x, x), (B, x, flipped(B, x, (1, 14), (0, 0))), (A, [0x00] * 4, [0xFF] * 4)]:
+        alone(call('differences', s, a, b), differences(s, a, b))
+    table('distances', 'The distance.', 'distance')
+    sheets = CHOSEN + [EIGHT, LARGE]
+    numbers('map distance %s' % as_list(map(named, sheets)), [distance(s) for s in sheets])
+    table('sums', 'Lists added place by place; the longer list keeps its tail.', 'xor')
+    for a, b in [(some_bytes(4), some_bytes(4)), (some_bytes(3), some_bytes(5))]:
+        row('add %s %s' % (data(a), data(b)), listed(hexed([x ^ y for x, y in zip(a, b)] + max(a, b, key=len)[min(len(a), len(b)):])))
 
 
-def nesting_cases():
-    table('nestings', 'N(i, l) as a bit polynomial, for i and l up to 7; 9 past that.', 'nesting N')
-    for i in range(8):
-        for l in range(8):
-            numbers('nests %d %d' % (i, l), [0, number(nesting(i, l))])
-    for i, l in [(8, 0), (0, 8), (8, 8), (7, 9), (U64, 0), (0, U64), (U64, U64), (U64, 3)]:
-        numbers('nests %d %d' % (i, l), [9])
+def parts():
+    table('cuts', 'A polynomial cut for feeding, highest power first: the parts\' widths, and the parts.', 'sum')
+    word, widths = [below(2) for _ in range(15)], [3, 8, 4]
+    text = 'cut 0x%X %s' % (number(word), as_list(widths))
+    numbers('map (λ u. u .0) (%s)' % text, widths)
+    numbers('map (λ u. u .1) (%s)' % text, cut(word, widths))
+    table('fedParts', 'The parts fed in turn from the empty register: level, count and words.', 'fed sum pow')
+    for s, level, widths in [(B, 2, [7, 1, 7]), (TIGHT, 0, [4, 11])]:
+        word = [below(2) for _ in range(sum(widths))]
+        numbers('held (feedings %s (empty %d) (cut 0x%X %s))' % (named(s), level, number(word), as_list(widths)),
+                [level, len(word), number(divided(word, gen(s, level))[1])] + [0] * 11)
 
 
-def writer_cases():
-    table('writings', 'The writer program: input bytes to output bytes.', 'writer pow')
-    good = lambda s, width, blocks: [s[0], s[1], s[2], width] + list(s[3:4 + s[2]]) + blocks
-    a = [0x01, 0x01, 0x00]
-    cases = [good(s, WIDTHS[k % 5], some_blocks(s)) for k, s in enumerate([A, B, WIDE, (4, 4, 3, 1, 2, 2, 2), SMALL])]
-    cases += [[], [4], [4, 2], [4, 2, 1], [4, 2, 1, 8], [4, 2, 1, 8, 1], [4, 2, 1, 8, 1, 2], [4, 2, 1, 0, 1, 2], [4, 2, 0, 8], [4, 2, 0, 8, 1, 2] + a,
-              [4, 5, 4, 8, 1, 2, 2, 2, 2], [4, 2, 255, 8], [255] * 12, [8] * 3, [4, 255, 1, 8, 1, 2] + a, [4, 2, 1, 255, 1, 2] + a,
-              [4, 2, 1, 8, 255, 255] + a, [4, 2, 1, 8, 1, 255] + a, good(A, 0, a), good(A, 65, a), good(A, 64, a), good(A, 1, a),
-              good(A, 8, a[:2]), good(A, 8, a + [0]), good(A, 8, [0x80, 0x01, 0x00]), good(A, 8, [0x01, 0x01, 0x08]), good(A, 8, [0x7F, 0xFF, 0x07]),
-              good(A, 65, [0x80]), good(A, 8, [0xFF]), good((4, 4, 2, 1, 2, 3, 0), 0, a), good((4, 2, 1, 2, 2, 0, 0), 0, a), [5] + good(A, 8, a)[1:],
-              [4, 3, 2, 8, 1, 2], [4, 3, 2, 8, 1, 2, 3], good(B, 8, [0, 0, 1]), good(B, 8, [0, 0, 1, 0, 0]), good(B, 8, [0x20, 0, 1, 0])]
-    for x in cases:
+def field_sums():
+    table('fieldSums', 'The powers of α, and a syndrome as the sum Σ c_k α^(j k).', 'power sumBelow xor range')
+    numbers('map (power 4) (range 0 16)', [powers(4)[k % 15] for k in range(16)])
+    word = [below(2) for _ in range(15)]
+    alone('sumBelow 15 (λ k. coefficient 0x%X k * power 4 (3 * k))' % number(word), syndrome(4, word, 3))
+
+
+def bytes_for_c():
+    table('bytePairs', 'Numbers as C takes them, two bytes each, low byte first.', 'asBytes')
+    xs = [0, 255, 256, 4095, 65535]
+    row('asBytes %s' % as_list(xs), listed(hexed(low_byte_first(xs))))
+
+
+def writings():
+    table('writings', 'The writer program\'s answer where strengths are missing: they are 0.', 'writer pow')
+    for x in [[4, 3, 2, 8, 1, 2], [4, 3, 2, 8, 1, 2, 3], [4, 4, 3, 8, 1, 2, 2]]:
         row('writer %s' % data(x), listed(hexed(writer(x))))
-
-
-def refusals():
-    a, page = [0x01, 0x01, 0x00], [0xC2, 0x01, 0x13, 0x00]
-    bad_sheets = [(5, 2, 1, 1, 2, 0, 0), (4, 2, 0, 1, 2, 0, 0), (4, 2, 1, 2, 2, 0, 0), (4, 6, 1, 1, 2, 0, 0)]
-    table('writeRefusals', 'The refusals of write, of several at once the first.', 'writeRefusal')
-
-    def of_write(s, width, blocks, k):
-        refused(call('writeRefusal', s, width, blocks, k), refusal(s, width=width, blocks=blocks, page=k))
-    for s in bad_sheets:
-        of_write(s, 0, [0xFF], 0)
-    for width in (0, 1, 64, 65, 128):
-        of_write(A, width, a, 4)
-        of_write(A, width, [0xFF, 0xFF], 3)
-    for blocks in ([], a[:2], a + [0], [0x80, 0, 0], [0, 0, 0x08], [0, 0, 0x80], [0x7F, 0xFF, 0x07], [0xFF, 0xFF, 0xFF]):
-        for k in (3, 4, 5):
-            of_write(A, 8, blocks, k)
-    for blocks in ([0x02, 0x01, 0x01], [0x01, 0x02, 0x01], [0x01, 0x01, 0x02], [0x01, 0x01, 0x01], [0x00] * 2, [0x00] * 4):
-        of_write(SMALL, 8, blocks, 6)
-    for blocks in ([0x20, 0, 0, 0], [0, 0x80, 0, 0], [0, 0, 0, 0x08], [0x1F, 0x7F, 0xFF, 0x07]):
-        of_write(B, 8, blocks, 6)
-
-    table('readRefusals', 'The refusals of read out and judge: every spare bit is looked at, the blocks\' old bytes are not.', 'readRefusal judgeRefusal')
-
-    def of_read(s, x, *lengths):
-        refused(call('judgeRefusal', s, x), refusal(s, page=x))
-        for k in lengths:
-            refused(call('readRefusal', s, x, k), refusal(s, page=x, blocks=k))
-    for s in bad_sheets:
-        of_read(s, [0xFF], 0)
-    for x in ([], page[:3], page, page + [0], [0, 0x80, 0, 0], [0, 0, 0, 0x80], [0xFF] * 4, [0xFF, 0x7F, 0xFF, 0x7F], [0xFF] * 3):
-        of_read(A, x, 2, 3, 4)
-    of_read(DEEP, [0] * 9 + [0x80], data_bytes(DEEP))
-    of_read(DEEP, [0] * 9 + [0x40], data_bytes(DEEP))
-    for s, k in [((8, 2, 1, 1, 2, 0, 0), 63), ((8, 2, 1, 1, 2, 0, 0), 64), ((12, 2, 1, 1, 2, 0, 0), 1023), ((12, 2, 1, 1, 2, 0, 0), 1024)]:
-        for last in (0x7F, 0x80):
-            x = [0] * (k - 1) + [last]
-            refused('judgeRefusal %s (replicate %d 0x00 ++ 0x%02X ∷ [])' % (named(s), k - 1, last), refusal(s, page=x))
-
-    table('wordRefusals', 'The refusals of the calls on one word: page, spare bits, index, and the result\'s exact length.', 'wordRefusal')
-    stray = [0xC2, 0x01, 0x13, 0x80]
-
-    def of_word(s, x, index, add):
-        v, t = s[2], s[3:]
-        known = refusal(s) == 0
-        back = v - index if known and index < v else 0
-        for name, part, exact in [('remainderRefusal', 'sub_word', 96), ('shortRefusal', 'nested_word', 96), ('nestedRefusal', 'nested_word', 2),
-                                  ('syndromesRefusal 1', 'sub_word', 2 * t[0]), ('syndromesRefusal 2', 'sub_word', 4 * t[0]),
-                                  ('nestedSyndromesRefusal 1', 'nested_word', 2 * t[back]), ('nestedSyndromesRefusal 2', 'nested_word', 4 * t[back])]:
-            k = max(exact + add, 0)
-            refused(call(name, s, x, index, k), refusal(s, page=x, room=(k, lambda: exact), **{part: index}))
-    for s in bad_sheets:
-        of_word(s, stray, 9, 1)
-    for x, index, add in [(page, 0, 0), (page, 0, -1), (page, 0, 1), (page, 1, 0), (page, 1, 1), (page, 2, 0), (page, 2, -1), (page[:3], 2, -1),
-                          (page + [0], 9, 1), (stray, 0, 0), (stray, 2, -1), (stray[:3], 0, 0)]:
-        of_word(A, x, index, add)
-    for index, add in [(0, 0), (1, 0), (1, 1), (2, 0), (3, 0), (2, -1)]:
-        of_word(B, [0x26, 0x00, 0x35, 0x00, 0x13, 0x00], index, add)
-    for k in (4, 6, 8, 12):
-        refused(call('nestedSyndromesRefusal 1', B, [0] * 6, 0, k), refusal(B, page=[0] * 6, nested_word=0, room=(k, lambda: 6)))
-        refused(call('nestedSyndromesRefusal 2', B, [0] * 6, 1, k), refusal(B, page=[0] * 6, nested_word=1, room=(k, lambda: 8)))
-
-    table('refusedCalls', 'Refused calls: the number, and the lent buffer as it was.', 'readAnswer readLeaves judgeAnswer wordRefusal writeRefusal pow')
-    keep = [0xA1, 0xB2, 0xC3, 0xD4]
-    for s, width, blocks in [(bad_sheets[0], 8, a), (bad_sheets[3], 0, a), (A, 65, a), (A, 8, a + [0]), (A, 8, [0xFF] * 3)]:
-        answered(call('written', s, width, blocks, keep), write(s, width, blocks, keep))
-    answered(call('written', A, 8, a, keep[:3]), write(A, 8, a, keep[:3]))
-    for s, x, old in [(bad_sheets[1], page, keep), (A, page, keep), (A, page[:3], keep[:3]), (A, stray, keep[:3]), (A, [0xFF] * 4, keep)]:
-        answered(call('readOut', s, x, old), read_out(s, x, old))
-        row_of_judge(s, x)
-    for name, part, index, k in [('remainderMade', 'sub_word', 2, 96), ('remainderMade', 'sub_word', 1, 95), ('shortMade', 'nested_word', 1, 96), ('shortMade', 'nested_word', 0, 97),
-                                 ('nestedMade', 'nested_word', 1, 2), ('nestedMade', 'nested_word', 0, 3), ('syndromesMade', 'sub_word', 2, 2),
-                                 ('syndromesMade', 'sub_word', 0, 4), ('syndromesMadeC', 'sub_word', 0, 2), ('nestedSyndromesMade', 'nested_word', 0, 8),
-                                 ('nestedSyndromesMadeC', 'nested_word', 0, 4), ('nestedSyndromesMadeC', 'nested_word', 1, 8)]:
-        answered(call(name, A, page, index, [0xAA] * k), [refusal(A, page=page, room=(k, lambda: None), **{part: index})] + [0xAA] * k)
-
-
-def shown(step):
-    """A number, then level, count and the twelve words."""
-    code, (level, count, rest) = step
-    return [code, level, count] + [rest >> 64 * k & U64 for k in range(12)]
-
-
-def pairs(us):
-    return ' ∷ '.join(['(%d, 0x%X)' % u for u in us] + ['[]'])
-
-
-def registers():
-    table('openings', 'Opening a register: the number, then level, count and words.', 'opened')
-    for s in [A, B, DEEP, SMALL, (6, 2, 1, 1, 2, 0, 0), (4, 2, 0, 1, 2, 0, 0), (4, 2, 1, 2, 2, 0, 0), (4, 6, 1, 1, 2, 0, 0)]:
-        for level in range(5):
-            numbers('handed (opened %s %d)' % (named(s), level), shown(opened(s, level)))
-
-    table('feedings', 'Feedings after an opening: what is left is the remainder of the polynomial formed so far.', 'opened feeding pow')
-    for s, level, cut in [(A, 0, [15]), (A, 1, [15]), (A, 1, [8, 7]), (A, 1, [1] * 9), (B, 2, [7, 1, 7]), (B, 0, [5, 5, 5]), (ALIKE, 1, [14, 1]), (DEEP, 3, [3, 4, 8]),
-                          (SMALL, 0, [15]), (TIGHT, 1, [11, 4]), (TIGHT, 0, [4, 11]), (A, 1, [8, 8]), (A, 0, [15, 1]), (B, 1, [16]), (B, 1, [64])]:
-        us, step, formed = [], opened(s, level), []
-        for width in cut:
-            u = below(2 ** width)
-            us.append((width, u))
-            step = fed(s, width, step[1], u)
-            if step[0] == 0:
-                formed = bits(u, width) + formed
-        # what the single steps gave is what dividing the whole at once gives
-        assert step[1] == (level, len(formed), number(divided(formed, gen(s, level))[1]))
-        numbers('handed (feeding %s (opened %s %d) (%s))' % (named(s), named(s), level, pairs(us)), shown(step))
-
-    table('feedRefusals', 'A feeding of any register: refused, it comes back as it was.', 'opened feeding fed pow')
-
-    def feed(s, width, register, u):
-        numbers('handed (fed %s %d (register %d %d 0x%X) 0x%X)' % (named(s), width, *register, u), shown(fed(s, width, register, u)))
-    for s in [(7, 2, 1, 1, 2, 0, 0), (4, 1, 1, 1, 2, 0, 0), (4, 2, 1, 3, 2, 0, 0), (4, 7, 1, 1, 2, 0, 0)]:
-        feed(s, 0, (9, 99, U64), 1)
-    for width, register, u in [
-            (0, (0, 0, 0), 0), (65, (0, 0, 0), 0), (64, (0, 0, 0), 0), (16, (0, 0, 0), 0), (15, (0, 0, 0), 0x7FFF), (15, (0, 0, 0), 0x8000),
-            (0, (2, 16, 0x10), 1), (65, (2, 16, 0x10), U64), (3, (2, 16, 0x10), 8), (3, (2, 16, 0x10), 7), (3, (2, 12, 0x10), 7), (3, (1, 12, 0xFF), 7),
-            (3, (1, 12, 0x100), 7), (3, (1, 13, 0xFF), 7), (3, (0, 12, 0xF), 7), (3, (0, 12, 0x10), 7), (1, (0, 14, 0), 1), (1, (0, 15, 0), 1), (1, (0, 15, 0), 2),
-            (4, (0, 0, 9), 5), (8, (1, 0, 0xAB), 0xCD), (1, (1, 7, 0x80), 0), (1, (1, 7, 0x80), 1), (15, (1, 0, 0xFF), 0x7FFF), (15, (0, 0, 0xF), 0x1234),
-            (1, (2, 0, 0), 0), (1, (U32, 0, 0), 0), (1, (0, U64, 0), 0), (64, (1, U64, 0), 0), (64, (0, U64, U64), U64), (1, (0, 0, U64), 0)]:
-        feed(A, width, register, u)
-    feed(B, 5, (2, 4, 0x3FF), 0x1F)
-    feed(B, 5, (2, 4, 0x400), 0x1F)
-    feed(B, 5, (3, 4, 0), 0)
-    feed(SMALL, 1, (2, 14, 0x3FFF), 1)
-    feed(SMALL, 1, (2, 14, 0x4000), 1)
-    # full at n = 255 and at n = 4095
-    for s, k in [((8, 2, 1, 1, 2, 0, 0), 255), ((12, 2, 1, 1, 2, 0, 0), 4095)]:
-        feed(s, 64, (0, k - 63, 0), 0)
-        feed(s, 64, (0, k - 64, 0), 0)
-    # opened with sheet B and fed with another
-    for s in [A, ALIKE, DEEP]:
-        step = fed(B, 7, opened(B, 1)[1], 0x55)
-        numbers('handed (fed %s 8 (feeding B (opened B 1) ((7, 0x55) ∷ []) .register) 0x99)' % named(s), shown(fed(s, 8, step[1], 0x99)))
-    step = fed(B, 7, opened(B, 2)[1], 0x55)
-    numbers('handed (fed A 8 (feeding B (opened B 2) ((7, 0x55) ∷ []) .register) 0x99)', shown(fed(A, 8, step[1], 0x99)))
-    # a bit in a high word
-    code = refusal(A, width=1, fed=1, register=(1, 0, 1 << 64 * 11))
-    numbers('handed (fed A 1 (record { level = 1; count = 0; remainder = replicate 11 0 ++ 1 ∷ [] }) 1)', [code, 1, 0] + [0] * 11 + [1])
 
 
 def huge_numbers():
     """Numbers that would not end if a range, a power or a list were made of them."""
-    page, a = [0xC2, 0x01, 0x13, 0x00], [0x01, 0x01, 0x00]
-    sheets = [(255, 2, 1, 1, 2, 0, 0), (U32, 2, 1, 1, 2, 0, 0), (4, U32, 1, 1, 2, 0, 0), (4, 2, U32, 1, 2, 0, 0), (4, U32, U32, 1, 2, 0, 0),
-              (4, 2, 1, U32, 2, 0, 0), (4, 2, 1, 1, U32, 0, 0), (4, 2, 1, 1, 2, U32, 0), (4, 2, 1, 1, 2, 0, U32), (4, 4, 3, 1, 2, 2, U32),
-              (U32,) * 7, (12, 8, 3, 1, 2, 3, U32)]
-    table('hugeSheets', 'Sheets with huge numbers, in every call.', 'tested judgeAnswer readAnswer readLeaves writeRefusal wordRefusal opened fed')
-    for s in sheets:
-        numbers(call('tests', s), [refusal(s)])
-        answered(call('written', s, U32, a, page), write(s, U32, a, page))
-        answered(call('readOut', s, page, a), read_out(s, page, a))
-        row_of_judge(s, page)
-        for name in ('remainderMade', 'shortMade', 'nestedMade', 'syndromesMade', 'nestedSyndromesMade', 'syndromesMadeC', 'nestedSyndromesMadeC'):
-            answered(call(name, s, page, U64, a), [refusal(s)] + a)
-        numbers('handed (opened %s %d)' % (named(s), U32), shown(opened(s, U32)))
-        numbers('handed (fed %s %d (register %d %d 0x%X) 0x%X)' % (named(s), U32, U32, U64, U64, U64), shown(fed(s, U32, (U32, U64, U64), U64)))
-    table('hugeNumbers', 'Huge numbers beside an accepted sheet.', 'judgeAnswer readAnswer readLeaves writeRefusal wordRefusal opened fed pow')
-    for width in (66, U32):
-        answered(call('written', A, width, a, page), write(A, width, a, page))
-    refused(call('writeRefusal', A, 8, a, U64), refusal(A, width=8, blocks=a, page=U64))
-    refused(call('readRefusal', A, page, U64), refusal(A, page=page, blocks=U64))
-    for name, part in [('remainderRefusal', 'sub_word'), ('shortRefusal', 'nested_word'), ('nestedRefusal', 'nested_word'), ('syndromesRefusal 1', 'sub_word'), ('syndromesRefusal 2', 'sub_word'),
-                       ('nestedSyndromesRefusal 1', 'nested_word'), ('nestedSyndromesRefusal 2', 'nested_word')]:
-        for index in (U64, 0):
-            refused(call(name, A, page, index, U64), refusal(A, page=page, room=(U64, lambda: 0), **{part: index}))
-    for name, part in [('remainderMade', 'sub_word'), ('shortMade', 'nested_word'), ('nestedMade', 'nested_word'), ('syndromesMade', 'sub_word'), ('nestedSyndromesMade', 'nested_word'),
-                       ('syndromesMadeC', 'sub_word'), ('nestedSyndromesMadeC', 'nested_word')]:
-        answered(call(name, A, page, U64, a), [refusal(A, page=page, **{part: U64})] + a)
-    numbers('handed (opened A %d)' % U32, shown(opened(A, U32)))
-    for width, register, u in [(U32, (0, 0, 0), 0), (U32, (U32, U64, U64), U64), (64, (0, 0, 0), U64), (1, (0, U64, 0), 0), (8, (U32, 0, 0), 0)]:
-        numbers('handed (fed A %d (register %d %d 0x%X) 0x%X)' % (width, *register, u), shown(fed(A, width, register, u)))
+    table('hugeNumbers', 'Huge numbers: sheets; a register, its width and what is fed; an index.', 'sheetRefusal feedRefusal wordRefusal')
+    sheets = [(U32, 2, 1, 1, 2, 0, 0), (4, U32, 1, 1, 2, 0, 0), (4, 2, U32, 1, 2, 0, 0), (4, 2, 1, 1, U32, 0, 0), (4, 2, 1, 1, 2, 0, U32), (12, 8, 3, 1, 2, 3, U32)]
+    numbers('map sheetRefusal %s' % as_list(map(named, sheets)), [refusal(s) for s in sheets])
+    steps = [(U32, U32, U64, U64), (64, 0, U64, U64), (1, U32, 0, 1)]
+    numbers(as_list('feedRefusal A %d (record { level = %d; count = %d; remainder = replicate 12 0 }) %d' % step for step in steps)[1:-1],
+            [refusal(A, width=width, fed=u, register=(level, count, 0)) for width, level, count, u in steps])
+    page = [0xC2, 0x01, 0x13, 0x00]
+    alone('%s %d 0' % (call('remainderRefusal', A, page), U64), refusal(A, page=page, sub_word=U64, room=(0, lambda: 96)))
 
 
-def large_field():
-    table('largeField', 'q = 8 with m = 8 and v = 3: layout, a generator, a remainder, a nested word of 255 places turned by up to 14.',
-          'blockBits blockOffset range generators wordRefusal remainderBytes nestedWordBytes pow xor rem')
-    s = LARGE
-    numbers(call('blockBits', s), block_bits(s))
-    numbers('map (blockOffset %s) (range 0 8)' % named(s), [sum(block_bytes(s)[:i]) for i in range(8)])
-    numbers('getD (generators %s) 3 []' % named(s), [number(gen(s, 3))] + [0] * 12)
-    x = some_page(s)
-    answered(call('nestedMade', s, x, 2, [0xFF] * 32), [0] + nested_bytes(s, x, 2))
-    answered(call('remainderMade', s, x, 7, [0xAA] * 96), [0] + remainder_bytes(s, x, 7))
-
-
-HEAD = '''-- Cases of our own at q = 4: each row has what a definition gives and what an independent program says.
--- Written by tools/cases.py, which works every number out by other means; see there.
+HEAD = '''-- Cases of our own, of definitions that no compiled call gives back: each row has what a definition gives and what an independent program says.
+-- Written by tools/cases.py, which works every number out by other means; see there. The calls' own cases are run: tools/trial.py.
 use mathlib.Core.Path.{_≡_, refl}
-use mathlib.Core.List.{List, [], _∷_, _++_, map}
-use lib.ListN.{length, getD, replicate}
-use Rattle.polynomial.specs.Division.{rem}
+use mathlib.Core.List.{List, [], _∷_, map}
+use Prim.Native.Nat.{_*_}
+use lib.ListN.{drop, replicate}
+use Rattle.polynomial.specs.Bits.{coefficient}
+use Rattle.polynomial.specs.Sums.{add}
 use Rattle.polynomial.specs.Xor.{xor}
+use Rattle.field.specs.Elements.{power, sumBelow}
 use Rattle.field.specs.Field.{pow}
-use Rattle.code.specs.Lists.{range}
-use Rattle.code.specs.Parameters.{sheetRefusal, tested}
-use Rattle.code.specs.Code.{degree, distance, combine, N, newton}
-use Rattle.code.specs.Layout.{dataBytes, blockBits, blockSizes, blockOffset, wordsOf, pageOf, coefficientOf, blockBit, differences}
-use Rattle.code.specs.Refusals.{writeRefusal, readRefusal, judgeRefusal, wordRefusal, remainderRefusal, shortRefusal, nestedRefusal, syndromesRefusal, nestedSyndromesRefusal}
-use Rattle.code.specs.Calls.{judgeAnswer, readAnswer, readLeaves, remainderBytes, shortBytes, nestedWordBytes, syndromeList, nestedSyndromeList, asBytes, opened, fed, generators, nesting}
+use Rattle.code.specs.Lists.{range, sum}
+use Rattle.code.specs.Parameters.{sheetRefusal}
+use Rattle.code.specs.Code.{carried, combine, distance, divisor, N, newton}
+use Rattle.code.specs.Layout.{blockOffset, wordsOf, coefficientOf, blockBit, differences}
+use Rattle.code.specs.Refusals.{feedRefusal, wordRefusal, remainderRefusal}
+use Rattle.code.specs.Calls.{asBytes, empty, fed}
+use Rattle.code.specs.Registers.{cut, feedings}
 use Rattle.code.specs.Writer.{writer}
-use Rattle.cases.specs.Sheets.{Row, sheet, A, B, layoutOf, tests, nests, written, readOut, judged, remainderMade, shortMade, nestedMade, syndromesMade, nestedSyndromesMade, syndromesMadeC, nestedSyndromesMadeC, register, handed, feeding}
+use Rattle.cases.specs.Sheets.{Row, sheet, A, B, held}
 '''
 
 
@@ -925,9 +708,18 @@ def printed():
     return '\n'.join(out)
 
 
-if __name__ == '__main__':
+def main(words):
     self_test()
-    for part in (tested_sheets, layouts, rows_of_generators, write_cases, read_cases, word_cases, page_differences, nesting_cases,
-                 writer_cases, refusals, registers, huge_numbers, large_field):
+    for part in (layouts, equal_form, divisors, page_differences, parts, field_sums, bytes_for_c, writings, huge_numbers):
         part()
+    if words == ['--check']:
+        if (Path(__file__).resolve().parent.parent / OWN).read_text(encoding='utf-8') != printed():
+            print(OWN, file=sys.stderr)
+            return 1
+        return 0
     print(printed(), end='')
+    return 0
+
+
+if __name__ == '__main__':
+    sys.exit(main(sys.argv[1:]))

@@ -13,19 +13,24 @@ from functools import lru_cache
 from pathlib import Path
 
 import cases
-from cases import FIELD, below, nesting, number, refusal, some_bytes, strength
+from cases import A, ALIKE, B, DEEP, EIGHT, FIELD, LARGE, SMALL, TIGHT, WIDE, below, nesting, number, refusal, some_bytes, strength
 
 TEST, NESTING, GENERATORS, ELEMENTS, OPEN, FEED, REMAINDER, SHORT, NESTED, SYNDROMES, NESTED_SYNDROMES, JUDGE, READ_OUT, WRITE = range(14)
 WIDTHS = (1, 7, 8, 63, 64)
 
-A = (4, 2, 1, 1, 2, 0, 0)
-B = (4, 3, 2, 1, 2, 3, 0)
 BYTE = (8, 4, 2, 3, 5, 9, 0)
 FULL = (8, 5, 3, 2, 4, 6, 7)
-LARGE = (12, 8, 3, 28, 32, 39, 58)
-SHEETS = (A, B, BYTE, FULL, LARGE)
+SHEETS = (A, B, ALIKE, WIDE, DEEP, TIGHT, SMALL, BYTE, FULL, EIGHT, LARGE)
 REFUSED = ((5, 2, 1, 1, 2, 0, 0), (0, 0, 0, 0, 0, 0, 0), (4, 2, 0, 1, 2, 0, 0), (8, 9, 1, 1, 2, 0, 0), (12, 3, 3, 1, 2, 3, 4),
-           (4, 2, 1, 2, 2, 0, 0), (4, 2, 1, 0, 2, 0, 0), (12, 8, 3, 28, 32, 39, 65), (4, 2, 1, 1, 2, 1, 0), (4, 6, 1, 1, 2, 0, 0))
+           (4, 2, 1, 2, 2, 0, 0), (4, 2, 1, 0, 2, 0, 0), (12, 8, 3, 28, 32, 39, 65), (4, 2, 1, 1, 2, 1, 0), (4, 6, 1, 1, 2, 0, 0),
+           (255, 2, 1, 1, 2, 0, 0), (4, 255, 1, 1, 2, 0, 0), (4, 2, 255, 1, 2, 0, 0), (4, 2, 1, 1, 255, 0, 0), (4, 4, 3, 1, 2, 2, 255), (255,) * 7)
+# The edges of the rules on a sheet: field, shape, strengths, clashes.
+EDGES = ((3, 9, 4, 0, 0, 0, 1), (16, 2, 1, 1, 2, 0, 0), (4, 1, 1, 1, 2, 0, 0), (4, 2, 2, 1, 2, 2, 0), (4, 3, 3, 1, 2, 2, 2), (4, 5, 4, 1, 2, 2, 2),
+         (4, 9, 1, 1, 2, 0, 0), (4, 8, 1, 1, 2, 0, 0), (4, 0, 0, 9, 9, 9, 9), (8, 8, 1, 1, 2, 0, 0), (4, 2, 1, 0, 1, 0, 0), (4, 2, 1, 1, 1, 0, 0),
+         (4, 2, 1, 2, 1, 0, 0), (4, 2, 1, 1, 2, 2, 0), (4, 2, 1, 1, 2, 0, 1), (4, 3, 2, 1, 2, 1, 0), (4, 3, 2, 1, 2, 2, 2), (4, 3, 2, 1, 2, 0, 0),
+         (4, 4, 3, 1, 2, 3, 2), (4, 4, 3, 1, 2, 2, 3), (4, 4, 3, 1, 1, 2, 2), (4, 2, 1, 6, 7, 0, 0), (4, 2, 1, 7, 8, 0, 0), (4, 3, 2, 6, 7, 8, 0),
+         (4, 4, 2, 1, 2, 3, 0), (4, 4, 1, 1, 2, 0, 0), (8, 2, 1, 1, 64, 0, 0), (8, 2, 1, 1, 65, 0, 0), (8, 4, 3, 1, 2, 3, 43), (8, 4, 3, 1, 2, 3, 42),
+         (12, 8, 3, 61, 62, 63, 64), (12, 8, 3, 61, 62, 63, 65), (12, 8, 3, 61, 61, 63, 64), (12, 8, 3, 0, 62, 63, 64))
 
 
 # ---- the field by shifts, generators by their roots
@@ -50,12 +55,21 @@ def power(q, a, k):
 
 
 @lru_cache(None)
+def alphas(q):
+    """alpha^0 to alpha^(n - 1)."""
+    out = [1]
+    for _ in range(2 ** q - 2):
+        out.append(product(q, out[-1], 2))
+    return out
+
+
+@lru_cache(None)
 def generator(q, t):
     n = 2 ** q - 1
     roots = {j * 2 ** k % n for j in range(1, 2 * t + 1) for k in range(q)}
     out = [1]
     for s in sorted(roots):
-        root = power(q, 2, s)
+        root = alphas(q)[s]
         out = [(out[k - 1] if k else 0) ^ (product(q, root, out[k]) if k < len(out) else 0) for k in range(len(out) + 1)]
     assert set(out) <= {0, 1}
     return out
@@ -128,11 +142,19 @@ def words(xs):
 
 
 def tests():
-    for s in SHEETS + REFUSED:
+    def test(s):
         code = refusal(s)
         record(TEST, s, le(code, 1) + (words(s) if code == 0 else b''))
+        return code
+
+    for s in SHEETS + REFUSED + EDGES:
+        code = test(s)
         rows = [number(cases.gen(s, a)) if code == 0 and a <= s[2] else 0 for a in range(4)]
         record(GENERATORS, s, le(code, 1) + b''.join(le(g, 104) for g in rows))
+    every = cases.every()
+    assert len(every) == 104
+    for s in every + [(4, m, 1, t0, t1, 0, 0) for m in (2, 3, 4, 6) for t0 in range(9) for t1 in range(9)]:
+        test(s)
 
 
 def nestings():
@@ -187,6 +209,22 @@ def registers():
     for s in REFUSED:
         feed(s, 0, (255, 2 ** 64 - 1, 2 ** 768 - 1), 1)
         feed(s, 1, (0, 0, 0), 1)
+    # registers made up by hand: several conditions at once, and each edge of a count and of a remainder
+    for width, register, u in ((0, (2, 16, 0x10), 1), (65, (2, 16, 0x10), 2 ** 64 - 1), (3, (2, 16, 0x10), 8), (3, (2, 16, 0x10), 7), (3, (2, 12, 0x10), 7),
+                               (3, (1, 12, 0xFF), 7), (3, (1, 12, 0x100), 7), (3, (1, 13, 0xFF), 7), (3, (0, 12, 0xF), 7), (3, (0, 12, 0x10), 7), (1, (0, 15, 0), 2),
+                               (4, (0, 0, 9), 5), (8, (1, 0, 0xAB), 0xCD), (1, (1, 7, 0x80), 0), (1, (1, 7, 0x80), 1), (15, (1, 0, 0xFF), 0x7FFF), (16, (0, 0, 0), 0),
+                               (15, (0, 0, 0xF), 0x1234), (15, (0, 0, 0), 0x8000), (1, (0, 0, 2 ** 64 - 1), 0), (1, (1, 0, 2 ** 704), 1), (64, (1, 2 ** 64 - 1, 0), 0)):
+        feed(A, width, register, u)
+    for width, register, u in ((5, (2, 4, 0x3FF), 0x1F), (5, (2, 4, 0x400), 0x1F), (5, (3, 4, 0), 0)):
+        feed(B, width, register, u)
+    for s in ((8, 2, 1, 1, 2, 0, 0), (12, 2, 1, 1, 2, 0, 0)):
+        for count in (2 ** s[0] - 64, 2 ** s[0] - 65):
+            feed(s, 64, (0, count, 0), 0)
+    # opened with sheet B and fed with another
+    for level in (1, 2):
+        register = feed(B, 7, (level, 0, 0), 0x55)
+        for s in (A, ALIKE, DEEP, EIGHT):
+            feed(s, 8, register, 0x99)
 
 
 def one_word():
@@ -203,7 +241,7 @@ def one_word():
             record(call, s, le(code, 1) + b''.join(le(x, unit) for x in out), i=i, page=page, size=size)
 
     for s in SHEETS:
-        size = cases.word_bytes(s)
+        size, small = cases.word_bytes(s), s[0] < 12
         page = some_bytes(s[1] * size)
         for i in range(s[1]):
             page[(i + 1) * size - 1] &= 127
@@ -211,13 +249,21 @@ def one_word():
             each(s, page, i, 0)
         each(s, page, 0, 1)
         each(s, page, 0, -1)
+        each(s, page, 255, 1)
         each(s, page[:-1], 0, 0)
         each(s, page + [0], 255, 1)
-        for i in range(s[1]):
+        for i in range(s[1]) if small else (0, s[1] - 1):
             spoiled = list(page)
             spoiled[(i + 1) * size - 1] |= 128
             each(s, spoiled, 0, 0)
         each(s, [0] * (s[1] * size), 0, 0)
+        if small:
+            each(s, page, s[2] - 1, 1)
+            each(s, page[:-1], 255, -1)
+            each(s, spoiled, 255, -1)
+            top = cases.page_of_words(s, [[0] * (cases.length(s) - 1) + [1]] * s[1])
+            for l in range(s[2]):
+                each(s, top, l, 0)
     for s in REFUSED:
         each(s, [255], 255, 5)
 
@@ -268,6 +314,21 @@ def pages():
     for s in SHEETS[:-1]:
         ones = cases.all_ones(s)
         write(s, 63, ones, cases.page_of_blocks(s, ones), cases.page_bytes(s))
+    # a single bit in each block; each unused bit; every pair of a wrong length and a stray bit
+    for s in (A, B, WIDE, DEEP, TIGHT, SMALL):
+        size, room = cases.data_bytes(s), cases.page_bytes(s)
+        ends = [sum(cases.block_bytes(s)[:i + 1]) for i in range(s[1])]
+        for i, (b, end) in enumerate(zip(cases.block_bits(s), ends)):
+            blocks = cases.one_bit(s, i, 0 if i >= s[2] else b - 1)
+            write(s, WIDTHS[i % 5], blocks, cases.page_of_blocks(s, blocks), room)
+            for k in range(b % 8 or 8, 8):
+                write(s, 8, [0] * (end - 1) + [1 << k] + [0] * (size - end), [], room)
+        for k in (size - 1, size, size + 1):
+            for to in (room - 1, room, room + 1):
+                write(s, 8, [255] * k, [], to)
+    # the all-ones word is a multiple of every g here; g_0 alone in sub-word 0
+    for s, page in ((B, [0xFF, 0x7F] * 3), (ALIKE, [0xFF, 0x7F, 0x00, 0x00]), (B, [0x13] + [0] * 5)):
+        each(s, page, cases.data_bytes(s))
     for s in REFUSED:
         write(s, 0, [255], [], 5)
         each(s, [255], 5)

@@ -20,7 +20,7 @@ use Rattle.code.specs.Calls.{judgeAnswer}
 use Rattle.cases.specs.Sheets.{sheet, A, B}
 
 -- ---- accepted sheets
--- document 01's sheet A
+-- the requirement's sheet A
 pub accepted-A : Accepted A
 unfolding sheetRefusal
 accepted-A = refl

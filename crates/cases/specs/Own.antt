@@ -1,1473 +1,199 @@
--- Cases of our own at q = 4: each row has what a definition gives and what an independent program says.
--- Written by tools/cases.py, which works every number out by other means; see there.
+-- Cases of our own, of definitions that no compiled call gives back: each row has what a definition gives and what an independent program says.
+-- Written by tools/cases.py, which works every number out by other means; see there. The calls' own cases are run: tools/trial.py.
 use mathlib.Core.Path.{_≡_, refl}
-use mathlib.Core.List.{List, [], _∷_, _++_, map}
-use lib.ListN.{length, getD, replicate}
-use Rattle.polynomial.specs.Division.{rem}
+use mathlib.Core.List.{List, [], _∷_, map}
+use Prim.Native.Nat.{_*_}
+use lib.ListN.{drop, replicate}
+use Rattle.polynomial.specs.Bits.{coefficient}
+use Rattle.polynomial.specs.Sums.{add}
 use Rattle.polynomial.specs.Xor.{xor}
+use Rattle.field.specs.Elements.{power, sumBelow}
 use Rattle.field.specs.Field.{pow}
-use Rattle.code.specs.Lists.{range}
-use Rattle.code.specs.Parameters.{sheetRefusal, tested}
-use Rattle.code.specs.Code.{degree, distance, combine, N, newton}
-use Rattle.code.specs.Layout.{dataBytes, blockBits, blockSizes, blockOffset, wordsOf, pageOf, coefficientOf, blockBit, differences}
-use Rattle.code.specs.Refusals.{writeRefusal, readRefusal, judgeRefusal, wordRefusal, remainderRefusal, shortRefusal, nestedRefusal, syndromesRefusal, nestedSyndromesRefusal}
-use Rattle.code.specs.Calls.{judgeAnswer, readAnswer, readLeaves, remainderBytes, shortBytes, nestedWordBytes, syndromeList, nestedSyndromeList, asBytes, opened, fed, generators, nesting}
+use Rattle.code.specs.Lists.{range, sum}
+use Rattle.code.specs.Parameters.{sheetRefusal}
+use Rattle.code.specs.Code.{carried, combine, distance, divisor, N, newton}
+use Rattle.code.specs.Layout.{blockOffset, wordsOf, coefficientOf, blockBit, differences}
+use Rattle.code.specs.Refusals.{feedRefusal, wordRefusal, remainderRefusal}
+use Rattle.code.specs.Calls.{asBytes, empty, fed}
+use Rattle.code.specs.Registers.{cut, feedings}
 use Rattle.code.specs.Writer.{writer}
-use Rattle.cases.specs.Sheets.{Row, sheet, A, B, layoutOf, tests, nests, written, readOut, judged, remainderMade, shortMade, nestedMade, syndromesMade, nestedSyndromesMade, syndromesMadeC, nestedSyndromesMadeC, register, handed, feeding}
+use Rattle.cases.specs.Sheets.{Row, sheet, A, B, held}
 
--- Testing a sheet: its number, then its seven numbers if it is accepted.
-pub sheets : List Row
-sheets =
-    (tests A, 0 ∷ 4 ∷ 2 ∷ 1 ∷ 1 ∷ 2 ∷ 0 ∷ 0 ∷ [])
-    ∷ (tests B, 0 ∷ 4 ∷ 3 ∷ 2 ∷ 1 ∷ 2 ∷ 3 ∷ 0 ∷ [])
-    ∷ (tests (sheet 4 5 2 1 2 2 0), 0 ∷ 4 ∷ 5 ∷ 2 ∷ 1 ∷ 2 ∷ 2 ∷ 0 ∷ [])
-    ∷ (tests (sheet 4 5 3 1 2 2 2), 0 ∷ 4 ∷ 5 ∷ 3 ∷ 1 ∷ 2 ∷ 2 ∷ 2 ∷ [])
-    ∷ (tests (sheet 5 2 1 1 2 0 0), 1 ∷ [])
-    ∷ (tests (sheet 0 0 0 0 0 0 0), 1 ∷ [])
-    ∷ (tests (sheet 3 9 4 0 0 0 1), 1 ∷ [])
-    ∷ (tests (sheet 16 2 1 1 2 0 0), 1 ∷ [])
-    ∷ (tests (sheet 4 2 0 1 2 0 0), 2 ∷ [])
-    ∷ (tests (sheet 4 1 1 1 2 0 0), 2 ∷ [])
-    ∷ (tests (sheet 4 2 2 1 2 2 0), 2 ∷ [])
-    ∷ (tests (sheet 4 3 3 1 2 2 2), 2 ∷ [])
-    ∷ (tests (sheet 4 5 4 1 2 2 2), 2 ∷ [])
-    ∷ (tests (sheet 4 9 1 1 2 0 0), 2 ∷ [])
-    ∷ (tests (sheet 4 8 1 1 2 0 0), 4 ∷ [])
-    ∷ (tests (sheet 4 6 1 1 2 0 0), 4 ∷ [])
-    ∷ (tests (sheet 4 0 0 9 9 9 9), 2 ∷ [])
-    ∷ (tests (sheet 8 8 1 1 2 0 0), 0 ∷ 8 ∷ 8 ∷ 1 ∷ 1 ∷ 2 ∷ 0 ∷ 0 ∷ [])
-    ∷ (tests (sheet 8 9 1 1 2 0 0), 2 ∷ [])
-    ∷ (tests (sheet 4 2 1 0 1 0 0), 3 ∷ [])
-    ∷ (tests (sheet 4 2 1 1 1 0 0), 3 ∷ [])
-    ∷ (tests (sheet 4 2 1 2 1 0 0), 3 ∷ [])
-    ∷ (tests (sheet 4 2 1 1 2 2 0), 3 ∷ [])
-    ∷ (tests (sheet 4 2 1 1 2 0 1), 3 ∷ [])
-    ∷ (tests (sheet 4 3 2 1 2 1 0), 3 ∷ [])
-    ∷ (tests (sheet 4 3 2 1 2 2 2), 3 ∷ [])
-    ∷ (tests (sheet 4 3 2 1 2 0 0), 3 ∷ [])
-    ∷ (tests (sheet 4 4 3 1 2 3 2), 3 ∷ [])
-    ∷ (tests (sheet 4 4 3 1 2 2 3), 4 ∷ [])
-    ∷ (tests (sheet 4 4 3 1 1 2 2), 3 ∷ [])
-    ∷ (tests (sheet 4 2 1 6 7 0 0), 0 ∷ 4 ∷ 2 ∷ 1 ∷ 6 ∷ 7 ∷ 0 ∷ 0 ∷ [])
-    ∷ (tests (sheet 4 2 1 7 8 0 0), 3 ∷ [])
-    ∷ (tests (sheet 4 2 1 1 8 0 0), 3 ∷ [])
-    ∷ (tests (sheet 4 3 2 6 7 8 0), 3 ∷ [])
-    ∷ (tests (sheet 4 4 1 1 3 0 0), 4 ∷ [])
-    ∷ (tests (sheet 4 4 1 1 2 0 0), 0 ∷ 4 ∷ 4 ∷ 1 ∷ 1 ∷ 2 ∷ 0 ∷ 0 ∷ [])
-    ∷ (tests (sheet 4 4 3 1 3 3 7), 4 ∷ [])
-    ∷ (tests (sheet 8 2 1 1 64 0 0), 0 ∷ 8 ∷ 2 ∷ 1 ∷ 1 ∷ 64 ∷ 0 ∷ 0 ∷ [])
-    ∷ (tests (sheet 8 2 1 1 65 0 0), 3 ∷ [])
-    ∷ (tests (sheet 8 4 3 1 2 3 43), 4 ∷ [])
-    ∷ (tests (sheet 8 4 3 1 2 3 42), 0 ∷ 8 ∷ 4 ∷ 3 ∷ 1 ∷ 2 ∷ 3 ∷ 42 ∷ [])
-    ∷ (tests (sheet 12 8 3 28 32 39 58), 0 ∷ 12 ∷ 8 ∷ 3 ∷ 28 ∷ 32 ∷ 39 ∷ 58 ∷ [])
-    ∷ (tests (sheet 12 8 3 61 62 63 64), 0 ∷ 12 ∷ 8 ∷ 3 ∷ 61 ∷ 62 ∷ 63 ∷ 64 ∷ [])
-    ∷ (tests (sheet 12 8 3 61 62 63 65), 3 ∷ [])
-    ∷ (tests (sheet 12 8 3 61 61 63 64), 3 ∷ [])
-    ∷ (tests (sheet 12 8 3 0 62 63 64), 3 ∷ [])
-    ∷ []
-
-pub sheets-hold : map (λ r. r .0) sheets ≡ map (λ r. r .1) sheets
-unfolding sheets tested
-sheets-hold = refl
-
--- Every pair of strengths up to 8 at v = 1: the refusals for t_1 from 0 to 8, row by row of t_0.
-pub strengths : List Row
-strengths =
-    (map (λ t. sheetRefusal (sheet 4 2 1 0 t 0 0)) (range 0 9), replicate 9 3)
-    ∷ (map (λ t. sheetRefusal (sheet 4 2 1 1 t 0 0)) (range 0 9), 3 ∷ 3 ∷ 0 ∷ 0 ∷ 0 ∷ 0 ∷ 0 ∷ 0 ∷ 3 ∷ [])
-    ∷ (map (λ t. sheetRefusal (sheet 4 2 1 2 t 0 0)) (range 0 9), 3 ∷ 3 ∷ 3 ∷ 0 ∷ 0 ∷ 0 ∷ 0 ∷ 0 ∷ 3 ∷ [])
-    ∷ (map (λ t. sheetRefusal (sheet 4 2 1 3 t 0 0)) (range 0 9), 3 ∷ 3 ∷ 3 ∷ 3 ∷ 0 ∷ 0 ∷ 0 ∷ 0 ∷ 3 ∷ [])
-    ∷ (map (λ t. sheetRefusal (sheet 4 2 1 4 t 0 0)) (range 0 9), 3 ∷ 3 ∷ 3 ∷ 3 ∷ 3 ∷ 0 ∷ 0 ∷ 0 ∷ 3 ∷ [])
-    ∷ (map (λ t. sheetRefusal (sheet 4 2 1 5 t 0 0)) (range 0 9), 3 ∷ 3 ∷ 3 ∷ 3 ∷ 3 ∷ 3 ∷ 0 ∷ 0 ∷ 3 ∷ [])
-    ∷ (map (λ t. sheetRefusal (sheet 4 2 1 6 t 0 0)) (range 0 9), 3 ∷ 3 ∷ 3 ∷ 3 ∷ 3 ∷ 3 ∷ 3 ∷ 0 ∷ 3 ∷ [])
-    ∷ (map (λ t. sheetRefusal (sheet 4 2 1 7 t 0 0)) (range 0 9), replicate 9 3)
-    ∷ (map (λ t. sheetRefusal (sheet 4 2 1 8 t 0 0)) (range 0 9), replicate 9 3)
-    ∷ (map (λ t. sheetRefusal (sheet 4 3 1 0 t 0 0)) (range 0 9), replicate 9 3)
-    ∷ (map (λ t. sheetRefusal (sheet 4 3 1 1 t 0 0)) (range 0 9), 3 ∷ 3 ∷ 0 ∷ 0 ∷ 0 ∷ 0 ∷ 0 ∷ 0 ∷ 3 ∷ [])
-    ∷ (map (λ t. sheetRefusal (sheet 4 3 1 2 t 0 0)) (range 0 9), 3 ∷ 3 ∷ 3 ∷ 0 ∷ 0 ∷ 0 ∷ 0 ∷ 0 ∷ 3 ∷ [])
-    ∷ (map (λ t. sheetRefusal (sheet 4 3 1 3 t 0 0)) (range 0 9), 3 ∷ 3 ∷ 3 ∷ 3 ∷ 0 ∷ 0 ∷ 0 ∷ 0 ∷ 3 ∷ [])
-    ∷ (map (λ t. sheetRefusal (sheet 4 3 1 4 t 0 0)) (range 0 9), 3 ∷ 3 ∷ 3 ∷ 3 ∷ 3 ∷ 0 ∷ 0 ∷ 0 ∷ 3 ∷ [])
-    ∷ (map (λ t. sheetRefusal (sheet 4 3 1 5 t 0 0)) (range 0 9), 3 ∷ 3 ∷ 3 ∷ 3 ∷ 3 ∷ 3 ∷ 0 ∷ 0 ∷ 3 ∷ [])
-    ∷ (map (λ t. sheetRefusal (sheet 4 3 1 6 t 0 0)) (range 0 9), 3 ∷ 3 ∷ 3 ∷ 3 ∷ 3 ∷ 3 ∷ 3 ∷ 0 ∷ 3 ∷ [])
-    ∷ (map (λ t. sheetRefusal (sheet 4 3 1 7 t 0 0)) (range 0 9), replicate 9 3)
-    ∷ (map (λ t. sheetRefusal (sheet 4 3 1 8 t 0 0)) (range 0 9), replicate 9 3)
-    ∷ (map (λ t. sheetRefusal (sheet 4 4 1 0 t 0 0)) (range 0 9), replicate 9 3)
-    ∷ (map (λ t. sheetRefusal (sheet 4 4 1 1 t 0 0)) (range 0 9), 3 ∷ 3 ∷ 0 ∷ 4 ∷ 4 ∷ 4 ∷ 4 ∷ 4 ∷ 3 ∷ [])
-    ∷ (map (λ t. sheetRefusal (sheet 4 4 1 2 t 0 0)) (range 0 9), 3 ∷ 3 ∷ 3 ∷ 4 ∷ 4 ∷ 4 ∷ 4 ∷ 4 ∷ 3 ∷ [])
-    ∷ (map (λ t. sheetRefusal (sheet 4 4 1 3 t 0 0)) (range 0 9), 3 ∷ 3 ∷ 3 ∷ 3 ∷ 4 ∷ 4 ∷ 4 ∷ 4 ∷ 3 ∷ [])
-    ∷ (map (λ t. sheetRefusal (sheet 4 4 1 4 t 0 0)) (range 0 9), 3 ∷ 3 ∷ 3 ∷ 3 ∷ 3 ∷ 4 ∷ 4 ∷ 4 ∷ 3 ∷ [])
-    ∷ (map (λ t. sheetRefusal (sheet 4 4 1 5 t 0 0)) (range 0 9), 3 ∷ 3 ∷ 3 ∷ 3 ∷ 3 ∷ 3 ∷ 4 ∷ 4 ∷ 3 ∷ [])
-    ∷ (map (λ t. sheetRefusal (sheet 4 4 1 6 t 0 0)) (range 0 9), 3 ∷ 3 ∷ 3 ∷ 3 ∷ 3 ∷ 3 ∷ 3 ∷ 4 ∷ 3 ∷ [])
-    ∷ (map (λ t. sheetRefusal (sheet 4 4 1 7 t 0 0)) (range 0 9), replicate 9 3)
-    ∷ (map (λ t. sheetRefusal (sheet 4 4 1 8 t 0 0)) (range 0 9), replicate 9 3)
-    ∷ (map (λ t. sheetRefusal (sheet 4 6 1 0 t 0 0)) (range 0 9), replicate 9 3)
-    ∷ (map (λ t. sheetRefusal (sheet 4 6 1 1 t 0 0)) (range 0 9), 3 ∷ 3 ∷ 4 ∷ 4 ∷ 4 ∷ 4 ∷ 4 ∷ 4 ∷ 3 ∷ [])
-    ∷ (map (λ t. sheetRefusal (sheet 4 6 1 2 t 0 0)) (range 0 9), 3 ∷ 3 ∷ 3 ∷ 4 ∷ 4 ∷ 4 ∷ 4 ∷ 4 ∷ 3 ∷ [])
-    ∷ (map (λ t. sheetRefusal (sheet 4 6 1 3 t 0 0)) (range 0 9), 3 ∷ 3 ∷ 3 ∷ 3 ∷ 4 ∷ 4 ∷ 4 ∷ 4 ∷ 3 ∷ [])
-    ∷ (map (λ t. sheetRefusal (sheet 4 6 1 4 t 0 0)) (range 0 9), 3 ∷ 3 ∷ 3 ∷ 3 ∷ 3 ∷ 4 ∷ 4 ∷ 4 ∷ 3 ∷ [])
-    ∷ (map (λ t. sheetRefusal (sheet 4 6 1 5 t 0 0)) (range 0 9), 3 ∷ 3 ∷ 3 ∷ 3 ∷ 3 ∷ 3 ∷ 4 ∷ 4 ∷ 3 ∷ [])
-    ∷ (map (λ t. sheetRefusal (sheet 4 6 1 6 t 0 0)) (range 0 9), 3 ∷ 3 ∷ 3 ∷ 3 ∷ 3 ∷ 3 ∷ 3 ∷ 4 ∷ 3 ∷ [])
-    ∷ (map (λ t. sheetRefusal (sheet 4 6 1 7 t 0 0)) (range 0 9), replicate 9 3)
-    ∷ (map (λ t. sheetRefusal (sheet 4 6 1 8 t 0 0)) (range 0 9), replicate 9 3)
-    ∷ []
-
-pub strengths-hold : map (λ r. r .0) strengths ≡ map (λ r. r .1) strengths
-unfolding strengths sheetRefusal range
-strengths-hold = refl
-
--- Every accepted sheet of q = 4: its refusal, page bytes, data bytes and distance.
-pub accepted : List Row
-accepted =
-    (layoutOf A, 0 ∷ 4 ∷ 3 ∷ 5 ∷ [])
-    ∷ (layoutOf (sheet 4 2 1 1 3 0 0), 0 ∷ 4 ∷ 3 ∷ 6 ∷ [])
-    ∷ (layoutOf (sheet 4 2 1 1 4 0 0), 0 ∷ 4 ∷ 3 ∷ 6 ∷ [])
-    ∷ (layoutOf (sheet 4 2 1 1 5 0 0), 0 ∷ 4 ∷ 3 ∷ 6 ∷ [])
-    ∷ (layoutOf (sheet 4 2 1 1 6 0 0), 0 ∷ 4 ∷ 3 ∷ 6 ∷ [])
-    ∷ (layoutOf (sheet 4 2 1 1 7 0 0), 0 ∷ 4 ∷ 3 ∷ 6 ∷ [])
-    ∷ (layoutOf (sheet 4 2 1 2 3 0 0), 0 ∷ 4 ∷ 2 ∷ 7 ∷ [])
-    ∷ (layoutOf (sheet 4 2 1 2 4 0 0), 0 ∷ 4 ∷ 2 ∷ 9 ∷ [])
-    ∷ (layoutOf (sheet 4 2 1 2 5 0 0), 0 ∷ 4 ∷ 2 ∷ 10 ∷ [])
-    ∷ (layoutOf (sheet 4 2 1 2 6 0 0), 0 ∷ 4 ∷ 2 ∷ 10 ∷ [])
-    ∷ (layoutOf (sheet 4 2 1 2 7 0 0), 0 ∷ 4 ∷ 2 ∷ 10 ∷ [])
-    ∷ (layoutOf (sheet 4 2 1 3 4 0 0), 0 ∷ 4 ∷ 2 ∷ 9 ∷ [])
-    ∷ (layoutOf (sheet 4 2 1 3 5 0 0), 0 ∷ 4 ∷ 2 ∷ 11 ∷ [])
-    ∷ (layoutOf (sheet 4 2 1 3 6 0 0), 0 ∷ 4 ∷ 2 ∷ 13 ∷ [])
-    ∷ (layoutOf (sheet 4 2 1 3 7 0 0), 0 ∷ 4 ∷ 2 ∷ 14 ∷ [])
-    ∷ (layoutOf (sheet 4 2 1 4 5 0 0), 0 ∷ 4 ∷ 2 ∷ 11 ∷ [])
-    ∷ (layoutOf (sheet 4 2 1 4 6 0 0), 0 ∷ 4 ∷ 2 ∷ 13 ∷ [])
-    ∷ (layoutOf (sheet 4 2 1 4 7 0 0), 0 ∷ 4 ∷ 2 ∷ 15 ∷ [])
-    ∷ (layoutOf (sheet 4 2 1 5 6 0 0), 0 ∷ 4 ∷ 2 ∷ 13 ∷ [])
-    ∷ (layoutOf (sheet 4 2 1 5 7 0 0), 0 ∷ 4 ∷ 2 ∷ 15 ∷ [])
-    ∷ (layoutOf (sheet 4 2 1 6 7 0 0), 0 ∷ 4 ∷ 2 ∷ 15 ∷ [])
-    ∷ (layoutOf (sheet 4 3 1 1 2 0 0), 0 ∷ 6 ∷ 5 ∷ 5 ∷ [])
-    ∷ (layoutOf (sheet 4 3 1 1 3 0 0), 0 ∷ 6 ∷ 5 ∷ 6 ∷ [])
-    ∷ (layoutOf (sheet 4 3 1 1 4 0 0), 0 ∷ 6 ∷ 5 ∷ 6 ∷ [])
-    ∷ (layoutOf (sheet 4 3 1 1 5 0 0), 0 ∷ 6 ∷ 5 ∷ 6 ∷ [])
-    ∷ (layoutOf (sheet 4 3 1 1 6 0 0), 0 ∷ 6 ∷ 5 ∷ 6 ∷ [])
-    ∷ (layoutOf (sheet 4 3 1 1 7 0 0), 0 ∷ 6 ∷ 5 ∷ 6 ∷ [])
-    ∷ (layoutOf (sheet 4 3 1 2 3 0 0), 0 ∷ 6 ∷ 3 ∷ 7 ∷ [])
-    ∷ (layoutOf (sheet 4 3 1 2 4 0 0), 0 ∷ 6 ∷ 3 ∷ 9 ∷ [])
-    ∷ (layoutOf (sheet 4 3 1 2 5 0 0), 0 ∷ 6 ∷ 3 ∷ 10 ∷ [])
-    ∷ (layoutOf (sheet 4 3 1 2 6 0 0), 0 ∷ 6 ∷ 3 ∷ 10 ∷ [])
-    ∷ (layoutOf (sheet 4 3 1 2 7 0 0), 0 ∷ 6 ∷ 3 ∷ 10 ∷ [])
-    ∷ (layoutOf (sheet 4 3 1 3 4 0 0), 0 ∷ 6 ∷ 3 ∷ 9 ∷ [])
-    ∷ (layoutOf (sheet 4 3 1 3 5 0 0), 0 ∷ 6 ∷ 3 ∷ 11 ∷ [])
-    ∷ (layoutOf (sheet 4 3 1 3 6 0 0), 0 ∷ 6 ∷ 3 ∷ 13 ∷ [])
-    ∷ (layoutOf (sheet 4 3 1 3 7 0 0), 0 ∷ 6 ∷ 3 ∷ 14 ∷ [])
-    ∷ (layoutOf (sheet 4 3 1 4 5 0 0), 0 ∷ 6 ∷ 3 ∷ 11 ∷ [])
-    ∷ (layoutOf (sheet 4 3 1 4 6 0 0), 0 ∷ 6 ∷ 3 ∷ 13 ∷ [])
-    ∷ (layoutOf (sheet 4 3 1 4 7 0 0), 0 ∷ 6 ∷ 3 ∷ 15 ∷ [])
-    ∷ (layoutOf (sheet 4 3 1 5 6 0 0), 0 ∷ 6 ∷ 3 ∷ 13 ∷ [])
-    ∷ (layoutOf (sheet 4 3 1 5 7 0 0), 0 ∷ 6 ∷ 3 ∷ 15 ∷ [])
-    ∷ (layoutOf (sheet 4 3 1 6 7 0 0), 0 ∷ 6 ∷ 3 ∷ 15 ∷ [])
-    ∷ (layoutOf (sheet 4 4 1 1 2 0 0), 0 ∷ 8 ∷ 7 ∷ 5 ∷ [])
-    ∷ (layoutOf (sheet 4 5 1 1 2 0 0), 0 ∷ 10 ∷ 9 ∷ 5 ∷ [])
-    ∷ (layoutOf (sheet 4 3 2 1 2 2 0), 0 ∷ 6 ∷ 4 ∷ 5 ∷ [])
-    ∷ (layoutOf B, 0 ∷ 6 ∷ 4 ∷ 7 ∷ [])
-    ∷ (layoutOf (sheet 4 3 2 1 2 4 0), 0 ∷ 6 ∷ 4 ∷ 9 ∷ [])
-    ∷ (layoutOf (sheet 4 3 2 1 2 5 0), 0 ∷ 6 ∷ 4 ∷ 9 ∷ [])
-    ∷ (layoutOf (sheet 4 3 2 1 2 6 0), 0 ∷ 6 ∷ 4 ∷ 9 ∷ [])
-    ∷ (layoutOf (sheet 4 3 2 1 2 7 0), 0 ∷ 6 ∷ 4 ∷ 9 ∷ [])
-    ∷ (layoutOf (sheet 4 3 2 1 3 3 0), 0 ∷ 6 ∷ 4 ∷ 7 ∷ [])
-    ∷ (layoutOf (sheet 4 3 2 1 3 4 0), 0 ∷ 6 ∷ 4 ∷ 9 ∷ [])
-    ∷ (layoutOf (sheet 4 3 2 1 3 5 0), 0 ∷ 6 ∷ 4 ∷ 9 ∷ [])
-    ∷ (layoutOf (sheet 4 3 2 1 3 6 0), 0 ∷ 6 ∷ 4 ∷ 9 ∷ [])
-    ∷ (layoutOf (sheet 4 3 2 1 3 7 0), 0 ∷ 6 ∷ 4 ∷ 9 ∷ [])
-    ∷ (layoutOf (sheet 4 3 2 1 4 4 0), 0 ∷ 6 ∷ 4 ∷ 9 ∷ [])
-    ∷ (layoutOf (sheet 4 3 2 1 4 5 0), 0 ∷ 6 ∷ 4 ∷ 9 ∷ [])
-    ∷ (layoutOf (sheet 4 3 2 1 4 6 0), 0 ∷ 6 ∷ 4 ∷ 9 ∷ [])
-    ∷ (layoutOf (sheet 4 3 2 1 4 7 0), 0 ∷ 6 ∷ 4 ∷ 9 ∷ [])
-    ∷ (layoutOf (sheet 4 3 2 1 5 5 0), 0 ∷ 6 ∷ 4 ∷ 9 ∷ [])
-    ∷ (layoutOf (sheet 4 3 2 1 5 6 0), 0 ∷ 6 ∷ 4 ∷ 9 ∷ [])
-    ∷ (layoutOf (sheet 4 3 2 1 5 7 0), 0 ∷ 6 ∷ 4 ∷ 9 ∷ [])
-    ∷ (layoutOf (sheet 4 3 2 1 6 6 0), 0 ∷ 6 ∷ 4 ∷ 9 ∷ [])
-    ∷ (layoutOf (sheet 4 3 2 1 6 7 0), 0 ∷ 6 ∷ 4 ∷ 9 ∷ [])
-    ∷ (layoutOf (sheet 4 3 2 1 7 7 0), 0 ∷ 6 ∷ 4 ∷ 9 ∷ [])
-    ∷ (layoutOf (sheet 4 3 2 2 3 3 0), 0 ∷ 6 ∷ 3 ∷ 7 ∷ [])
-    ∷ (layoutOf (sheet 4 3 2 2 3 4 0), 0 ∷ 6 ∷ 3 ∷ 9 ∷ [])
-    ∷ (layoutOf (sheet 4 3 2 2 3 5 0), 0 ∷ 6 ∷ 3 ∷ 11 ∷ [])
-    ∷ (layoutOf (sheet 4 3 2 2 3 6 0), 0 ∷ 6 ∷ 3 ∷ 13 ∷ [])
-    ∷ (layoutOf (sheet 4 3 2 2 3 7 0), 0 ∷ 6 ∷ 3 ∷ 14 ∷ [])
-    ∷ (layoutOf (sheet 4 3 2 2 4 4 0), 0 ∷ 6 ∷ 3 ∷ 9 ∷ [])
-    ∷ (layoutOf (sheet 4 3 2 2 4 5 0), 0 ∷ 6 ∷ 3 ∷ 11 ∷ [])
-    ∷ (layoutOf (sheet 4 3 2 2 4 6 0), 0 ∷ 6 ∷ 3 ∷ 13 ∷ [])
-    ∷ (layoutOf (sheet 4 3 2 2 4 7 0), 0 ∷ 6 ∷ 3 ∷ 15 ∷ [])
-    ∷ (layoutOf (sheet 4 3 2 2 5 5 0), 0 ∷ 6 ∷ 3 ∷ 11 ∷ [])
-    ∷ (layoutOf (sheet 4 3 2 2 5 6 0), 0 ∷ 6 ∷ 3 ∷ 13 ∷ [])
-    ∷ (layoutOf (sheet 4 3 2 2 5 7 0), 0 ∷ 6 ∷ 3 ∷ 15 ∷ [])
-    ∷ (layoutOf (sheet 4 3 2 2 6 6 0), 0 ∷ 6 ∷ 3 ∷ 13 ∷ [])
-    ∷ (layoutOf (sheet 4 3 2 2 6 7 0), 0 ∷ 6 ∷ 3 ∷ 15 ∷ [])
-    ∷ (layoutOf (sheet 4 3 2 2 7 7 0), 0 ∷ 6 ∷ 3 ∷ 15 ∷ [])
-    ∷ (layoutOf (sheet 4 3 2 3 4 4 0), 0 ∷ 6 ∷ 3 ∷ 9 ∷ [])
-    ∷ (layoutOf (sheet 4 3 2 3 4 5 0), 0 ∷ 6 ∷ 3 ∷ 11 ∷ [])
-    ∷ (layoutOf (sheet 4 3 2 3 4 6 0), 0 ∷ 6 ∷ 3 ∷ 13 ∷ [])
-    ∷ (layoutOf (sheet 4 3 2 3 4 7 0), 0 ∷ 6 ∷ 3 ∷ 15 ∷ [])
-    ∷ (layoutOf (sheet 4 3 2 3 5 5 0), 0 ∷ 6 ∷ 3 ∷ 11 ∷ [])
-    ∷ (layoutOf (sheet 4 3 2 3 5 6 0), 0 ∷ 6 ∷ 3 ∷ 13 ∷ [])
-    ∷ (layoutOf (sheet 4 3 2 3 5 7 0), 0 ∷ 6 ∷ 3 ∷ 15 ∷ [])
-    ∷ (layoutOf (sheet 4 3 2 3 6 6 0), 0 ∷ 6 ∷ 3 ∷ 13 ∷ [])
-    ∷ (layoutOf (sheet 4 3 2 3 6 7 0), 0 ∷ 6 ∷ 3 ∷ 15 ∷ [])
-    ∷ (layoutOf (sheet 4 3 2 3 7 7 0), 0 ∷ 6 ∷ 3 ∷ 15 ∷ [])
-    ∷ (layoutOf (sheet 4 3 2 4 5 5 0), 0 ∷ 6 ∷ 3 ∷ 11 ∷ [])
-    ∷ (layoutOf (sheet 4 3 2 4 5 6 0), 0 ∷ 6 ∷ 3 ∷ 13 ∷ [])
-    ∷ (layoutOf (sheet 4 3 2 4 5 7 0), 0 ∷ 6 ∷ 3 ∷ 15 ∷ [])
-    ∷ (layoutOf (sheet 4 3 2 4 6 6 0), 0 ∷ 6 ∷ 3 ∷ 13 ∷ [])
-    ∷ (layoutOf (sheet 4 3 2 4 6 7 0), 0 ∷ 6 ∷ 3 ∷ 15 ∷ [])
-    ∷ (layoutOf (sheet 4 3 2 4 7 7 0), 0 ∷ 6 ∷ 3 ∷ 15 ∷ [])
-    ∷ (layoutOf (sheet 4 3 2 5 6 6 0), 0 ∷ 6 ∷ 3 ∷ 13 ∷ [])
-    ∷ (layoutOf (sheet 4 3 2 5 6 7 0), 0 ∷ 6 ∷ 3 ∷ 15 ∷ [])
-    ∷ (layoutOf (sheet 4 3 2 5 7 7 0), 0 ∷ 6 ∷ 3 ∷ 15 ∷ [])
-    ∷ (layoutOf (sheet 4 3 2 6 7 7 0), 0 ∷ 6 ∷ 3 ∷ 15 ∷ [])
-    ∷ (layoutOf (sheet 4 4 2 1 2 2 0), 0 ∷ 8 ∷ 6 ∷ 5 ∷ [])
-    ∷ (layoutOf (sheet 4 5 2 1 2 2 0), 0 ∷ 10 ∷ 8 ∷ 5 ∷ [])
-    ∷ (layoutOf (sheet 4 4 3 1 2 2 2), 0 ∷ 8 ∷ 5 ∷ 5 ∷ [])
-    ∷ (layoutOf (sheet 4 5 3 1 2 2 2), 0 ∷ 10 ∷ 7 ∷ 5 ∷ [])
-    ∷ []
-
-pub accepted-hold : map (λ r. r .0) accepted ≡ map (λ r. r .1) accepted
-unfolding accepted sheetRefusal dataBytes distance
-accepted-hold = refl
-
--- Data bits and bytes of each block, where each begins, and the degrees by level.
-pub layout : List Row
-layout =
-    (blockBits A, 7 ∷ 11 ∷ [])
-    ∷ (blockSizes A, 1 ∷ 2 ∷ [])
-    ∷ (map (blockOffset A) (range 0 2), 0 ∷ 1 ∷ [])
-    ∷ (map (degree A) (range 0 2), 4 ∷ 8 ∷ [])
-    ∷ (blockBits B, 5 ∷ 7 ∷ 11 ∷ [])
-    ∷ (blockSizes B, 1 ∷ 1 ∷ 2 ∷ [])
+-- Where each block begins.
+pub offsets : List Row
+offsets =
+    (map (blockOffset A) (range 0 2), 0 ∷ 1 ∷ [])
     ∷ (map (blockOffset B) (range 0 3), 0 ∷ 1 ∷ 2 ∷ [])
-    ∷ (map (degree B) (range 0 3), 4 ∷ 8 ∷ 10 ∷ [])
-    ∷ (blockBits (sheet 4 2 1 4 5 0 0), 1 ∷ 1 ∷ [])
-    ∷ (blockSizes (sheet 4 2 1 4 5 0 0), 1 ∷ 1 ∷ [])
-    ∷ (map (blockOffset (sheet 4 2 1 4 5 0 0)) (range 0 2), 0 ∷ 1 ∷ [])
-    ∷ (map (degree (sheet 4 2 1 4 5 0 0)) (range 0 2), 14 ∷ 14 ∷ [])
-    ∷ (blockBits (sheet 4 5 2 1 2 2 0), 7 ∷ 7 ∷ 11 ∷ 11 ∷ 11 ∷ [])
-    ∷ (blockSizes (sheet 4 5 2 1 2 2 0), 1 ∷ 1 ∷ 2 ∷ 2 ∷ 2 ∷ [])
-    ∷ (map (blockOffset (sheet 4 5 2 1 2 2 0)) (range 0 5), 0 ∷ 1 ∷ 2 ∷ 4 ∷ 6 ∷ [])
-    ∷ (map (degree (sheet 4 5 2 1 2 2 0)) (range 0 3), 4 ∷ 8 ∷ 8 ∷ [])
-    ∷ (blockBits (sheet 4 5 3 1 2 2 2), 7 ∷ 7 ∷ 7 ∷ 11 ∷ 11 ∷ [])
-    ∷ (blockSizes (sheet 4 5 3 1 2 2 2), 1 ∷ 1 ∷ 1 ∷ 2 ∷ 2 ∷ [])
-    ∷ (map (blockOffset (sheet 4 5 3 1 2 2 2)) (range 0 5), 0 ∷ 1 ∷ 2 ∷ 3 ∷ 5 ∷ [])
-    ∷ (map (degree (sheet 4 5 3 1 2 2 2)) (range 0 4), 4 ∷ 8 ∷ 8 ∷ 8 ∷ [])
-    ∷ (blockBits (sheet 4 3 2 2 5 7 0), 1 ∷ 1 ∷ 7 ∷ [])
-    ∷ (blockSizes (sheet 4 3 2 2 5 7 0), 1 ∷ 1 ∷ 1 ∷ [])
     ∷ (map (blockOffset (sheet 4 3 2 2 5 7 0)) (range 0 3), 0 ∷ 1 ∷ 2 ∷ [])
-    ∷ (map (degree (sheet 4 3 2 2 5 7 0)) (range 0 3), 8 ∷ 14 ∷ 14 ∷ [])
-    ∷ (blockBits (sheet 4 3 2 6 7 7 0), 1 ∷ 1 ∷ 1 ∷ [])
-    ∷ (blockSizes (sheet 4 3 2 6 7 7 0), 1 ∷ 1 ∷ 1 ∷ [])
-    ∷ (map (blockOffset (sheet 4 3 2 6 7 7 0)) (range 0 3), 0 ∷ 1 ∷ 2 ∷ [])
-    ∷ (map (degree (sheet 4 3 2 6 7 7 0)) (range 0 3), 14 ∷ 14 ∷ 14 ∷ [])
-    ∷ (blockBits (sheet 4 4 1 1 2 0 0), 7 ∷ 11 ∷ 11 ∷ 11 ∷ [])
-    ∷ (blockSizes (sheet 4 4 1 1 2 0 0), 1 ∷ 2 ∷ 2 ∷ 2 ∷ [])
-    ∷ (map (blockOffset (sheet 4 4 1 1 2 0 0)) (range 0 4), 0 ∷ 1 ∷ 3 ∷ 5 ∷ [])
-    ∷ (map (degree (sheet 4 4 1 1 2 0 0)) (range 0 2), 4 ∷ 8 ∷ [])
-    ∷ (blockBits (sheet 4 5 1 1 2 0 0), 7 ∷ 11 ∷ 11 ∷ 11 ∷ 11 ∷ [])
-    ∷ (blockSizes (sheet 4 5 1 1 2 0 0), 1 ∷ 2 ∷ 2 ∷ 2 ∷ 2 ∷ [])
-    ∷ (map (blockOffset (sheet 4 5 1 1 2 0 0)) (range 0 5), 0 ∷ 1 ∷ 3 ∷ 5 ∷ 7 ∷ [])
-    ∷ (map (degree (sheet 4 5 1 1 2 0 0)) (range 0 2), 4 ∷ 8 ∷ [])
-    ∷ (blockBits (sheet 4 3 1 2 3 0 0), 5 ∷ 7 ∷ 7 ∷ [])
-    ∷ (blockSizes (sheet 4 3 1 2 3 0 0), 1 ∷ 1 ∷ 1 ∷ [])
-    ∷ (map (blockOffset (sheet 4 3 1 2 3 0 0)) (range 0 3), 0 ∷ 1 ∷ 2 ∷ [])
-    ∷ (map (degree (sheet 4 3 1 2 3 0 0)) (range 0 2), 8 ∷ 10 ∷ [])
-    ∷ (blockBits (sheet 4 2 1 3 7 0 0), 1 ∷ 5 ∷ [])
-    ∷ (blockSizes (sheet 4 2 1 3 7 0 0), 1 ∷ 1 ∷ [])
-    ∷ (map (blockOffset (sheet 4 2 1 3 7 0 0)) (range 0 2), 0 ∷ 1 ∷ [])
-    ∷ (map (degree (sheet 4 2 1 3 7 0 0)) (range 0 2), 10 ∷ 14 ∷ [])
-    ∷ (blockBits (sheet 4 3 2 1 3 3 0), 5 ∷ 5 ∷ 11 ∷ [])
-    ∷ (blockSizes (sheet 4 3 2 1 3 3 0), 1 ∷ 1 ∷ 2 ∷ [])
-    ∷ (map (blockOffset (sheet 4 3 2 1 3 3 0)) (range 0 3), 0 ∷ 1 ∷ 2 ∷ [])
-    ∷ (map (degree (sheet 4 3 2 1 3 3 0)) (range 0 3), 4 ∷ 10 ∷ 10 ∷ [])
-    ∷ (blockBits (sheet 4 4 3 1 2 2 2), 7 ∷ 7 ∷ 7 ∷ 11 ∷ [])
-    ∷ (blockSizes (sheet 4 4 3 1 2 2 2), 1 ∷ 1 ∷ 1 ∷ 2 ∷ [])
-    ∷ (map (blockOffset (sheet 4 4 3 1 2 2 2)) (range 0 4), 0 ∷ 1 ∷ 2 ∷ 3 ∷ [])
-    ∷ (map (degree (sheet 4 4 3 1 2 2 2)) (range 0 4), 4 ∷ 8 ∷ 8 ∷ 8 ∷ [])
+    ∷ (map (blockOffset (sheet 8 8 3 1 2 2 2)) (range 0 8), 0 ∷ 30 ∷ 60 ∷ 90 ∷ 121 ∷ 152 ∷ 183 ∷ 214 ∷ [])
     ∷ []
 
-pub layout-hold : map (λ r. r .0) layout ≡ map (λ r. r .1) layout
-unfolding layout blockBits blockSizes blockOffset degree range
-layout-hold = refl
+pub offsets-hold : map (λ r. r .0) offsets ≡ map (λ r. r .1) offsets
+unfolding offsets blockOffset range
+offsets-hold = refl
 
 -- Coefficients of a page and bits of blocks, read off their bytes.
 pub placedBits : List Row
 placedBits =
     (map (coefficientOf A (0x43 ∷ 0x57 ∷ 0x54 ∷ 0x19 ∷ []) 0) (range 0 15), 1 ∷ 1 ∷ 0 ∷ 0 ∷ 0 ∷ 0 ∷ 1 ∷ 0 ∷ 1 ∷ 1 ∷ 1 ∷ 0 ∷ 1 ∷ 0 ∷ 1 ∷ [])
-    ∷ (map (blockBit A (0x09 ∷ 0xA5 ∷ 0x05 ∷ []) 0) (range 0 7), 1 ∷ 0 ∷ 0 ∷ 1 ∷ 0 ∷ 0 ∷ 0 ∷ [])
-    ∷ (map (coefficientOf A (0x43 ∷ 0x57 ∷ 0x54 ∷ 0x19 ∷ []) 1) (range 0 15), 0 ∷ 0 ∷ 1 ∷ 0 ∷ 1 ∷ 0 ∷ 1 ∷ 0 ∷ 1 ∷ 0 ∷ 0 ∷ 1 ∷ 1 ∷ 0 ∷ 0 ∷ [])
-    ∷ (map (blockBit A (0x09 ∷ 0xA5 ∷ 0x05 ∷ []) 1) (range 0 11), 1 ∷ 0 ∷ 1 ∷ 0 ∷ 0 ∷ 1 ∷ 0 ∷ 1 ∷ 1 ∷ 0 ∷ 1 ∷ [])
-    ∷ (map (coefficientOf B (0x50 ∷ 0x57 ∷ 0x2E ∷ 0x3E ∷ 0x60 ∷ 0x30 ∷ []) 0) (range 0 15), 0 ∷ 0 ∷ 0 ∷ 0 ∷ 1 ∷ 0 ∷ 1 ∷ 0 ∷ 1 ∷ 1 ∷ 1 ∷ 0 ∷ 1 ∷ 0 ∷ 1 ∷ [])
-    ∷ (map (blockBit B (0x0D ∷ 0x02 ∷ 0x35 ∷ 0x07 ∷ []) 0) (range 0 5), 1 ∷ 0 ∷ 1 ∷ 1 ∷ 0 ∷ [])
-    ∷ (map (coefficientOf B (0x50 ∷ 0x57 ∷ 0x2E ∷ 0x3E ∷ 0x60 ∷ 0x30 ∷ []) 1) (range 0 15), 0 ∷ 1 ∷ 1 ∷ 1 ∷ 0 ∷ 1 ∷ 0 ∷ 0 ∷ 0 ∷ 1 ∷ 1 ∷ 1 ∷ 1 ∷ 1 ∷ 0 ∷ [])
-    ∷ (map (blockBit B (0x0D ∷ 0x02 ∷ 0x35 ∷ 0x07 ∷ []) 1) (range 0 7), 0 ∷ 1 ∷ 0 ∷ 0 ∷ 0 ∷ 0 ∷ 0 ∷ [])
-    ∷ (map (coefficientOf B (0x50 ∷ 0x57 ∷ 0x2E ∷ 0x3E ∷ 0x60 ∷ 0x30 ∷ []) 2) (range 0 15), 0 ∷ 0 ∷ 0 ∷ 0 ∷ 0 ∷ 1 ∷ 1 ∷ 0 ∷ 0 ∷ 0 ∷ 0 ∷ 0 ∷ 1 ∷ 1 ∷ 0 ∷ [])
-    ∷ (map (blockBit B (0x0D ∷ 0x02 ∷ 0x35 ∷ 0x07 ∷ []) 2) (range 0 11), 1 ∷ 0 ∷ 1 ∷ 0 ∷ 1 ∷ 1 ∷ 0 ∷ 0 ∷ 1 ∷ 1 ∷ 1 ∷ [])
-    ∷ (map (coefficientOf (sheet 4 5 2 1 2 2 0) (0x50 ∷ 0x20 ∷ 0x7E ∷ 0x3C ∷ 0xC1 ∷ 0x08 ∷ 0xCC ∷ 0x3C ∷ 0x9A ∷ 0x5B ∷ []) 0) (range 0 15), 0 ∷ 0 ∷ 0 ∷ 0 ∷ 1 ∷ 0 ∷ 1 ∷ 0 ∷ 0 ∷ 0 ∷ 0 ∷ 0 ∷ 0 ∷ 1 ∷ 0 ∷ [])
-    ∷ (map (blockBit (sheet 4 5 2 1 2 2 0) (0x55 ∷ 0x4E ∷ 0x7F ∷ 0x02 ∷ 0x4F ∷ 0x03 ∷ 0xFE ∷ 0x01 ∷ []) 0) (range 0 7), 1 ∷ 0 ∷ 1 ∷ 0 ∷ 1 ∷ 0 ∷ 1 ∷ [])
-    ∷ (map (coefficientOf (sheet 4 5 2 1 2 2 0) (0x50 ∷ 0x20 ∷ 0x7E ∷ 0x3C ∷ 0xC1 ∷ 0x08 ∷ 0xCC ∷ 0x3C ∷ 0x9A ∷ 0x5B ∷ []) 1) (range 0 15), 0 ∷ 1 ∷ 1 ∷ 1 ∷ 1 ∷ 1 ∷ 1 ∷ 0 ∷ 0 ∷ 0 ∷ 1 ∷ 1 ∷ 1 ∷ 1 ∷ 0 ∷ [])
-    ∷ (map (blockBit (sheet 4 5 2 1 2 2 0) (0x55 ∷ 0x4E ∷ 0x7F ∷ 0x02 ∷ 0x4F ∷ 0x03 ∷ 0xFE ∷ 0x01 ∷ []) 1) (range 0 7), 0 ∷ 1 ∷ 1 ∷ 1 ∷ 0 ∷ 0 ∷ 1 ∷ [])
-    ∷ (map (coefficientOf (sheet 4 5 2 1 2 2 0) (0x50 ∷ 0x20 ∷ 0x7E ∷ 0x3C ∷ 0xC1 ∷ 0x08 ∷ 0xCC ∷ 0x3C ∷ 0x9A ∷ 0x5B ∷ []) 2) (range 0 15), 1 ∷ 0 ∷ 0 ∷ 0 ∷ 0 ∷ 0 ∷ 1 ∷ 1 ∷ 0 ∷ 0 ∷ 0 ∷ 1 ∷ 0 ∷ 0 ∷ 0 ∷ [])
-    ∷ (map (blockBit (sheet 4 5 2 1 2 2 0) (0x55 ∷ 0x4E ∷ 0x7F ∷ 0x02 ∷ 0x4F ∷ 0x03 ∷ 0xFE ∷ 0x01 ∷ []) 2) (range 0 11), 1 ∷ 1 ∷ 1 ∷ 1 ∷ 1 ∷ 1 ∷ 1 ∷ 0 ∷ 0 ∷ 1 ∷ 0 ∷ [])
-    ∷ (map (coefficientOf (sheet 4 5 2 1 2 2 0) (0x50 ∷ 0x20 ∷ 0x7E ∷ 0x3C ∷ 0xC1 ∷ 0x08 ∷ 0xCC ∷ 0x3C ∷ 0x9A ∷ 0x5B ∷ []) 3) (range 0 15), 0 ∷ 0 ∷ 1 ∷ 1 ∷ 0 ∷ 0 ∷ 1 ∷ 1 ∷ 0 ∷ 0 ∷ 1 ∷ 1 ∷ 1 ∷ 1 ∷ 0 ∷ [])
-    ∷ (map (blockBit (sheet 4 5 2 1 2 2 0) (0x55 ∷ 0x4E ∷ 0x7F ∷ 0x02 ∷ 0x4F ∷ 0x03 ∷ 0xFE ∷ 0x01 ∷ []) 3) (range 0 11), 1 ∷ 1 ∷ 1 ∷ 1 ∷ 0 ∷ 0 ∷ 1 ∷ 0 ∷ 1 ∷ 1 ∷ 0 ∷ [])
-    ∷ (map (coefficientOf (sheet 4 5 2 1 2 2 0) (0x50 ∷ 0x20 ∷ 0x7E ∷ 0x3C ∷ 0xC1 ∷ 0x08 ∷ 0xCC ∷ 0x3C ∷ 0x9A ∷ 0x5B ∷ []) 4) (range 0 15), 0 ∷ 1 ∷ 0 ∷ 1 ∷ 1 ∷ 0 ∷ 0 ∷ 1 ∷ 1 ∷ 1 ∷ 0 ∷ 1 ∷ 1 ∷ 0 ∷ 1 ∷ [])
-    ∷ (map (blockBit (sheet 4 5 2 1 2 2 0) (0x55 ∷ 0x4E ∷ 0x7F ∷ 0x02 ∷ 0x4F ∷ 0x03 ∷ 0xFE ∷ 0x01 ∷ []) 4) (range 0 11), 0 ∷ 1 ∷ 1 ∷ 1 ∷ 1 ∷ 1 ∷ 1 ∷ 1 ∷ 1 ∷ 0 ∷ 0 ∷ [])
-    ∷ (map (coefficientOf (sheet 4 3 2 2 5 7 0) (0x38 ∷ 0x14 ∷ 0x62 ∷ 0x5B ∷ 0x3E ∷ 0x2F ∷ []) 0) (range 0 15), 0 ∷ 0 ∷ 0 ∷ 1 ∷ 1 ∷ 1 ∷ 0 ∷ 0 ∷ 0 ∷ 0 ∷ 1 ∷ 0 ∷ 1 ∷ 0 ∷ 0 ∷ [])
-    ∷ (map (blockBit (sheet 4 3 2 2 5 7 0) (0x01 ∷ 0x00 ∷ 0x50 ∷ []) 0) (range 0 1), 1 ∷ [])
-    ∷ (map (coefficientOf (sheet 4 3 2 2 5 7 0) (0x38 ∷ 0x14 ∷ 0x62 ∷ 0x5B ∷ 0x3E ∷ 0x2F ∷ []) 1) (range 0 15), 0 ∷ 1 ∷ 0 ∷ 0 ∷ 0 ∷ 1 ∷ 1 ∷ 0 ∷ 1 ∷ 1 ∷ 0 ∷ 1 ∷ 1 ∷ 0 ∷ 1 ∷ [])
-    ∷ (map (blockBit (sheet 4 3 2 2 5 7 0) (0x01 ∷ 0x00 ∷ 0x50 ∷ []) 1) (range 0 1), 0 ∷ [])
-    ∷ (map (coefficientOf (sheet 4 3 2 2 5 7 0) (0x38 ∷ 0x14 ∷ 0x62 ∷ 0x5B ∷ 0x3E ∷ 0x2F ∷ []) 2) (range 0 15), 0 ∷ 1 ∷ 1 ∷ 1 ∷ 1 ∷ 1 ∷ 0 ∷ 0 ∷ 1 ∷ 1 ∷ 1 ∷ 1 ∷ 0 ∷ 1 ∷ 0 ∷ [])
-    ∷ (map (blockBit (sheet 4 3 2 2 5 7 0) (0x01 ∷ 0x00 ∷ 0x50 ∷ []) 2) (range 0 7), 0 ∷ 0 ∷ 0 ∷ 0 ∷ 1 ∷ 0 ∷ 1 ∷ [])
+    ∷ (map (coefficientOf B (0x89 ∷ 0x52 ∷ 0x85 ∷ 0x3A ∷ 0x75 ∷ 0x71 ∷ []) 2) (range 0 15), 1 ∷ 0 ∷ 1 ∷ 0 ∷ 1 ∷ 1 ∷ 1 ∷ 0 ∷ 1 ∷ 0 ∷ 0 ∷ 0 ∷ 1 ∷ 1 ∷ 1 ∷ [])
+    ∷ (map (coefficientOf (sheet 4 5 2 1 2 2 0) (0x03 ∷ 0x03 ∷ 0x6B ∷ 0x02 ∷ 0x35 ∷ 0x07 ∷ 0x05 ∷ 0x72 ∷ 0xC7 ∷ 0x0B ∷ []) 4) (range 0 15), 1 ∷ 1 ∷ 1 ∷ 0 ∷ 0 ∷ 0 ∷ 1 ∷ 1 ∷ 1 ∷ 1 ∷ 0 ∷ 1 ∷ 0 ∷ 0 ∷ 0 ∷ [])
+    ∷ (map (blockBit A (0x0C ∷ 0xC1 ∷ 0x04 ∷ []) 1) (range 0 11), 1 ∷ 0 ∷ 0 ∷ 0 ∷ 0 ∷ 0 ∷ 1 ∷ 1 ∷ 0 ∷ 0 ∷ 1 ∷ [])
+    ∷ (map (blockBit B (0x19 ∷ 0x53 ∷ 0xB9 ∷ 0x05 ∷ []) 2) (range 0 11), 1 ∷ 0 ∷ 0 ∷ 1 ∷ 1 ∷ 1 ∷ 0 ∷ 1 ∷ 1 ∷ 0 ∷ 1 ∷ [])
+    ∷ (map (blockBit (sheet 4 3 2 2 5 7 0) (0x01 ∷ 0x00 ∷ 0x55 ∷ []) 1) (range 0 1), 0 ∷ [])
     ∷ []
 
 pub placedBits-hold : map (λ r. r .0) placedBits ≡ map (λ r. r .1) placedBits
 unfolding placedBits blockOffset range
 placedBits-hold = refl
 
--- Generators by level: 13 words each, 0 past v and for a refused sheet.
-pub generatorRows : List Row
-generatorRows =
-    (length (generators A) ∷ [], 4 ∷ [])
-    ∷ (getD (generators A) 0 [], 19 ∷ replicate 12 0)
-    ∷ (getD (generators A) 1 [], 465 ∷ replicate 12 0)
-    ∷ (getD (generators A) 2 [], replicate 13 0)
-    ∷ (getD (generators A) 3 [], replicate 13 0)
-    ∷ (length (generators B) ∷ [], 4 ∷ [])
-    ∷ (getD (generators B) 0 [], 19 ∷ replicate 12 0)
-    ∷ (getD (generators B) 1 [], 465 ∷ replicate 12 0)
-    ∷ (getD (generators B) 2 [], 1335 ∷ replicate 12 0)
-    ∷ (getD (generators B) 3 [], replicate 13 0)
-    ∷ (length (generators (sheet 4 2 1 4 5 0 0)) ∷ [], 4 ∷ [])
-    ∷ (getD (generators (sheet 4 2 1 4 5 0 0)) 0 [], 32767 ∷ replicate 12 0)
-    ∷ (getD (generators (sheet 4 2 1 4 5 0 0)) 1 [], 32767 ∷ replicate 12 0)
-    ∷ (getD (generators (sheet 4 2 1 4 5 0 0)) 2 [], replicate 13 0)
-    ∷ (getD (generators (sheet 4 2 1 4 5 0 0)) 3 [], replicate 13 0)
-    ∷ (length (generators (sheet 4 5 3 1 2 2 2)) ∷ [], 4 ∷ [])
-    ∷ (getD (generators (sheet 4 5 3 1 2 2 2)) 0 [], 19 ∷ replicate 12 0)
-    ∷ (getD (generators (sheet 4 5 3 1 2 2 2)) 1 [], 465 ∷ replicate 12 0)
-    ∷ (getD (generators (sheet 4 5 3 1 2 2 2)) 2 [], 465 ∷ replicate 12 0)
-    ∷ (getD (generators (sheet 4 5 3 1 2 2 2)) 3 [], 465 ∷ replicate 12 0)
-    ∷ (length (generators (sheet 4 3 2 2 5 7 0)) ∷ [], 4 ∷ [])
-    ∷ (getD (generators (sheet 4 3 2 2 5 7 0)) 0 [], 465 ∷ replicate 12 0)
-    ∷ (getD (generators (sheet 4 3 2 2 5 7 0)) 1 [], 32767 ∷ replicate 12 0)
-    ∷ (getD (generators (sheet 4 3 2 2 5 7 0)) 2 [], 32767 ∷ replicate 12 0)
-    ∷ (getD (generators (sheet 4 3 2 2 5 7 0)) 3 [], replicate 13 0)
-    ∷ (length (generators (sheet 4 2 1 3 6 0 0)) ∷ [], 4 ∷ [])
-    ∷ (getD (generators (sheet 4 2 1 3 6 0 0)) 0 [], 1335 ∷ replicate 12 0)
-    ∷ (getD (generators (sheet 4 2 1 3 6 0 0)) 1 [], 32767 ∷ replicate 12 0)
-    ∷ (getD (generators (sheet 4 2 1 3 6 0 0)) 2 [], replicate 13 0)
-    ∷ (getD (generators (sheet 4 2 1 3 6 0 0)) 3 [], replicate 13 0)
-    ∷ (length (generators (sheet 4 4 2 1 2 3 0)) ∷ [], 4 ∷ [])
-    ∷ (getD (generators (sheet 4 4 2 1 2 3 0)) 0 [], replicate 13 0)
-    ∷ (getD (generators (sheet 4 4 2 1 2 3 0)) 1 [], replicate 13 0)
-    ∷ (getD (generators (sheet 4 4 2 1 2 3 0)) 2 [], replicate 13 0)
-    ∷ (getD (generators (sheet 4 4 2 1 2 3 0)) 3 [], replicate 13 0)
-    ∷ (length (generators (sheet 255 2 1 1 2 0 0)) ∷ [], 4 ∷ [])
-    ∷ (getD (generators (sheet 255 2 1 1 2 0 0)) 0 [], replicate 13 0)
-    ∷ (getD (generators (sheet 255 2 1 1 2 0 0)) 1 [], replicate 13 0)
-    ∷ (getD (generators (sheet 255 2 1 1 2 0 0)) 2 [], replicate 13 0)
-    ∷ (getD (generators (sheet 255 2 1 1 2 0 0)) 3 [], replicate 13 0)
-    ∷ (length (generators (sheet 4294967295 2 1 1 2 0 0)) ∷ [], 4 ∷ [])
-    ∷ (getD (generators (sheet 4294967295 2 1 1 2 0 0)) 0 [], replicate 13 0)
-    ∷ (getD (generators (sheet 4294967295 2 1 1 2 0 0)) 1 [], replicate 13 0)
-    ∷ (getD (generators (sheet 4294967295 2 1 1 2 0 0)) 2 [], replicate 13 0)
-    ∷ (getD (generators (sheet 4294967295 2 1 1 2 0 0)) 3 [], replicate 13 0)
-    ∷ (length (generators (sheet 4 2 1 1 4294967295 0 0)) ∷ [], 4 ∷ [])
-    ∷ (getD (generators (sheet 4 2 1 1 4294967295 0 0)) 0 [], replicate 13 0)
-    ∷ (getD (generators (sheet 4 2 1 1 4294967295 0 0)) 1 [], replicate 13 0)
-    ∷ (getD (generators (sheet 4 2 1 1 4294967295 0 0)) 2 [], replicate 13 0)
-    ∷ (getD (generators (sheet 4 2 1 1 4294967295 0 0)) 3 [], replicate 13 0)
+-- N(i, l) past what the call gives: i above 7, and l above i.
+pub nestings : List Row
+nestings =
+    (map (N 9) (range 0 11), 1 ∷ 511 ∷ 26163 ∷ 440555 ∷ 1784731 ∷ 1784731 ∷ 440555 ∷ 26163 ∷ 511 ∷ 1 ∷ 0 ∷ [])
+    ∷ (map (λ i. N i 4) (range 0 10), 0 ∷ 0 ∷ 0 ∷ 0 ∷ 1 ∷ 31 ∷ 403 ∷ 6731 ∷ 114427 ∷ 1784731 ∷ [])
     ∷ []
 
-pub generatorRows-hold : map (λ r. r .0) generatorRows ≡ map (λ r. r .1) generatorRows
-unfolding generatorRows generators pow xor rem
-generatorRows-hold = refl
-
--- Write: its number, then the page left in a buffer with old bytes.
-pub pages : List Row
-pages =
-    (written A 1 (0x30 ∷ 0x9E ∷ 0x06 ∷ []) (0x32 ∷ 0x96 ∷ 0x16 ∷ 0x63 ∷ []), 0 ∷ 0xF0 ∷ 0x30 ∷ 0xEE ∷ 0x69 ∷ [])
-    ∷ (written B 7 (0x13 ∷ 0x78 ∷ 0xFD ∷ 0x02 ∷ []) (0x1A ∷ 0xAA ∷ 0xCC ∷ 0x9D ∷ 0x7A ∷ 0x3B ∷ []), 0 ∷ 0x26 ∷ 0x4C ∷ 0x7C ∷ 0x78 ∷ 0xDF ∷ 0x2F ∷ [])
-    ∷ (written (sheet 4 2 1 4 5 0 0) 8 (0x01 ∷ 0x01 ∷ []) (0x6A ∷ 0xEA ∷ 0x4B ∷ 0x3B ∷ []), 0 ∷ 0xFF ∷ 0x7F ∷ 0xFF ∷ 0x7F ∷ [])
-    ∷ (written (sheet 4 5 2 1 2 2 0) 63 (0x2B ∷ 0x49 ∷ 0xE3 ∷ 0x01 ∷ 0xA5 ∷ 0x07 ∷ 0xE1 ∷ 0x00 ∷ []) (0x7E ∷ 0xC0 ∷ 0x1F ∷ 0x34 ∷ 0xF8 ∷ 0xF6 ∷ 0x91 ∷ 0xCA ∷ 0xD2 ∷ 0xC6 ∷ []), 0 ∷ 0x2A ∷ 0x2B ∷ 0x4E ∷ 0x49 ∷ 0x39 ∷ 0x1E ∷ 0x50 ∷ 0x7A ∷ 0x10 ∷ 0x0E ∷ [])
-    ∷ (written (sheet 4 5 3 1 2 2 2) 64 (0x09 ∷ 0x74 ∷ 0x68 ∷ 0xD4 ∷ 0x01 ∷ 0x65 ∷ 0x01 ∷ []) (0xC0 ∷ 0x8E ∷ 0xFD ∷ 0xA2 ∷ 0xA3 ∷ 0x35 ∷ 0x2D ∷ 0x1F ∷ 0x9E ∷ 0x6A ∷ []), 0 ∷ 0x18 ∷ 0x09 ∷ 0x1F ∷ 0x74 ∷ 0xA7 ∷ 0x68 ∷ 0x4F ∷ 0x1D ∷ 0x5D ∷ 0x16 ∷ [])
-    ∷ (written (sheet 4 3 2 2 5 7 0) 1 (0x01 ∷ 0x01 ∷ 0x30 ∷ []) (0xA3 ∷ 0x3F ∷ 0x04 ∷ 0xC9 ∷ 0x53 ∷ 0xFA ∷ []), 0 ∷ 0x9C ∷ 0x60 ∷ 0xD2 ∷ 0x50 ∷ 0x4E ∷ 0x30 ∷ [])
-    ∷ (written (sheet 4 3 2 6 7 7 0) 7 (0x00 ∷ 0x00 ∷ 0x01 ∷ []) (0x2C ∷ 0x0D ∷ 0x76 ∷ 0x40 ∷ 0x76 ∷ 0xE5 ∷ []), 0 ∷ 0x00 ∷ 0x00 ∷ 0x00 ∷ 0x00 ∷ 0xFF ∷ 0x7F ∷ [])
-    ∷ (written (sheet 4 4 1 1 2 0 0) 8 (0x01 ∷ 0xBB ∷ 0x00 ∷ 0x82 ∷ 0x00 ∷ 0x0D ∷ 0x03 ∷ []) (0x94 ∷ 0xC8 ∷ 0x7F ∷ 0xF0 ∷ 0x7E ∷ 0x22 ∷ 0xE0 ∷ 0x11 ∷ []), 0 ∷ 0x7C ∷ 0x01 ∷ 0xBF ∷ 0x0B ∷ 0x28 ∷ 0x08 ∷ 0xD6 ∷ 0x30 ∷ [])
-    ∷ (written (sheet 4 5 1 1 2 0 0) 63 (0x14 ∷ 0x19 ∷ 0x07 ∷ 0xA6 ∷ 0x03 ∷ 0x91 ∷ 0x01 ∷ 0x7E ∷ 0x06 ∷ []) (0x7A ∷ 0x49 ∷ 0x0B ∷ 0xB8 ∷ 0xE7 ∷ 0x55 ∷ 0xD8 ∷ 0x6A ∷ 0x1D ∷ 0xEE ∷ []), 0 ∷ 0xA5 ∷ 0x14 ∷ 0x96 ∷ 0x71 ∷ 0x6C ∷ 0x3A ∷ 0x17 ∷ 0x19 ∷ 0xED ∷ 0x67 ∷ [])
-    ∷ (written (sheet 4 3 1 2 3 0 0) 64 (0x1B ∷ 0x41 ∷ 0x42 ∷ []) (0xD1 ∷ 0x53 ∷ 0x07 ∷ 0x16 ∷ 0x15 ∷ 0x66 ∷ []), 0 ∷ 0xB6 ∷ 0x6D ∷ 0x39 ∷ 0x41 ∷ 0x9B ∷ 0x42 ∷ [])
-    ∷ (written (sheet 4 2 1 3 7 0 0) 1 (0x00 ∷ 0x1C ∷ []) (0x02 ∷ 0xCE ∷ 0x8D ∷ 0x92 ∷ []), 0 ∷ 0x59 ∷ 0x0F ∷ 0xA6 ∷ 0x70 ∷ [])
-    ∷ (written (sheet 4 3 2 1 3 3 0) 7 (0x1C ∷ 0x16 ∷ 0x76 ∷ 0x06 ∷ []) (0xCF ∷ 0xBB ∷ 0x9A ∷ 0x60 ∷ 0xDA ∷ 0x20 ∷ []), 0 ∷ 0xA9 ∷ 0x73 ∷ 0x0D ∷ 0x59 ∷ 0x66 ∷ 0x67 ∷ [])
-    ∷ (written (sheet 4 4 3 1 2 2 2) 8 (0x39 ∷ 0x29 ∷ 0x67 ∷ 0xB8 ∷ 0x03 ∷ []) (0x4E ∷ 0x92 ∷ 0x7A ∷ 0x3D ∷ 0x0C ∷ 0xB8 ∷ 0xDF ∷ 0xF3 ∷ []), 0 ∷ 0xE8 ∷ 0x39 ∷ 0x15 ∷ 0x29 ∷ 0x66 ∷ 0x67 ∷ 0x88 ∷ 0x3B ∷ [])
-    ∷ (written A 64 (0x7F ∷ 0xFF ∷ 0x07 ∷ []) (0x50 ∷ 0xCA ∷ 0x17 ∷ 0x66 ∷ []), 0 ∷ 0xFF ∷ 0x7F ∷ 0xFF ∷ 0x7F ∷ [])
-    ∷ (written B 63 (0x1F ∷ 0x7F ∷ 0xFF ∷ 0x07 ∷ []) (0xC8 ∷ 0xEF ∷ 0xE1 ∷ 0x45 ∷ 0xB6 ∷ 0x9D ∷ []), 0 ∷ 0xFF ∷ 0x7F ∷ 0xFF ∷ 0x7F ∷ 0xFF ∷ 0x7F ∷ [])
-    ∷ (written A 1 (0x4A ∷ 0x63 ∷ 0x05 ∷ []) (0x70 ∷ 0xF7 ∷ 0xC4 ∷ 0x16 ∷ []), 0 ∷ 0xFF ∷ 0x4A ∷ 0x3E ∷ 0x56 ∷ [])
-    ∷ (written A 7 (0x4A ∷ 0x63 ∷ 0x05 ∷ []) (0xBD ∷ 0xBB ∷ 0x94 ∷ 0xC8 ∷ []), 0 ∷ 0xFF ∷ 0x4A ∷ 0x3E ∷ 0x56 ∷ [])
-    ∷ (written A 8 (0x4A ∷ 0x63 ∷ 0x05 ∷ []) (0x39 ∷ 0x2F ∷ 0xFB ∷ 0xD2 ∷ []), 0 ∷ 0xFF ∷ 0x4A ∷ 0x3E ∷ 0x56 ∷ [])
-    ∷ (written A 63 (0x4A ∷ 0x63 ∷ 0x05 ∷ []) (0xBC ∷ 0xB9 ∷ 0x2A ∷ 0x1C ∷ []), 0 ∷ 0xFF ∷ 0x4A ∷ 0x3E ∷ 0x56 ∷ [])
-    ∷ (written A 64 (0x4A ∷ 0x63 ∷ 0x05 ∷ []) (0x2C ∷ 0xE1 ∷ 0x09 ∷ 0x96 ∷ []), 0 ∷ 0xFF ∷ 0x4A ∷ 0x3E ∷ 0x56 ∷ [])
-    ∷ (written A 0 (0x4A ∷ 0x63 ∷ 0x05 ∷ []) (0x7B ∷ 0xEE ∷ 0x56 ∷ 0x85 ∷ []), 5 ∷ 0x7B ∷ 0xEE ∷ 0x56 ∷ 0x85 ∷ [])
-    ∷ (written A 65 (0x4A ∷ 0x63 ∷ 0x05 ∷ []) (0x18 ∷ 0x46 ∷ 0x06 ∷ 0xF4 ∷ []), 5 ∷ 0x18 ∷ 0x46 ∷ 0x06 ∷ 0xF4 ∷ [])
-    ∷ []
-
-pub pages-hold : map (λ r. r .0) pages ≡ map (λ r. r .1) pages
-unfolding pages writeRefusal pageOf pow
-pages-hold = refl
-
--- Write: the page of a single bit, one of each block.
-pub singleBits : List Row
-singleBits =
-    (written A 1 (0x40 ∷ 0x00 ∷ 0x00 ∷ []) (0x8E ∷ 0x55 ∷ 0x9D ∷ 0x6A ∷ []), 0 ∷ 0xE8 ∷ 0x40 ∷ 0x00 ∷ 0x00 ∷ [])
-    ∷ (written A 7 (0x00 ∷ 0x01 ∷ 0x00 ∷ []) (0x0D ∷ 0xB7 ∷ 0x36 ∷ 0x22 ∷ []), 0 ∷ 0x13 ∷ 0x00 ∷ 0x13 ∷ 0x00 ∷ [])
-    ∷ (written B 1 (0x10 ∷ 0x00 ∷ 0x00 ∷ 0x00 ∷ []) (0x5A ∷ 0x67 ∷ 0x76 ∷ 0x04 ∷ 0xE4 ∷ 0x6F ∷ []), 0 ∷ 0x9B ∷ 0x42 ∷ 0x00 ∷ 0x00 ∷ 0x00 ∷ 0x00 ∷ [])
-    ∷ (written B 7 (0x00 ∷ 0x40 ∷ 0x00 ∷ 0x00 ∷ []) (0x1C ∷ 0x21 ∷ 0x2F ∷ 0xB4 ∷ 0x12 ∷ 0x13 ∷ []), 0 ∷ 0x73 ∷ 0x02 ∷ 0xE8 ∷ 0x40 ∷ 0x00 ∷ 0x00 ∷ [])
-    ∷ (written B 8 (0x00 ∷ 0x00 ∷ 0x01 ∷ 0x00 ∷ []) (0xC9 ∷ 0x63 ∷ 0x37 ∷ 0x12 ∷ 0x82 ∷ 0x30 ∷ []), 0 ∷ 0x26 ∷ 0x00 ∷ 0x35 ∷ 0x00 ∷ 0x13 ∷ 0x00 ∷ [])
-    ∷ (written (sheet 4 5 2 1 2 2 0) 1 (0x40 ∷ replicate 7 0x00) (0xB4 ∷ 0x43 ∷ 0x04 ∷ 0x48 ∷ 0x40 ∷ 0xB9 ∷ 0xF4 ∷ 0x79 ∷ 0x24 ∷ 0xCA ∷ []), 0 ∷ 0xE8 ∷ 0x40 ∷ replicate 8 0x00)
-    ∷ (written (sheet 4 5 2 1 2 2 0) 7 (0x00 ∷ 0x40 ∷ replicate 6 0x00) (0xFA ∷ 0x1A ∷ 0x54 ∷ 0x5D ∷ 0x50 ∷ 0x5D ∷ 0x82 ∷ 0x09 ∷ 0xCD ∷ 0x71 ∷ []), 0 ∷ 0x00 ∷ 0x00 ∷ 0xE8 ∷ 0x40 ∷ replicate 6 0x00)
-    ∷ (written (sheet 4 5 2 1 2 2 0) 8 (0x00 ∷ 0x00 ∷ 0x01 ∷ 0x00 ∷ 0x00 ∷ 0x00 ∷ 0x00 ∷ 0x00 ∷ []) (0x1B ∷ 0x4C ∷ 0x55 ∷ 0x14 ∷ 0x56 ∷ 0x00 ∷ 0xD6 ∷ 0x2E ∷ 0x8C ∷ 0x6E ∷ []), 0 ∷ 0x26 ∷ 0x00 ∷ 0x35 ∷ 0x00 ∷ 0x13 ∷ 0x00 ∷ 0x00 ∷ 0x00 ∷ 0x00 ∷ 0x00 ∷ [])
-    ∷ (written (sheet 4 5 2 1 2 2 0) 63 (0x00 ∷ 0x00 ∷ 0x00 ∷ 0x00 ∷ 0x01 ∷ 0x00 ∷ 0x00 ∷ 0x00 ∷ []) (0xC1 ∷ 0xBC ∷ 0x57 ∷ 0x8D ∷ 0xC0 ∷ 0x27 ∷ 0xB0 ∷ 0x66 ∷ 0xB5 ∷ 0xCC ∷ []), 0 ∷ 0x6A ∷ 0x00 ∷ 0x79 ∷ 0x00 ∷ 0x00 ∷ 0x00 ∷ 0x13 ∷ 0x00 ∷ 0x00 ∷ 0x00 ∷ [])
-    ∷ (written (sheet 4 5 2 1 2 2 0) 64 (0x00 ∷ 0x00 ∷ 0x00 ∷ 0x00 ∷ 0x00 ∷ 0x00 ∷ 0x01 ∷ 0x00 ∷ []) (0x09 ∷ 0x93 ∷ 0x92 ∷ 0x87 ∷ 0x3A ∷ 0xFF ∷ 0x27 ∷ 0x51 ∷ 0xED ∷ 0x43 ∷ []), 0 ∷ 0xF2 ∷ 0x00 ∷ 0xE1 ∷ 0x00 ∷ 0x00 ∷ 0x00 ∷ 0x00 ∷ 0x00 ∷ 0x13 ∷ 0x00 ∷ [])
-    ∷ (written (sheet 4 5 3 1 2 2 2) 1 (0x40 ∷ replicate 6 0x00) (0xC7 ∷ 0xCC ∷ 0x96 ∷ 0x92 ∷ 0xB4 ∷ 0xDA ∷ 0x9E ∷ 0xDA ∷ 0x09 ∷ 0x5F ∷ []), 0 ∷ 0xE8 ∷ 0x40 ∷ replicate 8 0x00)
-    ∷ (written (sheet 4 5 3 1 2 2 2) 7 (0x00 ∷ 0x40 ∷ 0x00 ∷ 0x00 ∷ 0x00 ∷ 0x00 ∷ 0x00 ∷ []) (0x8A ∷ 0x6E ∷ 0xC5 ∷ 0x32 ∷ 0xE4 ∷ 0x4F ∷ 0xDC ∷ 0xE7 ∷ 0x40 ∷ 0x28 ∷ []), 0 ∷ 0x00 ∷ 0x00 ∷ 0xE8 ∷ 0x40 ∷ replicate 6 0x00)
-    ∷ (written (sheet 4 5 3 1 2 2 2) 8 (0x00 ∷ 0x00 ∷ 0x40 ∷ 0x00 ∷ 0x00 ∷ 0x00 ∷ 0x00 ∷ []) (0xA7 ∷ 0x14 ∷ 0x42 ∷ 0x94 ∷ 0x19 ∷ 0xA1 ∷ 0x2D ∷ 0x1F ∷ 0xBC ∷ 0x26 ∷ []), 0 ∷ 0x00 ∷ 0x00 ∷ 0x00 ∷ 0x00 ∷ 0xE8 ∷ 0x40 ∷ 0x00 ∷ 0x00 ∷ 0x00 ∷ 0x00 ∷ [])
-    ∷ (written (sheet 4 5 3 1 2 2 2) 63 (0x00 ∷ 0x00 ∷ 0x00 ∷ 0x01 ∷ 0x00 ∷ 0x00 ∷ 0x00 ∷ []) (0x58 ∷ 0x10 ∷ 0xBE ∷ 0x0E ∷ 0xC9 ∷ 0x5C ∷ 0xA5 ∷ 0xAF ∷ 0xE2 ∷ 0x3E ∷ []), 0 ∷ 0x98 ∷ 0x00 ∷ 0xF2 ∷ 0x00 ∷ 0x79 ∷ 0x00 ∷ 0x13 ∷ 0x00 ∷ 0x00 ∷ 0x00 ∷ [])
-    ∷ (written (sheet 4 5 3 1 2 2 2) 64 (0x00 ∷ 0x00 ∷ 0x00 ∷ 0x00 ∷ 0x00 ∷ 0x01 ∷ 0x00 ∷ []) (0x3F ∷ 0x85 ∷ 0xE3 ∷ 0x56 ∷ 0xD7 ∷ 0x9F ∷ 0xD8 ∷ 0x58 ∷ 0x11 ∷ 0x46 ∷ []), 0 ∷ 0x6A ∷ 0x00 ∷ 0x35 ∷ 0x00 ∷ 0x4C ∷ 0x00 ∷ 0x00 ∷ 0x00 ∷ 0x13 ∷ 0x00 ∷ [])
-    ∷ []
-
-pub singleBits-hold : map (λ r. r .0) singleBits ≡ map (λ r. r .1) singleBits
-unfolding singleBits writeRefusal pageOf pow
-singleBits-hold = refl
-
--- Read out: its number, then the blocks left in a buffer with old bytes; members and others.
-pub readings : List Row
-readings =
-    (readOut A (0xB5 ∷ 0x09 ∷ 0xA5 ∷ 0x14 ∷ []) (0xCD ∷ 0x09 ∷ 0xAE ∷ []), 0 ∷ 0x09 ∷ 0x4A ∷ 0x01 ∷ [])
-    ∷ (readOut B (0x4B ∷ 0x3B ∷ 0xA0 ∷ 0x37 ∷ 0xCA ∷ 0x01 ∷ []) (0x89 ∷ 0xEA ∷ 0x61 ∷ 0x68 ∷ []), 32 ∷ 0x0E ∷ 0x37 ∷ 0x1C ∷ 0x00 ∷ [])
-    ∷ (readOut (sheet 4 2 1 4 5 0 0) (0x00 ∷ 0x00 ∷ 0xFF ∷ 0x7F ∷ []) (0x36 ∷ 0x66 ∷ []), 0 ∷ 0x00 ∷ 0x01 ∷ [])
-    ∷ (readOut (sheet 4 5 2 1 2 2 0) (0x05 ∷ 0x2E ∷ 0x30 ∷ 0x23 ∷ 0x65 ∷ 0x53 ∷ 0x5C ∷ 0x2C ∷ 0xE8 ∷ 0x4C ∷ []) (0x7F ∷ 0x37 ∷ 0xF5 ∷ 0xD5 ∷ 0xD3 ∷ 0xD5 ∷ 0xA9 ∷ 0x40 ∷ []), 32 ∷ 0x2E ∷ 0x23 ∷ 0x36 ∷ 0x05 ∷ 0xC5 ∷ 0x02 ∷ 0xCE ∷ 0x04 ∷ [])
-    ∷ (readOut (sheet 4 5 3 1 2 2 2) (0x23 ∷ 0x12 ∷ 0x80 ∷ 0x1A ∷ 0x74 ∷ 0x15 ∷ 0x6E ∷ 0x60 ∷ 0xA4 ∷ 0x75 ∷ []) (0x39 ∷ 0xBE ∷ 0xAC ∷ 0xFC ∷ 0x06 ∷ 0x43 ∷ 0xDB ∷ []), 0 ∷ 0x12 ∷ 0x1A ∷ 0x15 ∷ 0x06 ∷ 0x06 ∷ 0x5A ∷ 0x07 ∷ [])
-    ∷ (readOut (sheet 4 3 2 2 5 7 0) (0x18 ∷ 0x21 ∷ 0x9C ∷ 0x24 ∷ 0x05 ∷ 0x4B ∷ []) (0x57 ∷ 0x30 ∷ 0x33 ∷ []), 32 ∷ 0x00 ∷ 0x00 ∷ 0x4B ∷ [])
-    ∷ (readOut (sheet 4 3 2 6 7 7 0) (0x00 ∷ 0x00 ∷ 0xFF ∷ 0x7F ∷ 0x00 ∷ 0x00 ∷ []) (0x89 ∷ 0x9A ∷ 0xA3 ∷ []), 0 ∷ 0x00 ∷ 0x01 ∷ 0x00 ∷ [])
-    ∷ (readOut (sheet 4 4 1 1 2 0 0) (0x79 ∷ 0x31 ∷ 0x5A ∷ 0x28 ∷ 0x65 ∷ 0x44 ∷ 0x50 ∷ 0x3C ∷ []) (0xD2 ∷ 0x64 ∷ 0xB2 ∷ 0x45 ∷ 0x87 ∷ 0x9F ∷ 0x2F ∷ []), 32 ∷ 0x31 ∷ 0x85 ∷ 0x02 ∷ 0x46 ∷ 0x04 ∷ 0xC5 ∷ 0x03 ∷ [])
-    ∷ (readOut (sheet 4 5 1 1 2 0 0) (0x49 ∷ 0x4D ∷ 0xF0 ∷ 0x49 ∷ 0x75 ∷ 0x74 ∷ 0x28 ∷ 0x2E ∷ 0x18 ∷ 0x70 ∷ []) (0xD9 ∷ 0x4C ∷ 0x0A ∷ 0x98 ∷ 0xBF ∷ 0x40 ∷ 0x2E ∷ 0x30 ∷ 0xE8 ∷ []), 0 ∷ 0x4D ∷ 0x9F ∷ 0x04 ∷ 0x47 ∷ 0x07 ∷ 0xE2 ∷ 0x02 ∷ 0x01 ∷ 0x07 ∷ [])
-    ∷ (readOut (sheet 4 3 1 2 3 0 0) (0x31 ∷ 0x01 ∷ 0x5F ∷ 0x55 ∷ 0x6B ∷ 0x44 ∷ []) (0x46 ∷ 0x52 ∷ 0x13 ∷ []), 32 ∷ 0x00 ∷ 0x55 ∷ 0x44 ∷ [])
-    ∷ (readOut (sheet 4 2 1 3 7 0 0) (0xB8 ∷ 0x29 ∷ 0xB8 ∷ 0x29 ∷ []) (0xCB ∷ 0x56 ∷ []), 0 ∷ 0x00 ∷ 0x0A ∷ [])
-    ∷ (readOut (sheet 4 3 2 1 3 3 0) (0xCB ∷ 0x44 ∷ 0xF6 ∷ 0x05 ∷ 0x0C ∷ 0x1D ∷ []) (0x80 ∷ 0x36 ∷ 0xE2 ∷ 0x46 ∷ []), 32 ∷ 0x11 ∷ 0x01 ∷ 0xD0 ∷ 0x01 ∷ [])
-    ∷ (readOut (sheet 4 4 3 1 2 2 2) (0x9A ∷ 0x5A ∷ 0x99 ∷ 0x61 ∷ 0xAC ∷ 0x3E ∷ 0x9C ∷ 0x73 ∷ []) (0xEA ∷ 0xD2 ∷ 0xCD ∷ 0xCF ∷ 0x2B ∷ []), 0 ∷ 0x5A ∷ 0x61 ∷ 0x3E ∷ 0x39 ∷ 0x07 ∷ [])
-    ∷ []
-
-pub readings-hold : map (λ r. r .0) readings ≡ map (λ r. r .1) readings
-unfolding readings readAnswer readLeaves pow
-readings-hold = refl
-
--- Judge: its number, then its values; a member, then the same with flipped bits in sub-words i and later.
-pub verdicts : List Row
-verdicts =
-    (judged B (0x81 ∷ 0x68 ∷ 0x6A ∷ 0x79 ∷ 0xFF ∷ 0x7F ∷ []), 0 ∷ [])
-    ∷ (judged B (0x81 ∷ 0x69 ∷ 0x68 ∷ 0x79 ∷ 0xFF ∷ 0x77 ∷ []), 32 ∷ 0 ∷ [])
-    ∷ (judged B (0x81 ∷ 0x68 ∷ 0x6A ∷ 0x7B ∷ 0xFF ∷ 0x7D ∷ []), 33 ∷ 1 ∷ [])
-    ∷ (judged B (0x81 ∷ 0x68 ∷ 0x6A ∷ 0x79 ∷ 0xFF ∷ 0x7E ∷ []), 34 ∷ 2 ∷ [])
-    ∷ (judged (sheet 4 5 3 1 2 2 2) (0x7A ∷ 0x1D ∷ 0x3E ∷ 0x63 ∷ 0x86 ∷ 0x20 ∷ 0xC9 ∷ 0x57 ∷ 0xDA ∷ 0x08 ∷ []), 0 ∷ [])
-    ∷ (judged (sheet 4 5 3 1 2 2 2) (0x7A ∷ 0x0D ∷ 0x3E ∷ 0x63 ∷ 0x86 ∷ 0x20 ∷ 0xC9 ∷ 0x47 ∷ 0xDA ∷ 0x08 ∷ []), 32 ∷ 0 ∷ [])
-    ∷ (judged (sheet 4 5 3 1 2 2 2) (0x7A ∷ 0x1D ∷ 0xBE ∷ 0x63 ∷ 0x86 ∷ 0x20 ∷ 0xC9 ∷ 0x57 ∷ 0xDA ∷ 0x08 ∷ []), 33 ∷ 1 ∷ [])
-    ∷ (judged (sheet 4 5 3 1 2 2 2) (0x7A ∷ 0x1D ∷ 0x3E ∷ 0x63 ∷ 0xA6 ∷ 0x20 ∷ 0xC9 ∷ 0x57 ∷ 0xDA ∷ 0x08 ∷ []), 34 ∷ 2 ∷ [])
-    ∷ (judged (sheet 4 5 3 1 2 2 2) (0x7A ∷ 0x1D ∷ 0x3E ∷ 0x63 ∷ 0x86 ∷ 0x20 ∷ 0xC9 ∷ 0x17 ∷ 0xDA ∷ 0x18 ∷ []), 35 ∷ 3 ∷ [])
-    ∷ (judged (sheet 4 5 3 1 2 2 2) (0x7A ∷ 0x1D ∷ 0x3E ∷ 0x63 ∷ 0x86 ∷ 0x20 ∷ 0xC9 ∷ 0x57 ∷ 0xDA ∷ 0x09 ∷ []), 36 ∷ 4 ∷ [])
-    ∷ []
-
-pub verdicts-hold : map (λ r. r .0) verdicts ≡ map (λ r. r .1) verdicts
-unfolding verdicts judgeAnswer pow
-verdicts-hold = refl
-
--- Judge on pages whose sub-words all hold: the lowest nested word that fails.
-pub nestedVerdicts : List Row
-nestedVerdicts =
-    (judged A (0x5E ∷ 0x61 ∷ 0x16 ∷ 0x34 ∷ []), 64 ∷ 0 ∷ [])
-    ∷ (judged B (0x8C ∷ 0x5B ∷ 0xD8 ∷ 0x2B ∷ 0x37 ∷ 0x6F ∷ []), 64 ∷ 0 ∷ [])
-    ∷ (judged B (0x3D ∷ 0x21 ∷ 0x32 ∷ 0x31 ∷ 0xCD ∷ 0x5D ∷ []), 65 ∷ 1 ∷ [])
-    ∷ (judged (sheet 4 5 2 1 2 2 0) (0xDA ∷ 0x71 ∷ 0xA0 ∷ 0x4A ∷ 0x4D ∷ 0x3E ∷ 0x4C ∷ 0x13 ∷ 0x68 ∷ 0x5A ∷ []), 65 ∷ 1 ∷ [])
-    ∷ (judged (sheet 4 5 3 1 2 2 2) (0x08 ∷ 0x14 ∷ 0x86 ∷ 0x33 ∷ 0x63 ∷ 0x0C ∷ 0xC8 ∷ 0x25 ∷ 0xE0 ∷ 0x61 ∷ []), 65 ∷ 1 ∷ [])
-    ∷ (judged (sheet 4 5 3 1 2 2 2) (0xF6 ∷ 0x3F ∷ 0xCC ∷ 0x3C ∷ 0xEC ∷ 0x15 ∷ 0x2F ∷ 0x39 ∷ 0x68 ∷ 0x5A ∷ []), 66 ∷ 2 ∷ [])
-    ∷ (judged B (0xFF ∷ 0x7F ∷ 0xFF ∷ 0x7F ∷ 0xFF ∷ 0x7F ∷ []), 0 ∷ [])
-    ∷ (judged (sheet 4 2 1 4 5 0 0) (0xFF ∷ 0x7F ∷ 0x00 ∷ 0x00 ∷ []), 0 ∷ [])
-    ∷ (judged B (0x13 ∷ 0x00 ∷ 0x00 ∷ 0x00 ∷ 0x00 ∷ 0x00 ∷ []), 64 ∷ 0 ∷ [])
-    ∷ []
-
-pub nestedVerdicts-hold : map (λ r. r .0) nestedVerdicts ≡ map (λ r. r .1) nestedVerdicts
-unfolding nestedVerdicts judgeAnswer pow
-nestedVerdicts-hold = refl
-
--- The remainder of a sub-word by g_0, in 96 bytes.
-pub remainders : List Row
-remainders =
-    (remainderMade A (0x0C ∷ 0x3E ∷ 0x2F ∷ 0x59 ∷ []) 0 (replicate 96 0xAA), 0 ∷ 0x0D ∷ replicate 95 0x00)
-    ∷ (remainderMade A (0x0C ∷ 0x3E ∷ 0x2F ∷ 0x59 ∷ []) 1 (replicate 96 0xAA), 0 ∷ 0x04 ∷ replicate 95 0x00)
-    ∷ (remainderMade B (0xAC ∷ 0x33 ∷ 0xD2 ∷ 0x0E ∷ 0xA4 ∷ 0x2D ∷ []) 0 (replicate 96 0xAA), 0 ∷ 0x0C ∷ replicate 95 0x00)
-    ∷ (remainderMade B (0xAC ∷ 0x33 ∷ 0xD2 ∷ 0x0E ∷ 0xA4 ∷ 0x2D ∷ []) 1 (replicate 96 0xAA), 0 ∷ 0x05 ∷ replicate 95 0x00)
-    ∷ (remainderMade B (0xAC ∷ 0x33 ∷ 0xD2 ∷ 0x0E ∷ 0xA4 ∷ 0x2D ∷ []) 2 (replicate 96 0xAA), 0 ∷ 0x08 ∷ replicate 95 0x00)
-    ∷ (remainderMade (sheet 4 2 1 4 5 0 0) (0x84 ∷ 0x18 ∷ 0xE2 ∷ 0x3D ∷ []) 0 (replicate 96 0xAA), 0 ∷ 0x84 ∷ 0x18 ∷ replicate 94 0x00)
-    ∷ (remainderMade (sheet 4 2 1 4 5 0 0) (0x84 ∷ 0x18 ∷ 0xE2 ∷ 0x3D ∷ []) 1 (replicate 96 0xAA), 0 ∷ 0xE2 ∷ 0x3D ∷ replicate 94 0x00)
-    ∷ (remainderMade (sheet 4 5 3 1 2 2 2) (0xC3 ∷ 0x1E ∷ 0xFB ∷ 0x09 ∷ 0xA2 ∷ 0x6F ∷ 0x78 ∷ 0x0A ∷ 0x5C ∷ 0x5D ∷ []) 0 (replicate 96 0xAA), 0 ∷ 0x08 ∷ replicate 95 0x00)
-    ∷ (remainderMade (sheet 4 5 3 1 2 2 2) (0xC3 ∷ 0x1E ∷ 0xFB ∷ 0x09 ∷ 0xA2 ∷ 0x6F ∷ 0x78 ∷ 0x0A ∷ 0x5C ∷ 0x5D ∷ []) 1 (replicate 96 0xAA), 0 ∷ 0x02 ∷ replicate 95 0x00)
-    ∷ (remainderMade (sheet 4 5 3 1 2 2 2) (0xC3 ∷ 0x1E ∷ 0xFB ∷ 0x09 ∷ 0xA2 ∷ 0x6F ∷ 0x78 ∷ 0x0A ∷ 0x5C ∷ 0x5D ∷ []) 2 (replicate 96 0xAA), 0 ∷ 0x0D ∷ replicate 95 0x00)
-    ∷ (remainderMade (sheet 4 5 3 1 2 2 2) (0xC3 ∷ 0x1E ∷ 0xFB ∷ 0x09 ∷ 0xA2 ∷ 0x6F ∷ 0x78 ∷ 0x0A ∷ 0x5C ∷ 0x5D ∷ []) 3 (replicate 96 0xAA), 0 ∷ 0x05 ∷ replicate 95 0x00)
-    ∷ (remainderMade (sheet 4 5 3 1 2 2 2) (0xC3 ∷ 0x1E ∷ 0xFB ∷ 0x09 ∷ 0xA2 ∷ 0x6F ∷ 0x78 ∷ 0x0A ∷ 0x5C ∷ 0x5D ∷ []) 4 (replicate 96 0xAA), 0 ∷ 0x09 ∷ replicate 95 0x00)
-    ∷ (remainderMade (sheet 4 3 2 2 5 7 0) (0xE9 ∷ 0x40 ∷ 0xD9 ∷ 0x78 ∷ 0x3D ∷ 0x6E ∷ []) 0 (replicate 96 0xAA), 0 ∷ 0x01 ∷ replicate 95 0x00)
-    ∷ (remainderMade (sheet 4 3 2 2 5 7 0) (0xE9 ∷ 0x40 ∷ 0xD9 ∷ 0x78 ∷ 0x3D ∷ 0x6E ∷ []) 1 (replicate 96 0xAA), 0 ∷ 0x62 ∷ replicate 95 0x00)
-    ∷ (remainderMade (sheet 4 3 2 2 5 7 0) (0xE9 ∷ 0x40 ∷ 0xD9 ∷ 0x78 ∷ 0x3D ∷ 0x6E ∷ []) 2 (replicate 96 0xAA), 0 ∷ 0x29 ∷ replicate 95 0x00)
-    ∷ []
-
-pub remainders-hold : map (λ r. r .0) remainders ≡ map (λ r. r .1) remainders
-unfolding remainders wordRefusal remainderBytes pow
-remainders-hold = refl
-
--- The short remainder of a nested word by g_(v-l) / g_0, in 96 bytes.
-pub shortRemainders : List Row
-shortRemainders =
-    (shortMade A (0x13 ∷ 0x1F ∷ 0x51 ∷ 0x64 ∷ []) 0 (replicate 96 0xAA), 0 ∷ 0x06 ∷ replicate 95 0x00)
-    ∷ (shortMade B (0x64 ∷ 0x20 ∷ 0x6A ∷ 0x19 ∷ 0x57 ∷ 0x15 ∷ []) 0 (replicate 96 0xAA), 0 ∷ 0x31 ∷ replicate 95 0x00)
-    ∷ (shortMade B (0x64 ∷ 0x20 ∷ 0x6A ∷ 0x19 ∷ 0x57 ∷ 0x15 ∷ []) 1 (replicate 96 0xAA), 0 ∷ 0x02 ∷ replicate 95 0x00)
-    ∷ (shortMade (sheet 4 2 1 4 5 0 0) (0xA9 ∷ 0x30 ∷ 0x9C ∷ 0x72 ∷ []) 0 (replicate 96 0xAA), 0 ∷ replicate 96 0x00)
-    ∷ (shortMade (sheet 4 5 2 1 2 2 0) (0xEB ∷ 0x45 ∷ 0x6A ∷ 0x02 ∷ 0xF7 ∷ 0x22 ∷ 0x09 ∷ 0x0B ∷ 0x67 ∷ 0x70 ∷ []) 0 (replicate 96 0xAA), 0 ∷ 0x0F ∷ replicate 95 0x00)
-    ∷ (shortMade (sheet 4 5 2 1 2 2 0) (0xEB ∷ 0x45 ∷ 0x6A ∷ 0x02 ∷ 0xF7 ∷ 0x22 ∷ 0x09 ∷ 0x0B ∷ 0x67 ∷ 0x70 ∷ []) 1 (replicate 96 0xAA), 0 ∷ 0x08 ∷ replicate 95 0x00)
-    ∷ (shortMade (sheet 4 5 3 1 2 2 2) (0x87 ∷ 0x08 ∷ 0x5B ∷ 0x12 ∷ 0xB2 ∷ 0x78 ∷ 0x43 ∷ 0x11 ∷ 0x77 ∷ 0x59 ∷ []) 0 (replicate 96 0xAA), 0 ∷ 0x02 ∷ replicate 95 0x00)
-    ∷ (shortMade (sheet 4 5 3 1 2 2 2) (0x87 ∷ 0x08 ∷ 0x5B ∷ 0x12 ∷ 0xB2 ∷ 0x78 ∷ 0x43 ∷ 0x11 ∷ 0x77 ∷ 0x59 ∷ []) 1 (replicate 96 0xAA), 0 ∷ 0x0F ∷ replicate 95 0x00)
-    ∷ (shortMade (sheet 4 5 3 1 2 2 2) (0x87 ∷ 0x08 ∷ 0x5B ∷ 0x12 ∷ 0xB2 ∷ 0x78 ∷ 0x43 ∷ 0x11 ∷ 0x77 ∷ 0x59 ∷ []) 2 (replicate 96 0xAA), 0 ∷ 0x08 ∷ replicate 95 0x00)
-    ∷ []
-
-pub shortRemainders-hold : map (λ r. r .0) shortRemainders ≡ map (λ r. r .1) shortRemainders
-unfolding shortRemainders wordRefusal shortBytes pow
-shortRemainders-hold = refl
-
--- Nested words, their bits turned round.
-pub nestedWords : List Row
-nestedWords =
-    (nestedMade A (0x35 ∷ 0x6C ∷ 0xE3 ∷ 0x48 ∷ []) 0 (0xFF ∷ 0xFF ∷ []), 0 ∷ 0xD6 ∷ 0x24 ∷ [])
-    ∷ (nestedMade A (0x00 ∷ 0x40 ∷ 0x00 ∷ 0x40 ∷ []) 0 (0xFF ∷ 0xFF ∷ []), 0 ∷ 0x00 ∷ 0x00 ∷ [])
-    ∷ (nestedMade B (0x06 ∷ 0x69 ∷ 0x43 ∷ 0x43 ∷ 0x3C ∷ 0x7B ∷ []) 0 (0xFF ∷ 0xFF ∷ []), 0 ∷ 0x79 ∷ 0x51 ∷ [])
-    ∷ (nestedMade B (0x06 ∷ 0x69 ∷ 0x43 ∷ 0x43 ∷ 0x3C ∷ 0x7B ∷ []) 1 (0xFF ∷ 0xFF ∷ []), 0 ∷ 0x72 ∷ 0x03 ∷ [])
-    ∷ (nestedMade B (0x00 ∷ 0x40 ∷ 0x00 ∷ 0x40 ∷ 0x00 ∷ 0x40 ∷ []) 0 (0xFF ∷ 0xFF ∷ []), 0 ∷ 0x00 ∷ 0x40 ∷ [])
-    ∷ (nestedMade B (0x00 ∷ 0x40 ∷ 0x00 ∷ 0x40 ∷ 0x00 ∷ 0x40 ∷ []) 1 (0xFF ∷ 0xFF ∷ []), 0 ∷ 0x03 ∷ 0x40 ∷ [])
-    ∷ (nestedMade (sheet 4 5 2 1 2 2 0) (0xA2 ∷ 0x49 ∷ 0x98 ∷ 0x75 ∷ 0x3F ∷ 0x21 ∷ 0xE6 ∷ 0x74 ∷ 0x45 ∷ 0x78 ∷ []) 0 (0xFF ∷ 0xFF ∷ []), 0 ∷ 0xA6 ∷ 0x11 ∷ [])
-    ∷ (nestedMade (sheet 4 5 2 1 2 2 0) (0xA2 ∷ 0x49 ∷ 0x98 ∷ 0x75 ∷ 0x3F ∷ 0x21 ∷ 0xE6 ∷ 0x74 ∷ 0x45 ∷ 0x78 ∷ []) 1 (0xFF ∷ 0xFF ∷ []), 0 ∷ 0x06 ∷ 0x05 ∷ [])
-    ∷ (nestedMade (sheet 4 5 2 1 2 2 0) (0x00 ∷ 0x40 ∷ 0x00 ∷ 0x40 ∷ 0x00 ∷ 0x40 ∷ 0x00 ∷ 0x40 ∷ 0x00 ∷ 0x40 ∷ []) 0 (0xFF ∷ 0xFF ∷ []), 0 ∷ 0x00 ∷ 0x40 ∷ [])
-    ∷ (nestedMade (sheet 4 5 2 1 2 2 0) (0x00 ∷ 0x40 ∷ 0x00 ∷ 0x40 ∷ 0x00 ∷ 0x40 ∷ 0x00 ∷ 0x40 ∷ 0x00 ∷ 0x40 ∷ []) 1 (0xFF ∷ 0xFF ∷ []), 0 ∷ 0x0F ∷ 0x40 ∷ [])
-    ∷ (nestedMade (sheet 4 5 3 1 2 2 2) (0xE4 ∷ 0x48 ∷ 0x71 ∷ 0x46 ∷ 0x93 ∷ 0x03 ∷ 0x8B ∷ 0x7F ∷ 0x86 ∷ 0x23 ∷ []) 0 (0xFF ∷ 0xFF ∷ []), 0 ∷ 0x0B ∷ 0x51 ∷ [])
-    ∷ (nestedMade (sheet 4 5 3 1 2 2 2) (0xE4 ∷ 0x48 ∷ 0x71 ∷ 0x46 ∷ 0x93 ∷ 0x03 ∷ 0x8B ∷ 0x7F ∷ 0x86 ∷ 0x23 ∷ []) 1 (0xFF ∷ 0xFF ∷ []), 0 ∷ 0x70 ∷ 0x0E ∷ [])
-    ∷ (nestedMade (sheet 4 5 3 1 2 2 2) (0xE4 ∷ 0x48 ∷ 0x71 ∷ 0x46 ∷ 0x93 ∷ 0x03 ∷ 0x8B ∷ 0x7F ∷ 0x86 ∷ 0x23 ∷ []) 2 (0xFF ∷ 0xFF ∷ []), 0 ∷ 0xAA ∷ 0x0C ∷ [])
-    ∷ (nestedMade (sheet 4 5 3 1 2 2 2) (0x00 ∷ 0x40 ∷ 0x00 ∷ 0x40 ∷ 0x00 ∷ 0x40 ∷ 0x00 ∷ 0x40 ∷ 0x00 ∷ 0x40 ∷ []) 0 (0xFF ∷ 0xFF ∷ []), 0 ∷ 0x00 ∷ 0x40 ∷ [])
-    ∷ (nestedMade (sheet 4 5 3 1 2 2 2) (0x00 ∷ 0x40 ∷ 0x00 ∷ 0x40 ∷ 0x00 ∷ 0x40 ∷ 0x00 ∷ 0x40 ∷ 0x00 ∷ 0x40 ∷ []) 1 (0xFF ∷ 0xFF ∷ []), 0 ∷ 0x0F ∷ 0x40 ∷ [])
-    ∷ (nestedMade (sheet 4 5 3 1 2 2 2) (0x00 ∷ 0x40 ∷ 0x00 ∷ 0x40 ∷ 0x00 ∷ 0x40 ∷ 0x00 ∷ 0x40 ∷ 0x00 ∷ 0x40 ∷ []) 2 (0xFF ∷ 0xFF ∷ []), 0 ∷ 0xAA ∷ 0x40 ∷ [])
-    ∷ (nestedMade (sheet 4 3 2 2 5 7 0) (0xF2 ∷ 0x3F ∷ 0x43 ∷ 0x63 ∷ 0x0C ∷ 0x03 ∷ []) 0 (0xFF ∷ 0xFF ∷ []), 0 ∷ 0xBD ∷ 0x5F ∷ [])
-    ∷ (nestedMade (sheet 4 3 2 2 5 7 0) (0xF2 ∷ 0x3F ∷ 0x43 ∷ 0x63 ∷ 0x0C ∷ 0x03 ∷ []) 1 (0xFF ∷ 0xFF ∷ []), 0 ∷ 0x45 ∷ 0x75 ∷ [])
-    ∷ (nestedMade (sheet 4 3 2 2 5 7 0) (0x00 ∷ 0x40 ∷ 0x00 ∷ 0x40 ∷ 0x00 ∷ 0x40 ∷ []) 0 (0xFF ∷ 0xFF ∷ []), 0 ∷ 0x00 ∷ 0x40 ∷ [])
-    ∷ (nestedMade (sheet 4 3 2 2 5 7 0) (0x00 ∷ 0x40 ∷ 0x00 ∷ 0x40 ∷ 0x00 ∷ 0x40 ∷ []) 1 (0xFF ∷ 0xFF ∷ []), 0 ∷ 0x03 ∷ 0x40 ∷ [])
-    ∷ []
-
-pub nestedWords-hold : map (λ r. r .0) nestedWords ≡ map (λ r. r .1) nestedWords
-unfolding nestedWords wordRefusal nestedWordBytes
-nestedWords-hold = refl
+pub nestings-hold : map (λ r. r .0) nestings ≡ map (λ r. r .1) nestings
+unfolding nestings N range
+nestings-hold = refl
 
 -- The sums Σ N(i, l) × c_i of the equal form.
 pub newtonSums : List Row
 newtonSums =
-    (newton 0 (wordsOf A (0xAC ∷ 0x76 ∷ 0xBE ∷ 0x79 ∷ [])) ∷ [], 3858 ∷ [])
-    ∷ (newton 0 (wordsOf B (0x4C ∷ 0x69 ∷ 0x3F ∷ 0x7A ∷ 0x4D ∷ 0x5A ∷ [])) ∷ [], 18750 ∷ [])
-    ∷ (newton 1 (wordsOf B (0x4C ∷ 0x69 ∷ 0x3F ∷ 0x7A ∷ 0x4D ∷ 0x5A ∷ [])) ∷ [], 38120 ∷ [])
-    ∷ (newton 0 (wordsOf (sheet 4 5 2 1 2 2 0) (0x09 ∷ 0x4C ∷ 0x69 ∷ 0x77 ∷ 0x2F ∷ 0x7D ∷ 0xF5 ∷ 0x61 ∷ 0x7A ∷ 0x1B ∷ [])) ∷ [], 15552 ∷ [])
-    ∷ (newton 1 (wordsOf (sheet 4 5 2 1 2 2 0) (0x09 ∷ 0x4C ∷ 0x69 ∷ 0x77 ∷ 0x2F ∷ 0x7D ∷ 0xF5 ∷ 0x61 ∷ 0x7A ∷ 0x1B ∷ [])) ∷ [], 85605 ∷ [])
-    ∷ (newton 0 (wordsOf (sheet 4 5 3 1 2 2 2) (0x47 ∷ 0x61 ∷ 0x1B ∷ 0x73 ∷ 0xB6 ∷ 0x7D ∷ 0x76 ∷ 0x11 ∷ 0x00 ∷ 0x4A ∷ [])) ∷ [], 13468 ∷ [])
-    ∷ (newton 1 (wordsOf (sheet 4 5 3 1 2 2 2) (0x47 ∷ 0x61 ∷ 0x1B ∷ 0x73 ∷ 0xB6 ∷ 0x7D ∷ 0x76 ∷ 0x11 ∷ 0x00 ∷ 0x4A ∷ [])) ∷ [], 206211 ∷ [])
-    ∷ (newton 2 (wordsOf (sheet 4 5 3 1 2 2 2) (0x47 ∷ 0x61 ∷ 0x1B ∷ 0x73 ∷ 0xB6 ∷ 0x7D ∷ 0x76 ∷ 0x11 ∷ 0x00 ∷ 0x4A ∷ [])) ∷ [], 402932 ∷ [])
+    (newton 0 (wordsOf A (0xF3 ∷ 0x4F ∷ 0x9E ∷ 0x66 ∷ [])) ∷ [], 10605 ∷ [])
+    ∷ (newton 0 (wordsOf B (0x3F ∷ 0x38 ∷ 0x28 ∷ 0x62 ∷ 0xB6 ∷ 0x3E ∷ [])) ∷ [], 25761 ∷ [])
+    ∷ (newton 1 (wordsOf B (0x5E ∷ 0x41 ∷ 0xC2 ∷ 0x3C ∷ 0x1A ∷ 0x27 ∷ [])) ∷ [], 21996 ∷ [])
+    ∷ (newton 1 (wordsOf (sheet 4 5 2 1 2 2 0) (0x7C ∷ 0x3F ∷ 0xA1 ∷ 0x73 ∷ 0x55 ∷ 0x72 ∷ 0x78 ∷ 0x4A ∷ 0x3E ∷ 0x1C ∷ [])) ∷ [], 108412 ∷ [])
+    ∷ (newton 2 (wordsOf (sheet 4 5 3 1 2 2 2) (0x88 ∷ 0x48 ∷ 0xA0 ∷ 0x23 ∷ 0x53 ∷ 0x27 ∷ 0x59 ∷ 0x68 ∷ 0x33 ∷ 0x6C ∷ [])) ∷ [], 272417 ∷ [])
     ∷ []
 
 pub newtonSums-hold : map (λ r. r .0) newtonSums ≡ map (λ r. r .1) newtonSums
 unfolding newtonSums wordsOf combine N
 newtonSums-hold = refl
 
--- Syndromes of a sub-word, as numbers and as C takes them.
-pub syndromeLists : List Row
-syndromeLists =
-    (syndromesMade A (0x93 ∷ 0x2E ∷ 0x31 ∷ 0x1A ∷ []) 0 (0xAA ∷ 0xAA ∷ []), 0 ∷ 5 ∷ 2 ∷ [])
-    ∷ (syndromesMade A (0x93 ∷ 0x2E ∷ 0x31 ∷ 0x1A ∷ []) 1 (0xAA ∷ 0xAA ∷ []), 0 ∷ 15 ∷ 10 ∷ [])
-    ∷ (syndromesMadeC A (0x93 ∷ 0x2E ∷ 0x31 ∷ 0x1A ∷ []) 1 (0xAA ∷ 0xAA ∷ 0xAA ∷ 0xAA ∷ []), 0 ∷ 15 ∷ 0 ∷ 10 ∷ 0 ∷ [])
-    ∷ (syndromesMade B (0xFE ∷ 0x53 ∷ 0x2A ∷ 0x76 ∷ 0x40 ∷ 0x44 ∷ []) 0 (0xAA ∷ 0xAA ∷ []), 0 ∷ 5 ∷ 2 ∷ [])
-    ∷ (syndromesMade B (0xFE ∷ 0x53 ∷ 0x2A ∷ 0x76 ∷ 0x40 ∷ 0x44 ∷ []) 2 (0xAA ∷ 0xAA ∷ []), 0 ∷ 2 ∷ 4 ∷ [])
-    ∷ (syndromesMadeC B (0xFE ∷ 0x53 ∷ 0x2A ∷ 0x76 ∷ 0x40 ∷ 0x44 ∷ []) 1 (0xAA ∷ 0xAA ∷ 0xAA ∷ 0xAA ∷ []), 0 ∷ 10 ∷ 0 ∷ 8 ∷ 0 ∷ [])
-    ∷ (syndromesMade (sheet 4 2 1 4 5 0 0) (0x80 ∷ 0x2A ∷ 0xD5 ∷ 0x46 ∷ []) 0 (replicate 8 0xAA), 0 ∷ 2 ∷ 4 ∷ 1 ∷ 3 ∷ 6 ∷ 1 ∷ 13 ∷ 5 ∷ [])
-    ∷ (syndromesMade (sheet 4 2 1 4 5 0 0) (0x80 ∷ 0x2A ∷ 0xD5 ∷ 0x46 ∷ []) 1 (replicate 8 0xAA), 0 ∷ 5 ∷ 2 ∷ 7 ∷ 4 ∷ 7 ∷ 6 ∷ 3 ∷ 3 ∷ [])
-    ∷ (syndromesMadeC (sheet 4 2 1 4 5 0 0) (0x80 ∷ 0x2A ∷ 0xD5 ∷ 0x46 ∷ []) 1 (replicate 16 0xAA), 0 ∷ 5 ∷ 0 ∷ 2 ∷ 0 ∷ 7 ∷ 0 ∷ 4 ∷ 0 ∷ 7 ∷ 0 ∷ 6 ∷ 0 ∷ 3 ∷ 0 ∷ 3 ∷ 0 ∷ [])
-    ∷ (syndromesMade (sheet 4 5 3 1 2 2 2) (0xEF ∷ 0x2C ∷ 0xFF ∷ 0x67 ∷ 0xBE ∷ 0x37 ∷ 0xC9 ∷ 0x24 ∷ 0x63 ∷ 0x0F ∷ []) 0 (0xAA ∷ 0xAA ∷ []), 0 ∷ 10 ∷ 8 ∷ [])
-    ∷ (syndromesMade (sheet 4 5 3 1 2 2 2) (0xEF ∷ 0x2C ∷ 0xFF ∷ 0x67 ∷ 0xBE ∷ 0x37 ∷ 0xC9 ∷ 0x24 ∷ 0x63 ∷ 0x0F ∷ []) 4 (0xAA ∷ 0xAA ∷ []), 0 ∷ 15 ∷ 10 ∷ [])
-    ∷ (syndromesMadeC (sheet 4 5 3 1 2 2 2) (0xEF ∷ 0x2C ∷ 0xFF ∷ 0x67 ∷ 0xBE ∷ 0x37 ∷ 0xC9 ∷ 0x24 ∷ 0x63 ∷ 0x0F ∷ []) 1 (0xAA ∷ 0xAA ∷ 0xAA ∷ 0xAA ∷ []), 0 ∷ 1 ∷ 0 ∷ 1 ∷ 0 ∷ [])
-    ∷ (syndromesMade (sheet 4 3 2 6 7 7 0) (0x22 ∷ 0x6E ∷ 0x54 ∷ 0x0D ∷ 0xD4 ∷ 0x5E ∷ []) 0 (replicate 12 0xAA), 0 ∷ 3 ∷ 5 ∷ 10 ∷ 2 ∷ 0 ∷ 8 ∷ 1 ∷ 4 ∷ 15 ∷ 0 ∷ 1 ∷ 12 ∷ [])
-    ∷ (syndromesMade (sheet 4 3 2 6 7 7 0) (0x22 ∷ 0x6E ∷ 0x54 ∷ 0x0D ∷ 0xD4 ∷ 0x5E ∷ []) 2 (replicate 12 0xAA), 0 ∷ 5 ∷ 2 ∷ 2 ∷ 4 ∷ 0 ∷ 4 ∷ 12 ∷ 3 ∷ 5 ∷ 0 ∷ 8 ∷ 3 ∷ [])
-    ∷ (syndromesMadeC (sheet 4 3 2 6 7 7 0) (0x22 ∷ 0x6E ∷ 0x54 ∷ 0x0D ∷ 0xD4 ∷ 0x5E ∷ []) 1 (replicate 24 0xAA), 0 ∷ 7 ∷ 0 ∷ 6 ∷ 0 ∷ 8 ∷ 0 ∷ 7 ∷ 0 ∷ 6 ∷ 0 ∷ 12 ∷ 0 ∷ 6 ∷ 0 ∷ 6 ∷ 0 ∷ 10 ∷ 0 ∷ 7 ∷ 0 ∷ 7 ∷ 0 ∷ 15 ∷ 0 ∷ [])
-    ∷ (asBytes (0 ∷ 255 ∷ 256 ∷ 4095 ∷ 65535 ∷ []), 0 ∷ 0 ∷ 255 ∷ 0 ∷ 0 ∷ 1 ∷ 255 ∷ 15 ∷ 255 ∷ 255 ∷ [])
+-- What the later words add to the rule of sub-word i, at its level: nothing at level 0.
+pub carries : List Row
+carries =
+    (carried 1 0 (drop 1 (wordsOf A (0x46 ∷ 0x31 ∷ 0x60 ∷ 0x17 ∷ []))) ∷ [], 5984 ∷ [])
+    ∷ (carried 1 1 (drop 2 (wordsOf B (0x04 ∷ 0x51 ∷ 0x61 ∷ 0x04 ∷ 0x29 ∷ 0x19 ∷ []))) ∷ [], 11131 ∷ [])
+    ∷ (carried 3 0 (drop 1 (wordsOf (sheet 4 5 3 1 2 2 2) (0x6E ∷ 0x3A ∷ 0x91 ∷ 0x71 ∷ 0x67 ∷ 0x1B ∷ 0xED ∷ 0x20 ∷ 0xE1 ∷ 0x05 ∷ []))) ∷ [], 20474 ∷ [])
+    ∷ (carried 0 3 (drop 4 (wordsOf (sheet 4 5 3 1 2 2 2) (0x27 ∷ 0x6E ∷ 0xDA ∷ 0x79 ∷ 0x90 ∷ 0x4B ∷ 0x3A ∷ 0x63 ∷ 0x1D ∷ 0x32 ∷ []))) ∷ [], 0 ∷ [])
     ∷ []
 
-pub syndromeLists-hold : map (λ r. r .0) syndromeLists ≡ map (λ r. r .1) syndromeLists
-unfolding syndromeLists wordRefusal syndromeList asBytes
-syndromeLists-hold = refl
+pub carries-hold : map (λ r. r .0) carries ≡ map (λ r. r .1) carries
+unfolding carries carried wordsOf
+carries-hold = refl
 
--- Syndromes of a nested word, as numbers and as C takes them.
-pub nestedSyndromeLists : List Row
-nestedSyndromeLists =
-    (nestedSyndromesMade A (0x41 ∷ 0x44 ∷ 0x92 ∷ 0x2C ∷ []) 0 (0xAA ∷ 0xAA ∷ 0xAA ∷ 0xAA ∷ []), 0 ∷ 13 ∷ 14 ∷ 15 ∷ 11 ∷ [])
-    ∷ (nestedSyndromesMadeC A (0x41 ∷ 0x44 ∷ 0x92 ∷ 0x2C ∷ []) 0 (replicate 8 0xAA), 0 ∷ 13 ∷ 0 ∷ 14 ∷ 0 ∷ 15 ∷ 0 ∷ 11 ∷ 0 ∷ [])
-    ∷ (nestedSyndromesMade B (0x20 ∷ 0x5A ∷ 0x0F ∷ 0x4F ∷ 0x87 ∷ 0x52 ∷ []) 0 (replicate 6 0xAA), 0 ∷ 4 ∷ 3 ∷ 12 ∷ 5 ∷ 7 ∷ 15 ∷ [])
-    ∷ (nestedSyndromesMade B (0x20 ∷ 0x5A ∷ 0x0F ∷ 0x4F ∷ 0x87 ∷ 0x52 ∷ []) 1 (0xAA ∷ 0xAA ∷ 0xAA ∷ 0xAA ∷ []), 0 ∷ 4 ∷ 3 ∷ 6 ∷ 5 ∷ [])
-    ∷ (nestedSyndromesMadeC B (0x20 ∷ 0x5A ∷ 0x0F ∷ 0x4F ∷ 0x87 ∷ 0x52 ∷ []) 0 (replicate 12 0xAA), 0 ∷ 4 ∷ 0 ∷ 3 ∷ 0 ∷ 12 ∷ 0 ∷ 5 ∷ 0 ∷ 7 ∷ 0 ∷ 15 ∷ 0 ∷ [])
-    ∷ (nestedSyndromesMade (sheet 4 2 1 4 5 0 0) (0x2D ∷ 0x0C ∷ 0xCE ∷ 0x3B ∷ []) 0 (replicate 10 0xAA), 0 ∷ 8 ∷ 12 ∷ 14 ∷ 15 ∷ 0 ∷ 11 ∷ 9 ∷ 10 ∷ 13 ∷ 0 ∷ [])
-    ∷ (nestedSyndromesMadeC (sheet 4 2 1 4 5 0 0) (0x2D ∷ 0x0C ∷ 0xCE ∷ 0x3B ∷ []) 0 (replicate 20 0xAA), 0 ∷ 8 ∷ 0 ∷ 12 ∷ 0 ∷ 14 ∷ 0 ∷ 15 ∷ 0 ∷ 0 ∷ 0 ∷ 11 ∷ 0 ∷ 9 ∷ 0 ∷ 10 ∷ 0 ∷ 13 ∷ 0 ∷ 0 ∷ 0 ∷ [])
-    ∷ (nestedSyndromesMade (sheet 4 5 2 1 2 2 0) (0xAC ∷ 0x5A ∷ 0x59 ∷ 0x73 ∷ 0xA5 ∷ 0x79 ∷ 0x74 ∷ 0x32 ∷ 0x97 ∷ 0x4F ∷ []) 0 (0xAA ∷ 0xAA ∷ 0xAA ∷ 0xAA ∷ []), 0 ∷ 12 ∷ 15 ∷ 2 ∷ 10 ∷ [])
-    ∷ (nestedSyndromesMade (sheet 4 5 2 1 2 2 0) (0xAC ∷ 0x5A ∷ 0x59 ∷ 0x73 ∷ 0xA5 ∷ 0x79 ∷ 0x74 ∷ 0x32 ∷ 0x97 ∷ 0x4F ∷ []) 1 (0xAA ∷ 0xAA ∷ 0xAA ∷ 0xAA ∷ []), 0 ∷ 15 ∷ 10 ∷ 9 ∷ 8 ∷ [])
-    ∷ (nestedSyndromesMadeC (sheet 4 5 2 1 2 2 0) (0xAC ∷ 0x5A ∷ 0x59 ∷ 0x73 ∷ 0xA5 ∷ 0x79 ∷ 0x74 ∷ 0x32 ∷ 0x97 ∷ 0x4F ∷ []) 0 (replicate 8 0xAA), 0 ∷ 12 ∷ 0 ∷ 15 ∷ 0 ∷ 2 ∷ 0 ∷ 10 ∷ 0 ∷ [])
-    ∷ (nestedSyndromesMade (sheet 4 5 3 1 2 2 2) (0xF4 ∷ 0x72 ∷ 0xAD ∷ 0x00 ∷ 0xDC ∷ 0x5F ∷ 0x37 ∷ 0x36 ∷ 0xE8 ∷ 0x2A ∷ []) 0 (0xAA ∷ 0xAA ∷ 0xAA ∷ 0xAA ∷ []), 0 ∷ 2 ∷ 4 ∷ 9 ∷ 3 ∷ [])
-    ∷ (nestedSyndromesMade (sheet 4 5 3 1 2 2 2) (0xF4 ∷ 0x72 ∷ 0xAD ∷ 0x00 ∷ 0xDC ∷ 0x5F ∷ 0x37 ∷ 0x36 ∷ 0xE8 ∷ 0x2A ∷ []) 1 (0xAA ∷ 0xAA ∷ 0xAA ∷ 0xAA ∷ []), 0 ∷ 3 ∷ 5 ∷ 4 ∷ 2 ∷ [])
-    ∷ (nestedSyndromesMade (sheet 4 5 3 1 2 2 2) (0xF4 ∷ 0x72 ∷ 0xAD ∷ 0x00 ∷ 0xDC ∷ 0x5F ∷ 0x37 ∷ 0x36 ∷ 0xE8 ∷ 0x2A ∷ []) 2 (0xAA ∷ 0xAA ∷ 0xAA ∷ 0xAA ∷ []), 0 ∷ 15 ∷ 10 ∷ 0 ∷ 8 ∷ [])
-    ∷ (nestedSyndromesMadeC (sheet 4 5 3 1 2 2 2) (0xF4 ∷ 0x72 ∷ 0xAD ∷ 0x00 ∷ 0xDC ∷ 0x5F ∷ 0x37 ∷ 0x36 ∷ 0xE8 ∷ 0x2A ∷ []) 0 (replicate 8 0xAA), 0 ∷ 2 ∷ 0 ∷ 4 ∷ 0 ∷ 9 ∷ 0 ∷ 3 ∷ 0 ∷ [])
-    ∷ (nestedSyndromesMade (sheet 4 3 2 2 5 7 0) (0xA3 ∷ 0x7E ∷ 0x80 ∷ 0x3A ∷ 0x47 ∷ 0x58 ∷ []) 0 (replicate 14 0xAA), 0 ∷ 8 ∷ 12 ∷ 0 ∷ 15 ∷ 1 ∷ 0 ∷ 9 ∷ 10 ∷ 0 ∷ 1 ∷ 11 ∷ 0 ∷ 14 ∷ 13 ∷ [])
-    ∷ (nestedSyndromesMade (sheet 4 3 2 2 5 7 0) (0xA3 ∷ 0x7E ∷ 0x80 ∷ 0x3A ∷ 0x47 ∷ 0x58 ∷ []) 1 (replicate 10 0xAA), 0 ∷ 3 ∷ 5 ∷ 7 ∷ 2 ∷ 7 ∷ 6 ∷ 7 ∷ 4 ∷ 6 ∷ 6 ∷ [])
-    ∷ (nestedSyndromesMadeC (sheet 4 3 2 2 5 7 0) (0xA3 ∷ 0x7E ∷ 0x80 ∷ 0x3A ∷ 0x47 ∷ 0x58 ∷ []) 0 (replicate 28 0xAA), 0 ∷ 8 ∷ 0 ∷ 12 ∷ 0 ∷ 0 ∷ 0 ∷ 15 ∷ 0 ∷ 1 ∷ 0 ∷ 0 ∷ 0 ∷ 9 ∷ 0 ∷ 10 ∷ 0 ∷ 0 ∷ 0 ∷ 1 ∷ 0 ∷ 11 ∷ 0 ∷ 0 ∷ 0 ∷ 14 ∷ 0 ∷ 13 ∷ 0 ∷ [])
+-- g_(v-l) / g_0; 1 where the two are one.
+pub divisors : List Row
+divisors =
+    (map (divisor B) (range 0 2), 93 ∷ 31 ∷ [])
+    ∷ (map (divisor (sheet 4 2 1 4 5 0 0)) (range 0 1), 1 ∷ [])
+    ∷ (map (divisor (sheet 4 5 3 1 2 2 2)) (range 0 3), 31 ∷ 31 ∷ 31 ∷ [])
     ∷ []
 
-pub nestedSyndromeLists-hold : map (λ r. r .0) nestedSyndromeLists ≡ map (λ r. r .1) nestedSyndromeLists
-unfolding nestedSyndromeLists wordRefusal nestedSyndromeList asBytes
-nestedSyndromeLists-hold = refl
+pub divisors-hold : map (λ r. r .0) divisors ≡ map (λ r. r .1) divisors
+unfolding divisors divisor range pow
+divisors-hold = refl
 
 -- Two pages: at how many places they differ; their spare bits count for nothing.
 pub bitsApart : List Row
 bitsApart =
-    (differences A (0x6F ∷ 0x11 ∷ 0x5D ∷ 0x10 ∷ []) (0x21 ∷ 0x4A ∷ 0x31 ∷ 0x34 ∷ []) ∷ [], 15 ∷ [])
-    ∷ (differences A (0x21 ∷ 0x4A ∷ 0x31 ∷ 0x34 ∷ []) (0x6F ∷ 0x11 ∷ 0x5D ∷ 0x10 ∷ []) ∷ [], 15 ∷ [])
-    ∷ (differences A (0x6F ∷ 0x11 ∷ 0x5D ∷ 0x10 ∷ []) (0x6F ∷ 0x11 ∷ 0x5D ∷ 0x10 ∷ []) ∷ [], 0 ∷ [])
-    ∷ (differences A (0x6F ∷ 0x11 ∷ 0x5D ∷ 0x10 ∷ []) (0x6E ∷ 0x11 ∷ 0x5D ∷ 0x50 ∷ []) ∷ [], 2 ∷ [])
+    (differences B (0x72 ∷ 0x15 ∷ 0xC7 ∷ 0x2A ∷ 0xE6 ∷ 0x44 ∷ []) (0x25 ∷ 0x58 ∷ 0x11 ∷ 0x4D ∷ 0x87 ∷ 0x28 ∷ []) ∷ [], 26 ∷ [])
+    ∷ (differences B (0x72 ∷ 0x15 ∷ 0xC7 ∷ 0x2A ∷ 0xE6 ∷ 0x44 ∷ []) (0x72 ∷ 0x15 ∷ 0xC7 ∷ 0x2A ∷ 0xE6 ∷ 0x44 ∷ []) ∷ [], 0 ∷ [])
+    ∷ (differences B (0x72 ∷ 0x15 ∷ 0xC7 ∷ 0x2A ∷ 0xE6 ∷ 0x44 ∷ []) (0x73 ∷ 0x15 ∷ 0xC7 ∷ 0x6A ∷ 0xE6 ∷ 0x44 ∷ []) ∷ [], 2 ∷ [])
     ∷ (differences A (0x00 ∷ 0x00 ∷ 0x00 ∷ 0x00 ∷ []) (0xFF ∷ 0xFF ∷ 0xFF ∷ 0xFF ∷ []) ∷ [], 30 ∷ [])
-    ∷ (differences B (0x7D ∷ 0x3C ∷ 0x26 ∷ 0x2A ∷ 0xC2 ∷ 0x64 ∷ []) (0x14 ∷ 0x2E ∷ 0x7E ∷ 0x29 ∷ 0xA6 ∷ 0x1F ∷ []) ∷ [], 20 ∷ [])
-    ∷ (differences B (0x14 ∷ 0x2E ∷ 0x7E ∷ 0x29 ∷ 0xA6 ∷ 0x1F ∷ []) (0x7D ∷ 0x3C ∷ 0x26 ∷ 0x2A ∷ 0xC2 ∷ 0x64 ∷ []) ∷ [], 20 ∷ [])
-    ∷ (differences B (0x7D ∷ 0x3C ∷ 0x26 ∷ 0x2A ∷ 0xC2 ∷ 0x64 ∷ []) (0x7D ∷ 0x3C ∷ 0x26 ∷ 0x2A ∷ 0xC2 ∷ 0x64 ∷ []) ∷ [], 0 ∷ [])
-    ∷ (differences B (0x7D ∷ 0x3C ∷ 0x26 ∷ 0x2A ∷ 0xC2 ∷ 0x64 ∷ []) (0x7C ∷ 0x3C ∷ 0x26 ∷ 0x6A ∷ 0xC2 ∷ 0x64 ∷ []) ∷ [], 2 ∷ [])
-    ∷ (differences B (replicate 6 0x00) (replicate 6 0xFF) ∷ [], 45 ∷ [])
-    ∷ (differences (sheet 4 5 3 1 2 2 2) (0xCB ∷ 0x59 ∷ 0xA9 ∷ 0x63 ∷ 0x2B ∷ 0x73 ∷ 0x05 ∷ 0x75 ∷ 0xC1 ∷ 0x4E ∷ []) (0x06 ∷ 0x2B ∷ 0x60 ∷ 0x4F ∷ 0xEA ∷ 0x13 ∷ 0xD7 ∷ 0x1E ∷ 0x13 ∷ 0x76 ∷ []) ∷ [], 37 ∷ [])
-    ∷ (differences (sheet 4 5 3 1 2 2 2) (0x06 ∷ 0x2B ∷ 0x60 ∷ 0x4F ∷ 0xEA ∷ 0x13 ∷ 0xD7 ∷ 0x1E ∷ 0x13 ∷ 0x76 ∷ []) (0xCB ∷ 0x59 ∷ 0xA9 ∷ 0x63 ∷ 0x2B ∷ 0x73 ∷ 0x05 ∷ 0x75 ∷ 0xC1 ∷ 0x4E ∷ []) ∷ [], 37 ∷ [])
-    ∷ (differences (sheet 4 5 3 1 2 2 2) (0xCB ∷ 0x59 ∷ 0xA9 ∷ 0x63 ∷ 0x2B ∷ 0x73 ∷ 0x05 ∷ 0x75 ∷ 0xC1 ∷ 0x4E ∷ []) (0xCB ∷ 0x59 ∷ 0xA9 ∷ 0x63 ∷ 0x2B ∷ 0x73 ∷ 0x05 ∷ 0x75 ∷ 0xC1 ∷ 0x4E ∷ []) ∷ [], 0 ∷ [])
-    ∷ (differences (sheet 4 5 3 1 2 2 2) (0xCB ∷ 0x59 ∷ 0xA9 ∷ 0x63 ∷ 0x2B ∷ 0x73 ∷ 0x05 ∷ 0x75 ∷ 0xC1 ∷ 0x4E ∷ []) (0xCA ∷ 0x59 ∷ 0xA9 ∷ 0x23 ∷ 0x2B ∷ 0x73 ∷ 0x05 ∷ 0x75 ∷ 0xC1 ∷ 0x4E ∷ []) ∷ [], 2 ∷ [])
-    ∷ (differences (sheet 4 5 3 1 2 2 2) (replicate 10 0x00) (replicate 10 0xFF) ∷ [], 75 ∷ [])
     ∷ []
 
 pub bitsApart-hold : map (λ r. r .0) bitsApart ≡ map (λ r. r .1) bitsApart
 unfolding bitsApart differences
 bitsApart-hold = refl
 
--- N(i, l) as a bit polynomial, for i and l up to 7; 9 past that.
-pub nestings : List Row
-nestings =
-    (nests 0 0, 0 ∷ 1 ∷ [])
-    ∷ (nests 0 1, 0 ∷ 0 ∷ [])
-    ∷ (nests 0 2, 0 ∷ 0 ∷ [])
-    ∷ (nests 0 3, 0 ∷ 0 ∷ [])
-    ∷ (nests 0 4, 0 ∷ 0 ∷ [])
-    ∷ (nests 0 5, 0 ∷ 0 ∷ [])
-    ∷ (nests 0 6, 0 ∷ 0 ∷ [])
-    ∷ (nests 0 7, 0 ∷ 0 ∷ [])
-    ∷ (nests 1 0, 0 ∷ 1 ∷ [])
-    ∷ (nests 1 1, 0 ∷ 1 ∷ [])
-    ∷ (nests 1 2, 0 ∷ 0 ∷ [])
-    ∷ (nests 1 3, 0 ∷ 0 ∷ [])
-    ∷ (nests 1 4, 0 ∷ 0 ∷ [])
-    ∷ (nests 1 5, 0 ∷ 0 ∷ [])
-    ∷ (nests 1 6, 0 ∷ 0 ∷ [])
-    ∷ (nests 1 7, 0 ∷ 0 ∷ [])
-    ∷ (nests 2 0, 0 ∷ 1 ∷ [])
-    ∷ (nests 2 1, 0 ∷ 3 ∷ [])
-    ∷ (nests 2 2, 0 ∷ 1 ∷ [])
-    ∷ (nests 2 3, 0 ∷ 0 ∷ [])
-    ∷ (nests 2 4, 0 ∷ 0 ∷ [])
-    ∷ (nests 2 5, 0 ∷ 0 ∷ [])
-    ∷ (nests 2 6, 0 ∷ 0 ∷ [])
-    ∷ (nests 2 7, 0 ∷ 0 ∷ [])
-    ∷ (nests 3 0, 0 ∷ 1 ∷ [])
-    ∷ (nests 3 1, 0 ∷ 7 ∷ [])
-    ∷ (nests 3 2, 0 ∷ 7 ∷ [])
-    ∷ (nests 3 3, 0 ∷ 1 ∷ [])
-    ∷ (nests 3 4, 0 ∷ 0 ∷ [])
-    ∷ (nests 3 5, 0 ∷ 0 ∷ [])
-    ∷ (nests 3 6, 0 ∷ 0 ∷ [])
-    ∷ (nests 3 7, 0 ∷ 0 ∷ [])
-    ∷ (nests 4 0, 0 ∷ 1 ∷ [])
-    ∷ (nests 4 1, 0 ∷ 15 ∷ [])
-    ∷ (nests 4 2, 0 ∷ 27 ∷ [])
-    ∷ (nests 4 3, 0 ∷ 15 ∷ [])
-    ∷ (nests 4 4, 0 ∷ 1 ∷ [])
-    ∷ (nests 4 5, 0 ∷ 0 ∷ [])
-    ∷ (nests 4 6, 0 ∷ 0 ∷ [])
-    ∷ (nests 4 7, 0 ∷ 0 ∷ [])
-    ∷ (nests 5 0, 0 ∷ 1 ∷ [])
-    ∷ (nests 5 1, 0 ∷ 31 ∷ [])
-    ∷ (nests 5 2, 0 ∷ 99 ∷ [])
-    ∷ (nests 5 3, 0 ∷ 99 ∷ [])
-    ∷ (nests 5 4, 0 ∷ 31 ∷ [])
-    ∷ (nests 5 5, 0 ∷ 1 ∷ [])
-    ∷ (nests 5 6, 0 ∷ 0 ∷ [])
-    ∷ (nests 5 7, 0 ∷ 0 ∷ [])
-    ∷ (nests 6 0, 0 ∷ 1 ∷ [])
-    ∷ (nests 6 1, 0 ∷ 63 ∷ [])
-    ∷ (nests 6 2, 0 ∷ 403 ∷ [])
-    ∷ (nests 6 3, 0 ∷ 891 ∷ [])
-    ∷ (nests 6 4, 0 ∷ 403 ∷ [])
-    ∷ (nests 6 5, 0 ∷ 63 ∷ [])
-    ∷ (nests 6 6, 0 ∷ 1 ∷ [])
-    ∷ (nests 6 7, 0 ∷ 0 ∷ [])
-    ∷ (nests 7 0, 0 ∷ 1 ∷ [])
-    ∷ (nests 7 1, 0 ∷ 127 ∷ [])
-    ∷ (nests 7 2, 0 ∷ 1651 ∷ [])
-    ∷ (nests 7 3, 0 ∷ 6731 ∷ [])
-    ∷ (nests 7 4, 0 ∷ 6731 ∷ [])
-    ∷ (nests 7 5, 0 ∷ 1651 ∷ [])
-    ∷ (nests 7 6, 0 ∷ 127 ∷ [])
-    ∷ (nests 7 7, 0 ∷ 1 ∷ [])
-    ∷ (nests 8 0, 9 ∷ [])
-    ∷ (nests 0 8, 9 ∷ [])
-    ∷ (nests 8 8, 9 ∷ [])
-    ∷ (nests 7 9, 9 ∷ [])
-    ∷ (nests 18446744073709551615 0, 9 ∷ [])
-    ∷ (nests 0 18446744073709551615, 9 ∷ [])
-    ∷ (nests 18446744073709551615 18446744073709551615, 9 ∷ [])
-    ∷ (nests 18446744073709551615 3, 9 ∷ [])
+-- The distance.
+pub distances : List Row
+distances =
+    (map distance (A ∷ B ∷ (sheet 4 2 1 4 5 0 0) ∷ (sheet 4 5 2 1 2 2 0) ∷ (sheet 4 5 3 1 2 2 2) ∷ (sheet 4 3 2 2 5 7 0) ∷ (sheet 4 3 2 6 7 7 0) ∷ (sheet 4 4 1 1 2 0 0) ∷ (sheet 4 5 1 1 2 0 0) ∷ (sheet 4 3 1 2 3 0 0) ∷ (sheet 4 2 1 3 7 0 0) ∷ (sheet 4 3 2 1 3 3 0) ∷ (sheet 4 4 3 1 2 2 2) ∷ (sheet 8 8 3 1 2 2 2) ∷ (sheet 12 8 3 28 32 39 58) ∷ []), 5 ∷ 7 ∷ 11 ∷ 5 ∷ 5 ∷ 15 ∷ 15 ∷ 5 ∷ 5 ∷ 7 ∷ 14 ∷ 7 ∷ 5 ∷ 5 ∷ 117 ∷ [])
     ∷ []
 
-pub nestings-hold : map (λ r. r .0) nestings ≡ map (λ r. r .1) nestings
-unfolding nestings nesting N
-nestings-hold = refl
+pub distances-hold : map (λ r. r .0) distances ≡ map (λ r. r .1) distances
+unfolding distances distance
+distances-hold = refl
 
--- The writer program: input bytes to output bytes.
+-- Lists added place by place; the longer list keeps its tail.
+pub sums : List Row
+sums =
+    (add (0xCA ∷ 0xFA ∷ 0x1A ∷ 0x54 ∷ []) (0x5D ∷ 0x50 ∷ 0x5D ∷ 0x82 ∷ []), 0x97 ∷ 0xAA ∷ 0x47 ∷ 0xD6 ∷ [])
+    ∷ (add (0x09 ∷ 0xCD ∷ 0x71 ∷ []) (0x1B ∷ 0x4C ∷ 0x55 ∷ 0x14 ∷ 0x56 ∷ []), 0x12 ∷ 0x81 ∷ 0x24 ∷ 0x14 ∷ 0x56 ∷ [])
+    ∷ []
+
+pub sums-hold : map (λ r. r .0) sums ≡ map (λ r. r .1) sums
+unfolding sums xor
+sums-hold = refl
+
+-- A polynomial cut for feeding, highest power first: the parts' widths, and the parts.
+pub cuts : List Row
+cuts =
+    (map (λ u. u .0) (cut 0x25A0 (3 ∷ 8 ∷ 4 ∷ [])), 3 ∷ 8 ∷ 4 ∷ [])
+    ∷ (map (λ u. u .1) (cut 0x25A0 (3 ∷ 8 ∷ 4 ∷ [])), 2 ∷ 90 ∷ 0 ∷ [])
+    ∷ []
+
+pub cuts-hold : map (λ r. r .0) cuts ≡ map (λ r. r .1) cuts
+unfolding cuts sum
+cuts-hold = refl
+
+-- The parts fed in turn from the empty register: level, count and words.
+pub fedParts : List Row
+fedParts =
+    (held (feedings B (empty 2) (cut 0x7EB (7 ∷ 1 ∷ 7 ∷ []))), 2 ∷ 15 ∷ 732 ∷ replicate 11 0)
+    ∷ (held (feedings (sheet 4 3 2 2 5 7 0) (empty 0) (cut 0x1498 (4 ∷ 11 ∷ []))), 0 ∷ 15 ∷ 68 ∷ replicate 11 0)
+    ∷ []
+
+pub fedParts-hold : map (λ r. r .0) fedParts ≡ map (λ r. r .1) fedParts
+unfolding fedParts fed sum pow
+fedParts-hold = refl
+
+-- The powers of α, and a syndrome as the sum Σ c_k α^(j k).
+pub fieldSums : List Row
+fieldSums =
+    (map (power 4) (range 0 16), 1 ∷ 2 ∷ 4 ∷ 8 ∷ 3 ∷ 6 ∷ 12 ∷ 11 ∷ 5 ∷ 10 ∷ 7 ∷ 14 ∷ 15 ∷ 13 ∷ 9 ∷ 1 ∷ [])
+    ∷ (sumBelow 15 (λ k. coefficient 0x40F1 k * power 4 (3 * k)) ∷ [], 4 ∷ [])
+    ∷ []
+
+pub fieldSums-hold : map (λ r. r .0) fieldSums ≡ map (λ r. r .1) fieldSums
+unfolding fieldSums power sumBelow xor range
+fieldSums-hold = refl
+
+-- Numbers as C takes them, two bytes each, low byte first.
+pub bytePairs : List Row
+bytePairs =
+    (asBytes (0 ∷ 255 ∷ 256 ∷ 4095 ∷ 65535 ∷ []), 0x00 ∷ 0x00 ∷ 0xFF ∷ 0x00 ∷ 0x00 ∷ 0x01 ∷ 0xFF ∷ 0x0F ∷ 0xFF ∷ 0xFF ∷ [])
+    ∷ []
+
+pub bytePairs-hold : map (λ r. r .0) bytePairs ≡ map (λ r. r .1) bytePairs
+unfolding bytePairs asBytes
+bytePairs-hold = refl
+
+-- The writer program's answer where strengths are missing: they are 0.
 pub writings : List Row
 writings =
-    (writer (0x04 ∷ 0x02 ∷ 0x01 ∷ 0x01 ∷ 0x01 ∷ 0x02 ∷ 0x2E ∷ 0x1B ∷ 0x02 ∷ []), 0x00 ∷ 0xEF ∷ 0x2E ∷ 0xB6 ∷ 0x21 ∷ [])
-    ∷ (writer (0x04 ∷ 0x03 ∷ 0x02 ∷ 0x07 ∷ 0x01 ∷ 0x02 ∷ 0x03 ∷ 0x03 ∷ 0x7B ∷ 0x7E ∷ 0x06 ∷ []), 0x00 ∷ 0x40 ∷ 0x0D ∷ 0x46 ∷ 0x7B ∷ 0xED ∷ 0x67 ∷ [])
-    ∷ (writer (0x04 ∷ 0x05 ∷ 0x02 ∷ 0x08 ∷ 0x01 ∷ 0x02 ∷ 0x02 ∷ 0x57 ∷ 0x1B ∷ 0xA8 ∷ 0x03 ∷ 0xB9 ∷ 0x03 ∷ 0x96 ∷ 0x03 ∷ []), 0x00 ∷ 0xC9 ∷ 0x57 ∷ 0xFC ∷ 0x1B ∷ 0x8D ∷ 0x3A ∷ 0x9B ∷ 0x3B ∷ 0x63 ∷ 0x39 ∷ [])
-    ∷ (writer (0x04 ∷ 0x04 ∷ 0x03 ∷ 0x3F ∷ 0x01 ∷ 0x02 ∷ 0x02 ∷ 0x02 ∷ 0x0C ∷ 0x02 ∷ 0x25 ∷ 0x41 ∷ 0x02 ∷ []), 0x00 ∷ 0x45 ∷ 0x0C ∷ 0x55 ∷ 0x02 ∷ 0x50 ∷ 0x25 ∷ 0x19 ∷ 0x24 ∷ [])
-    ∷ (writer (0x04 ∷ 0x03 ∷ 0x02 ∷ 0x40 ∷ 0x06 ∷ 0x07 ∷ 0x07 ∷ 0x01 ∷ 0x01 ∷ 0x01 ∷ []), 0x00 ∷ 0xFF ∷ 0x7F ∷ 0xFF ∷ 0x7F ∷ 0xFF ∷ 0x7F ∷ [])
-    ∷ (writer [], 0x01 ∷ [])
-    ∷ (writer (0x04 ∷ []), 0x02 ∷ [])
-    ∷ (writer (0x04 ∷ 0x02 ∷ []), 0x02 ∷ [])
-    ∷ (writer (0x04 ∷ 0x02 ∷ 0x01 ∷ []), 0x03 ∷ [])
-    ∷ (writer (0x04 ∷ 0x02 ∷ 0x01 ∷ 0x08 ∷ []), 0x03 ∷ [])
-    ∷ (writer (0x04 ∷ 0x02 ∷ 0x01 ∷ 0x08 ∷ 0x01 ∷ []), 0x03 ∷ [])
-    ∷ (writer (0x04 ∷ 0x02 ∷ 0x01 ∷ 0x08 ∷ 0x01 ∷ 0x02 ∷ []), 0x06 ∷ [])
-    ∷ (writer (0x04 ∷ 0x02 ∷ 0x01 ∷ 0x00 ∷ 0x01 ∷ 0x02 ∷ []), 0x05 ∷ [])
-    ∷ (writer (0x04 ∷ 0x02 ∷ 0x00 ∷ 0x08 ∷ []), 0x02 ∷ [])
-    ∷ (writer (0x04 ∷ 0x02 ∷ 0x00 ∷ 0x08 ∷ 0x01 ∷ 0x02 ∷ 0x01 ∷ 0x01 ∷ 0x00 ∷ []), 0x02 ∷ [])
-    ∷ (writer (0x04 ∷ 0x05 ∷ 0x04 ∷ 0x08 ∷ 0x01 ∷ 0x02 ∷ 0x02 ∷ 0x02 ∷ 0x02 ∷ []), 0x02 ∷ [])
-    ∷ (writer (0x04 ∷ 0x02 ∷ 0xFF ∷ 0x08 ∷ []), 0x02 ∷ [])
-    ∷ (writer (replicate 12 0xFF), 0x01 ∷ [])
-    ∷ (writer (0x08 ∷ 0x08 ∷ 0x08 ∷ []), 0x02 ∷ [])
-    ∷ (writer (0x04 ∷ 0xFF ∷ 0x01 ∷ 0x08 ∷ 0x01 ∷ 0x02 ∷ 0x01 ∷ 0x01 ∷ 0x00 ∷ []), 0x02 ∷ [])
-    ∷ (writer (0x04 ∷ 0x02 ∷ 0x01 ∷ 0xFF ∷ 0x01 ∷ 0x02 ∷ 0x01 ∷ 0x01 ∷ 0x00 ∷ []), 0x05 ∷ [])
-    ∷ (writer (0x04 ∷ 0x02 ∷ 0x01 ∷ 0x08 ∷ 0xFF ∷ 0xFF ∷ 0x01 ∷ 0x01 ∷ 0x00 ∷ []), 0x03 ∷ [])
-    ∷ (writer (0x04 ∷ 0x02 ∷ 0x01 ∷ 0x08 ∷ 0x01 ∷ 0xFF ∷ 0x01 ∷ 0x01 ∷ 0x00 ∷ []), 0x03 ∷ [])
-    ∷ (writer (0x04 ∷ 0x02 ∷ 0x01 ∷ 0x00 ∷ 0x01 ∷ 0x02 ∷ 0x01 ∷ 0x01 ∷ 0x00 ∷ []), 0x05 ∷ [])
-    ∷ (writer (0x04 ∷ 0x02 ∷ 0x01 ∷ 0x41 ∷ 0x01 ∷ 0x02 ∷ 0x01 ∷ 0x01 ∷ 0x00 ∷ []), 0x05 ∷ [])
-    ∷ (writer (0x04 ∷ 0x02 ∷ 0x01 ∷ 0x40 ∷ 0x01 ∷ 0x02 ∷ 0x01 ∷ 0x01 ∷ 0x00 ∷ []), 0x00 ∷ 0xC2 ∷ 0x01 ∷ 0x13 ∷ 0x00 ∷ [])
-    ∷ (writer (0x04 ∷ 0x02 ∷ 0x01 ∷ 0x01 ∷ 0x01 ∷ 0x02 ∷ 0x01 ∷ 0x01 ∷ 0x00 ∷ []), 0x00 ∷ 0xC2 ∷ 0x01 ∷ 0x13 ∷ 0x00 ∷ [])
-    ∷ (writer (0x04 ∷ 0x02 ∷ 0x01 ∷ 0x08 ∷ 0x01 ∷ 0x02 ∷ 0x01 ∷ 0x01 ∷ []), 0x06 ∷ [])
-    ∷ (writer (0x04 ∷ 0x02 ∷ 0x01 ∷ 0x08 ∷ 0x01 ∷ 0x02 ∷ 0x01 ∷ 0x01 ∷ 0x00 ∷ 0x00 ∷ []), 0x06 ∷ [])
-    ∷ (writer (0x04 ∷ 0x02 ∷ 0x01 ∷ 0x08 ∷ 0x01 ∷ 0x02 ∷ 0x80 ∷ 0x01 ∷ 0x00 ∷ []), 0x08 ∷ [])
-    ∷ (writer (0x04 ∷ 0x02 ∷ 0x01 ∷ 0x08 ∷ 0x01 ∷ 0x02 ∷ 0x01 ∷ 0x01 ∷ 0x08 ∷ []), 0x08 ∷ [])
-    ∷ (writer (0x04 ∷ 0x02 ∷ 0x01 ∷ 0x08 ∷ 0x01 ∷ 0x02 ∷ 0x7F ∷ 0xFF ∷ 0x07 ∷ []), 0x00 ∷ 0xFF ∷ 0x7F ∷ 0xFF ∷ 0x7F ∷ [])
-    ∷ (writer (0x04 ∷ 0x02 ∷ 0x01 ∷ 0x41 ∷ 0x01 ∷ 0x02 ∷ 0x80 ∷ []), 0x05 ∷ [])
-    ∷ (writer (0x04 ∷ 0x02 ∷ 0x01 ∷ 0x08 ∷ 0x01 ∷ 0x02 ∷ 0xFF ∷ []), 0x06 ∷ [])
-    ∷ (writer (0x04 ∷ 0x04 ∷ 0x02 ∷ 0x00 ∷ 0x01 ∷ 0x02 ∷ 0x03 ∷ 0x01 ∷ 0x01 ∷ 0x00 ∷ []), 0x04 ∷ [])
-    ∷ (writer (0x04 ∷ 0x02 ∷ 0x01 ∷ 0x00 ∷ 0x02 ∷ 0x02 ∷ 0x01 ∷ 0x01 ∷ 0x00 ∷ []), 0x03 ∷ [])
-    ∷ (writer (0x05 ∷ 0x02 ∷ 0x01 ∷ 0x08 ∷ 0x01 ∷ 0x02 ∷ 0x01 ∷ 0x01 ∷ 0x00 ∷ []), 0x01 ∷ [])
-    ∷ (writer (0x04 ∷ 0x03 ∷ 0x02 ∷ 0x08 ∷ 0x01 ∷ 0x02 ∷ []), 0x03 ∷ [])
+    (writer (0x04 ∷ 0x03 ∷ 0x02 ∷ 0x08 ∷ 0x01 ∷ 0x02 ∷ []), 0x03 ∷ [])
     ∷ (writer (0x04 ∷ 0x03 ∷ 0x02 ∷ 0x08 ∷ 0x01 ∷ 0x02 ∷ 0x03 ∷ []), 0x06 ∷ [])
-    ∷ (writer (0x04 ∷ 0x03 ∷ 0x02 ∷ 0x08 ∷ 0x01 ∷ 0x02 ∷ 0x03 ∷ 0x00 ∷ 0x00 ∷ 0x01 ∷ []), 0x06 ∷ [])
-    ∷ (writer (0x04 ∷ 0x03 ∷ 0x02 ∷ 0x08 ∷ 0x01 ∷ 0x02 ∷ 0x03 ∷ 0x00 ∷ 0x00 ∷ 0x01 ∷ 0x00 ∷ 0x00 ∷ []), 0x06 ∷ [])
-    ∷ (writer (0x04 ∷ 0x03 ∷ 0x02 ∷ 0x08 ∷ 0x01 ∷ 0x02 ∷ 0x03 ∷ 0x20 ∷ 0x00 ∷ 0x01 ∷ 0x00 ∷ []), 0x08 ∷ [])
+    ∷ (writer (0x04 ∷ 0x04 ∷ 0x03 ∷ 0x08 ∷ 0x01 ∷ 0x02 ∷ 0x02 ∷ []), 0x03 ∷ [])
     ∷ []
 
 pub writings-hold : map (λ r. r .0) writings ≡ map (λ r. r .1) writings
 unfolding writings writer pow
 writings-hold = refl
 
--- The refusals of write, of several at once the first.
-pub writeRefusals : List Row
-writeRefusals =
-    (writeRefusal (sheet 5 2 1 1 2 0 0) 0 (0xFF ∷ []) 0 ∷ [], 1 ∷ [])
-    ∷ (writeRefusal (sheet 4 2 0 1 2 0 0) 0 (0xFF ∷ []) 0 ∷ [], 2 ∷ [])
-    ∷ (writeRefusal (sheet 4 2 1 2 2 0 0) 0 (0xFF ∷ []) 0 ∷ [], 3 ∷ [])
-    ∷ (writeRefusal (sheet 4 6 1 1 2 0 0) 0 (0xFF ∷ []) 0 ∷ [], 4 ∷ [])
-    ∷ (writeRefusal A 0 (0x01 ∷ 0x01 ∷ 0x00 ∷ []) 4 ∷ [], 5 ∷ [])
-    ∷ (writeRefusal A 0 (0xFF ∷ 0xFF ∷ []) 3 ∷ [], 5 ∷ [])
-    ∷ (writeRefusal A 1 (0x01 ∷ 0x01 ∷ 0x00 ∷ []) 4 ∷ [], 0 ∷ [])
-    ∷ (writeRefusal A 1 (0xFF ∷ 0xFF ∷ []) 3 ∷ [], 6 ∷ [])
-    ∷ (writeRefusal A 64 (0x01 ∷ 0x01 ∷ 0x00 ∷ []) 4 ∷ [], 0 ∷ [])
-    ∷ (writeRefusal A 64 (0xFF ∷ 0xFF ∷ []) 3 ∷ [], 6 ∷ [])
-    ∷ (writeRefusal A 65 (0x01 ∷ 0x01 ∷ 0x00 ∷ []) 4 ∷ [], 5 ∷ [])
-    ∷ (writeRefusal A 65 (0xFF ∷ 0xFF ∷ []) 3 ∷ [], 5 ∷ [])
-    ∷ (writeRefusal A 128 (0x01 ∷ 0x01 ∷ 0x00 ∷ []) 4 ∷ [], 5 ∷ [])
-    ∷ (writeRefusal A 128 (0xFF ∷ 0xFF ∷ []) 3 ∷ [], 5 ∷ [])
-    ∷ (writeRefusal A 8 [] 3 ∷ [], 6 ∷ [])
-    ∷ (writeRefusal A 8 [] 4 ∷ [], 6 ∷ [])
-    ∷ (writeRefusal A 8 [] 5 ∷ [], 6 ∷ [])
-    ∷ (writeRefusal A 8 (0x01 ∷ 0x01 ∷ []) 3 ∷ [], 6 ∷ [])
-    ∷ (writeRefusal A 8 (0x01 ∷ 0x01 ∷ []) 4 ∷ [], 6 ∷ [])
-    ∷ (writeRefusal A 8 (0x01 ∷ 0x01 ∷ []) 5 ∷ [], 6 ∷ [])
-    ∷ (writeRefusal A 8 (0x01 ∷ 0x01 ∷ 0x00 ∷ 0x00 ∷ []) 3 ∷ [], 6 ∷ [])
-    ∷ (writeRefusal A 8 (0x01 ∷ 0x01 ∷ 0x00 ∷ 0x00 ∷ []) 4 ∷ [], 6 ∷ [])
-    ∷ (writeRefusal A 8 (0x01 ∷ 0x01 ∷ 0x00 ∷ 0x00 ∷ []) 5 ∷ [], 6 ∷ [])
-    ∷ (writeRefusal A 8 (0x80 ∷ 0x00 ∷ 0x00 ∷ []) 3 ∷ [], 7 ∷ [])
-    ∷ (writeRefusal A 8 (0x80 ∷ 0x00 ∷ 0x00 ∷ []) 4 ∷ [], 8 ∷ [])
-    ∷ (writeRefusal A 8 (0x80 ∷ 0x00 ∷ 0x00 ∷ []) 5 ∷ [], 7 ∷ [])
-    ∷ (writeRefusal A 8 (0x00 ∷ 0x00 ∷ 0x08 ∷ []) 3 ∷ [], 7 ∷ [])
-    ∷ (writeRefusal A 8 (0x00 ∷ 0x00 ∷ 0x08 ∷ []) 4 ∷ [], 8 ∷ [])
-    ∷ (writeRefusal A 8 (0x00 ∷ 0x00 ∷ 0x08 ∷ []) 5 ∷ [], 7 ∷ [])
-    ∷ (writeRefusal A 8 (0x00 ∷ 0x00 ∷ 0x80 ∷ []) 3 ∷ [], 7 ∷ [])
-    ∷ (writeRefusal A 8 (0x00 ∷ 0x00 ∷ 0x80 ∷ []) 4 ∷ [], 8 ∷ [])
-    ∷ (writeRefusal A 8 (0x00 ∷ 0x00 ∷ 0x80 ∷ []) 5 ∷ [], 7 ∷ [])
-    ∷ (writeRefusal A 8 (0x7F ∷ 0xFF ∷ 0x07 ∷ []) 3 ∷ [], 7 ∷ [])
-    ∷ (writeRefusal A 8 (0x7F ∷ 0xFF ∷ 0x07 ∷ []) 4 ∷ [], 0 ∷ [])
-    ∷ (writeRefusal A 8 (0x7F ∷ 0xFF ∷ 0x07 ∷ []) 5 ∷ [], 7 ∷ [])
-    ∷ (writeRefusal A 8 (0xFF ∷ 0xFF ∷ 0xFF ∷ []) 3 ∷ [], 7 ∷ [])
-    ∷ (writeRefusal A 8 (0xFF ∷ 0xFF ∷ 0xFF ∷ []) 4 ∷ [], 8 ∷ [])
-    ∷ (writeRefusal A 8 (0xFF ∷ 0xFF ∷ 0xFF ∷ []) 5 ∷ [], 7 ∷ [])
-    ∷ (writeRefusal (sheet 4 3 2 6 7 7 0) 8 (0x02 ∷ 0x01 ∷ 0x01 ∷ []) 6 ∷ [], 8 ∷ [])
-    ∷ (writeRefusal (sheet 4 3 2 6 7 7 0) 8 (0x01 ∷ 0x02 ∷ 0x01 ∷ []) 6 ∷ [], 8 ∷ [])
-    ∷ (writeRefusal (sheet 4 3 2 6 7 7 0) 8 (0x01 ∷ 0x01 ∷ 0x02 ∷ []) 6 ∷ [], 8 ∷ [])
-    ∷ (writeRefusal (sheet 4 3 2 6 7 7 0) 8 (0x01 ∷ 0x01 ∷ 0x01 ∷ []) 6 ∷ [], 0 ∷ [])
-    ∷ (writeRefusal (sheet 4 3 2 6 7 7 0) 8 (0x00 ∷ 0x00 ∷ []) 6 ∷ [], 6 ∷ [])
-    ∷ (writeRefusal (sheet 4 3 2 6 7 7 0) 8 (0x00 ∷ 0x00 ∷ 0x00 ∷ 0x00 ∷ []) 6 ∷ [], 6 ∷ [])
-    ∷ (writeRefusal B 8 (0x20 ∷ 0x00 ∷ 0x00 ∷ 0x00 ∷ []) 6 ∷ [], 8 ∷ [])
-    ∷ (writeRefusal B 8 (0x00 ∷ 0x80 ∷ 0x00 ∷ 0x00 ∷ []) 6 ∷ [], 8 ∷ [])
-    ∷ (writeRefusal B 8 (0x00 ∷ 0x00 ∷ 0x00 ∷ 0x08 ∷ []) 6 ∷ [], 8 ∷ [])
-    ∷ (writeRefusal B 8 (0x1F ∷ 0x7F ∷ 0xFF ∷ 0x07 ∷ []) 6 ∷ [], 0 ∷ [])
-    ∷ []
-
-pub writeRefusals-hold : map (λ r. r .0) writeRefusals ≡ map (λ r. r .1) writeRefusals
-unfolding writeRefusals writeRefusal
-writeRefusals-hold = refl
-
--- The refusals of read out and judge: every spare bit is looked at, the blocks' old bytes are not.
-pub readRefusals : List Row
-readRefusals =
-    (judgeRefusal (sheet 5 2 1 1 2 0 0) (0xFF ∷ []) ∷ [], 1 ∷ [])
-    ∷ (readRefusal (sheet 5 2 1 1 2 0 0) (0xFF ∷ []) 0 ∷ [], 1 ∷ [])
-    ∷ (judgeRefusal (sheet 4 2 0 1 2 0 0) (0xFF ∷ []) ∷ [], 2 ∷ [])
-    ∷ (readRefusal (sheet 4 2 0 1 2 0 0) (0xFF ∷ []) 0 ∷ [], 2 ∷ [])
-    ∷ (judgeRefusal (sheet 4 2 1 2 2 0 0) (0xFF ∷ []) ∷ [], 3 ∷ [])
-    ∷ (readRefusal (sheet 4 2 1 2 2 0 0) (0xFF ∷ []) 0 ∷ [], 3 ∷ [])
-    ∷ (judgeRefusal (sheet 4 6 1 1 2 0 0) (0xFF ∷ []) ∷ [], 4 ∷ [])
-    ∷ (readRefusal (sheet 4 6 1 1 2 0 0) (0xFF ∷ []) 0 ∷ [], 4 ∷ [])
-    ∷ (judgeRefusal A [] ∷ [], 7 ∷ [])
-    ∷ (readRefusal A [] 2 ∷ [], 6 ∷ [])
-    ∷ (readRefusal A [] 3 ∷ [], 7 ∷ [])
-    ∷ (readRefusal A [] 4 ∷ [], 6 ∷ [])
-    ∷ (judgeRefusal A (0xC2 ∷ 0x01 ∷ 0x13 ∷ []) ∷ [], 7 ∷ [])
-    ∷ (readRefusal A (0xC2 ∷ 0x01 ∷ 0x13 ∷ []) 2 ∷ [], 6 ∷ [])
-    ∷ (readRefusal A (0xC2 ∷ 0x01 ∷ 0x13 ∷ []) 3 ∷ [], 7 ∷ [])
-    ∷ (readRefusal A (0xC2 ∷ 0x01 ∷ 0x13 ∷ []) 4 ∷ [], 6 ∷ [])
-    ∷ (judgeRefusal A (0xC2 ∷ 0x01 ∷ 0x13 ∷ 0x00 ∷ []) ∷ [], 0 ∷ [])
-    ∷ (readRefusal A (0xC2 ∷ 0x01 ∷ 0x13 ∷ 0x00 ∷ []) 2 ∷ [], 6 ∷ [])
-    ∷ (readRefusal A (0xC2 ∷ 0x01 ∷ 0x13 ∷ 0x00 ∷ []) 3 ∷ [], 0 ∷ [])
-    ∷ (readRefusal A (0xC2 ∷ 0x01 ∷ 0x13 ∷ 0x00 ∷ []) 4 ∷ [], 6 ∷ [])
-    ∷ (judgeRefusal A (0xC2 ∷ 0x01 ∷ 0x13 ∷ 0x00 ∷ 0x00 ∷ []) ∷ [], 7 ∷ [])
-    ∷ (readRefusal A (0xC2 ∷ 0x01 ∷ 0x13 ∷ 0x00 ∷ 0x00 ∷ []) 2 ∷ [], 6 ∷ [])
-    ∷ (readRefusal A (0xC2 ∷ 0x01 ∷ 0x13 ∷ 0x00 ∷ 0x00 ∷ []) 3 ∷ [], 7 ∷ [])
-    ∷ (readRefusal A (0xC2 ∷ 0x01 ∷ 0x13 ∷ 0x00 ∷ 0x00 ∷ []) 4 ∷ [], 6 ∷ [])
-    ∷ (judgeRefusal A (0x00 ∷ 0x80 ∷ 0x00 ∷ 0x00 ∷ []) ∷ [], 8 ∷ [])
-    ∷ (readRefusal A (0x00 ∷ 0x80 ∷ 0x00 ∷ 0x00 ∷ []) 2 ∷ [], 6 ∷ [])
-    ∷ (readRefusal A (0x00 ∷ 0x80 ∷ 0x00 ∷ 0x00 ∷ []) 3 ∷ [], 8 ∷ [])
-    ∷ (readRefusal A (0x00 ∷ 0x80 ∷ 0x00 ∷ 0x00 ∷ []) 4 ∷ [], 6 ∷ [])
-    ∷ (judgeRefusal A (0x00 ∷ 0x00 ∷ 0x00 ∷ 0x80 ∷ []) ∷ [], 8 ∷ [])
-    ∷ (readRefusal A (0x00 ∷ 0x00 ∷ 0x00 ∷ 0x80 ∷ []) 2 ∷ [], 6 ∷ [])
-    ∷ (readRefusal A (0x00 ∷ 0x00 ∷ 0x00 ∷ 0x80 ∷ []) 3 ∷ [], 8 ∷ [])
-    ∷ (readRefusal A (0x00 ∷ 0x00 ∷ 0x00 ∷ 0x80 ∷ []) 4 ∷ [], 6 ∷ [])
-    ∷ (judgeRefusal A (0xFF ∷ 0xFF ∷ 0xFF ∷ 0xFF ∷ []) ∷ [], 8 ∷ [])
-    ∷ (readRefusal A (0xFF ∷ 0xFF ∷ 0xFF ∷ 0xFF ∷ []) 2 ∷ [], 6 ∷ [])
-    ∷ (readRefusal A (0xFF ∷ 0xFF ∷ 0xFF ∷ 0xFF ∷ []) 3 ∷ [], 8 ∷ [])
-    ∷ (readRefusal A (0xFF ∷ 0xFF ∷ 0xFF ∷ 0xFF ∷ []) 4 ∷ [], 6 ∷ [])
-    ∷ (judgeRefusal A (0xFF ∷ 0x7F ∷ 0xFF ∷ 0x7F ∷ []) ∷ [], 0 ∷ [])
-    ∷ (readRefusal A (0xFF ∷ 0x7F ∷ 0xFF ∷ 0x7F ∷ []) 2 ∷ [], 6 ∷ [])
-    ∷ (readRefusal A (0xFF ∷ 0x7F ∷ 0xFF ∷ 0x7F ∷ []) 3 ∷ [], 0 ∷ [])
-    ∷ (readRefusal A (0xFF ∷ 0x7F ∷ 0xFF ∷ 0x7F ∷ []) 4 ∷ [], 6 ∷ [])
-    ∷ (judgeRefusal A (0xFF ∷ 0xFF ∷ 0xFF ∷ []) ∷ [], 7 ∷ [])
-    ∷ (readRefusal A (0xFF ∷ 0xFF ∷ 0xFF ∷ []) 2 ∷ [], 6 ∷ [])
-    ∷ (readRefusal A (0xFF ∷ 0xFF ∷ 0xFF ∷ []) 3 ∷ [], 7 ∷ [])
-    ∷ (readRefusal A (0xFF ∷ 0xFF ∷ 0xFF ∷ []) 4 ∷ [], 6 ∷ [])
-    ∷ (judgeRefusal (sheet 4 5 3 1 2 2 2) (0x00 ∷ 0x00 ∷ 0x00 ∷ 0x00 ∷ 0x00 ∷ 0x00 ∷ 0x00 ∷ 0x00 ∷ 0x00 ∷ 0x80 ∷ []) ∷ [], 8 ∷ [])
-    ∷ (readRefusal (sheet 4 5 3 1 2 2 2) (0x00 ∷ 0x00 ∷ 0x00 ∷ 0x00 ∷ 0x00 ∷ 0x00 ∷ 0x00 ∷ 0x00 ∷ 0x00 ∷ 0x80 ∷ []) 7 ∷ [], 8 ∷ [])
-    ∷ (judgeRefusal (sheet 4 5 3 1 2 2 2) (0x00 ∷ 0x00 ∷ 0x00 ∷ 0x00 ∷ 0x00 ∷ 0x00 ∷ 0x00 ∷ 0x00 ∷ 0x00 ∷ 0x40 ∷ []) ∷ [], 0 ∷ [])
-    ∷ (readRefusal (sheet 4 5 3 1 2 2 2) (0x00 ∷ 0x00 ∷ 0x00 ∷ 0x00 ∷ 0x00 ∷ 0x00 ∷ 0x00 ∷ 0x00 ∷ 0x00 ∷ 0x40 ∷ []) 7 ∷ [], 0 ∷ [])
-    ∷ (judgeRefusal (sheet 8 2 1 1 2 0 0) (replicate 62 0x00 ++ 0x7F ∷ []) ∷ [], 7 ∷ [])
-    ∷ (judgeRefusal (sheet 8 2 1 1 2 0 0) (replicate 62 0x00 ++ 0x80 ∷ []) ∷ [], 7 ∷ [])
-    ∷ (judgeRefusal (sheet 8 2 1 1 2 0 0) (replicate 63 0x00 ++ 0x7F ∷ []) ∷ [], 0 ∷ [])
-    ∷ (judgeRefusal (sheet 8 2 1 1 2 0 0) (replicate 63 0x00 ++ 0x80 ∷ []) ∷ [], 8 ∷ [])
-    ∷ (judgeRefusal (sheet 12 2 1 1 2 0 0) (replicate 1022 0x00 ++ 0x7F ∷ []) ∷ [], 7 ∷ [])
-    ∷ (judgeRefusal (sheet 12 2 1 1 2 0 0) (replicate 1022 0x00 ++ 0x80 ∷ []) ∷ [], 7 ∷ [])
-    ∷ (judgeRefusal (sheet 12 2 1 1 2 0 0) (replicate 1023 0x00 ++ 0x7F ∷ []) ∷ [], 0 ∷ [])
-    ∷ (judgeRefusal (sheet 12 2 1 1 2 0 0) (replicate 1023 0x00 ++ 0x80 ∷ []) ∷ [], 8 ∷ [])
-    ∷ []
-
-pub readRefusals-hold : map (λ r. r .0) readRefusals ≡ map (λ r. r .1) readRefusals
-unfolding readRefusals readRefusal judgeRefusal
-readRefusals-hold = refl
-
--- The refusals of the calls on one word: page, spare bits, index, and the result's exact length.
-pub wordRefusals : List Row
-wordRefusals =
-    (remainderRefusal (sheet 5 2 1 1 2 0 0) (0xC2 ∷ 0x01 ∷ 0x13 ∷ 0x80 ∷ []) 9 97 ∷ [], 1 ∷ [])
-    ∷ (shortRefusal (sheet 5 2 1 1 2 0 0) (0xC2 ∷ 0x01 ∷ 0x13 ∷ 0x80 ∷ []) 9 97 ∷ [], 1 ∷ [])
-    ∷ (nestedRefusal (sheet 5 2 1 1 2 0 0) (0xC2 ∷ 0x01 ∷ 0x13 ∷ 0x80 ∷ []) 9 3 ∷ [], 1 ∷ [])
-    ∷ (syndromesRefusal 1 (sheet 5 2 1 1 2 0 0) (0xC2 ∷ 0x01 ∷ 0x13 ∷ 0x80 ∷ []) 9 3 ∷ [], 1 ∷ [])
-    ∷ (syndromesRefusal 2 (sheet 5 2 1 1 2 0 0) (0xC2 ∷ 0x01 ∷ 0x13 ∷ 0x80 ∷ []) 9 5 ∷ [], 1 ∷ [])
-    ∷ (nestedSyndromesRefusal 1 (sheet 5 2 1 1 2 0 0) (0xC2 ∷ 0x01 ∷ 0x13 ∷ 0x80 ∷ []) 9 3 ∷ [], 1 ∷ [])
-    ∷ (nestedSyndromesRefusal 2 (sheet 5 2 1 1 2 0 0) (0xC2 ∷ 0x01 ∷ 0x13 ∷ 0x80 ∷ []) 9 5 ∷ [], 1 ∷ [])
-    ∷ (remainderRefusal (sheet 4 2 0 1 2 0 0) (0xC2 ∷ 0x01 ∷ 0x13 ∷ 0x80 ∷ []) 9 97 ∷ [], 2 ∷ [])
-    ∷ (shortRefusal (sheet 4 2 0 1 2 0 0) (0xC2 ∷ 0x01 ∷ 0x13 ∷ 0x80 ∷ []) 9 97 ∷ [], 2 ∷ [])
-    ∷ (nestedRefusal (sheet 4 2 0 1 2 0 0) (0xC2 ∷ 0x01 ∷ 0x13 ∷ 0x80 ∷ []) 9 3 ∷ [], 2 ∷ [])
-    ∷ (syndromesRefusal 1 (sheet 4 2 0 1 2 0 0) (0xC2 ∷ 0x01 ∷ 0x13 ∷ 0x80 ∷ []) 9 3 ∷ [], 2 ∷ [])
-    ∷ (syndromesRefusal 2 (sheet 4 2 0 1 2 0 0) (0xC2 ∷ 0x01 ∷ 0x13 ∷ 0x80 ∷ []) 9 5 ∷ [], 2 ∷ [])
-    ∷ (nestedSyndromesRefusal 1 (sheet 4 2 0 1 2 0 0) (0xC2 ∷ 0x01 ∷ 0x13 ∷ 0x80 ∷ []) 9 3 ∷ [], 2 ∷ [])
-    ∷ (nestedSyndromesRefusal 2 (sheet 4 2 0 1 2 0 0) (0xC2 ∷ 0x01 ∷ 0x13 ∷ 0x80 ∷ []) 9 5 ∷ [], 2 ∷ [])
-    ∷ (remainderRefusal (sheet 4 2 1 2 2 0 0) (0xC2 ∷ 0x01 ∷ 0x13 ∷ 0x80 ∷ []) 9 97 ∷ [], 3 ∷ [])
-    ∷ (shortRefusal (sheet 4 2 1 2 2 0 0) (0xC2 ∷ 0x01 ∷ 0x13 ∷ 0x80 ∷ []) 9 97 ∷ [], 3 ∷ [])
-    ∷ (nestedRefusal (sheet 4 2 1 2 2 0 0) (0xC2 ∷ 0x01 ∷ 0x13 ∷ 0x80 ∷ []) 9 3 ∷ [], 3 ∷ [])
-    ∷ (syndromesRefusal 1 (sheet 4 2 1 2 2 0 0) (0xC2 ∷ 0x01 ∷ 0x13 ∷ 0x80 ∷ []) 9 5 ∷ [], 3 ∷ [])
-    ∷ (syndromesRefusal 2 (sheet 4 2 1 2 2 0 0) (0xC2 ∷ 0x01 ∷ 0x13 ∷ 0x80 ∷ []) 9 9 ∷ [], 3 ∷ [])
-    ∷ (nestedSyndromesRefusal 1 (sheet 4 2 1 2 2 0 0) (0xC2 ∷ 0x01 ∷ 0x13 ∷ 0x80 ∷ []) 9 5 ∷ [], 3 ∷ [])
-    ∷ (nestedSyndromesRefusal 2 (sheet 4 2 1 2 2 0 0) (0xC2 ∷ 0x01 ∷ 0x13 ∷ 0x80 ∷ []) 9 9 ∷ [], 3 ∷ [])
-    ∷ (remainderRefusal (sheet 4 6 1 1 2 0 0) (0xC2 ∷ 0x01 ∷ 0x13 ∷ 0x80 ∷ []) 9 97 ∷ [], 4 ∷ [])
-    ∷ (shortRefusal (sheet 4 6 1 1 2 0 0) (0xC2 ∷ 0x01 ∷ 0x13 ∷ 0x80 ∷ []) 9 97 ∷ [], 4 ∷ [])
-    ∷ (nestedRefusal (sheet 4 6 1 1 2 0 0) (0xC2 ∷ 0x01 ∷ 0x13 ∷ 0x80 ∷ []) 9 3 ∷ [], 4 ∷ [])
-    ∷ (syndromesRefusal 1 (sheet 4 6 1 1 2 0 0) (0xC2 ∷ 0x01 ∷ 0x13 ∷ 0x80 ∷ []) 9 3 ∷ [], 4 ∷ [])
-    ∷ (syndromesRefusal 2 (sheet 4 6 1 1 2 0 0) (0xC2 ∷ 0x01 ∷ 0x13 ∷ 0x80 ∷ []) 9 5 ∷ [], 4 ∷ [])
-    ∷ (nestedSyndromesRefusal 1 (sheet 4 6 1 1 2 0 0) (0xC2 ∷ 0x01 ∷ 0x13 ∷ 0x80 ∷ []) 9 3 ∷ [], 4 ∷ [])
-    ∷ (nestedSyndromesRefusal 2 (sheet 4 6 1 1 2 0 0) (0xC2 ∷ 0x01 ∷ 0x13 ∷ 0x80 ∷ []) 9 5 ∷ [], 4 ∷ [])
-    ∷ (remainderRefusal A (0xC2 ∷ 0x01 ∷ 0x13 ∷ 0x00 ∷ []) 0 96 ∷ [], 0 ∷ [])
-    ∷ (shortRefusal A (0xC2 ∷ 0x01 ∷ 0x13 ∷ 0x00 ∷ []) 0 96 ∷ [], 0 ∷ [])
-    ∷ (nestedRefusal A (0xC2 ∷ 0x01 ∷ 0x13 ∷ 0x00 ∷ []) 0 2 ∷ [], 0 ∷ [])
-    ∷ (syndromesRefusal 1 A (0xC2 ∷ 0x01 ∷ 0x13 ∷ 0x00 ∷ []) 0 2 ∷ [], 0 ∷ [])
-    ∷ (syndromesRefusal 2 A (0xC2 ∷ 0x01 ∷ 0x13 ∷ 0x00 ∷ []) 0 4 ∷ [], 0 ∷ [])
-    ∷ (nestedSyndromesRefusal 1 A (0xC2 ∷ 0x01 ∷ 0x13 ∷ 0x00 ∷ []) 0 4 ∷ [], 0 ∷ [])
-    ∷ (nestedSyndromesRefusal 2 A (0xC2 ∷ 0x01 ∷ 0x13 ∷ 0x00 ∷ []) 0 8 ∷ [], 0 ∷ [])
-    ∷ (remainderRefusal A (0xC2 ∷ 0x01 ∷ 0x13 ∷ 0x00 ∷ []) 0 95 ∷ [], 10 ∷ [])
-    ∷ (shortRefusal A (0xC2 ∷ 0x01 ∷ 0x13 ∷ 0x00 ∷ []) 0 95 ∷ [], 10 ∷ [])
-    ∷ (nestedRefusal A (0xC2 ∷ 0x01 ∷ 0x13 ∷ 0x00 ∷ []) 0 1 ∷ [], 10 ∷ [])
-    ∷ (syndromesRefusal 1 A (0xC2 ∷ 0x01 ∷ 0x13 ∷ 0x00 ∷ []) 0 1 ∷ [], 10 ∷ [])
-    ∷ (syndromesRefusal 2 A (0xC2 ∷ 0x01 ∷ 0x13 ∷ 0x00 ∷ []) 0 3 ∷ [], 10 ∷ [])
-    ∷ (nestedSyndromesRefusal 1 A (0xC2 ∷ 0x01 ∷ 0x13 ∷ 0x00 ∷ []) 0 3 ∷ [], 10 ∷ [])
-    ∷ (nestedSyndromesRefusal 2 A (0xC2 ∷ 0x01 ∷ 0x13 ∷ 0x00 ∷ []) 0 7 ∷ [], 10 ∷ [])
-    ∷ (remainderRefusal A (0xC2 ∷ 0x01 ∷ 0x13 ∷ 0x00 ∷ []) 0 97 ∷ [], 10 ∷ [])
-    ∷ (shortRefusal A (0xC2 ∷ 0x01 ∷ 0x13 ∷ 0x00 ∷ []) 0 97 ∷ [], 10 ∷ [])
-    ∷ (nestedRefusal A (0xC2 ∷ 0x01 ∷ 0x13 ∷ 0x00 ∷ []) 0 3 ∷ [], 10 ∷ [])
-    ∷ (syndromesRefusal 1 A (0xC2 ∷ 0x01 ∷ 0x13 ∷ 0x00 ∷ []) 0 3 ∷ [], 10 ∷ [])
-    ∷ (syndromesRefusal 2 A (0xC2 ∷ 0x01 ∷ 0x13 ∷ 0x00 ∷ []) 0 5 ∷ [], 10 ∷ [])
-    ∷ (nestedSyndromesRefusal 1 A (0xC2 ∷ 0x01 ∷ 0x13 ∷ 0x00 ∷ []) 0 5 ∷ [], 10 ∷ [])
-    ∷ (nestedSyndromesRefusal 2 A (0xC2 ∷ 0x01 ∷ 0x13 ∷ 0x00 ∷ []) 0 9 ∷ [], 10 ∷ [])
-    ∷ (remainderRefusal A (0xC2 ∷ 0x01 ∷ 0x13 ∷ 0x00 ∷ []) 1 96 ∷ [], 0 ∷ [])
-    ∷ (shortRefusal A (0xC2 ∷ 0x01 ∷ 0x13 ∷ 0x00 ∷ []) 1 96 ∷ [], 9 ∷ [])
-    ∷ (nestedRefusal A (0xC2 ∷ 0x01 ∷ 0x13 ∷ 0x00 ∷ []) 1 2 ∷ [], 9 ∷ [])
-    ∷ (syndromesRefusal 1 A (0xC2 ∷ 0x01 ∷ 0x13 ∷ 0x00 ∷ []) 1 2 ∷ [], 0 ∷ [])
-    ∷ (syndromesRefusal 2 A (0xC2 ∷ 0x01 ∷ 0x13 ∷ 0x00 ∷ []) 1 4 ∷ [], 0 ∷ [])
-    ∷ (nestedSyndromesRefusal 1 A (0xC2 ∷ 0x01 ∷ 0x13 ∷ 0x00 ∷ []) 1 2 ∷ [], 9 ∷ [])
-    ∷ (nestedSyndromesRefusal 2 A (0xC2 ∷ 0x01 ∷ 0x13 ∷ 0x00 ∷ []) 1 4 ∷ [], 9 ∷ [])
-    ∷ (remainderRefusal A (0xC2 ∷ 0x01 ∷ 0x13 ∷ 0x00 ∷ []) 1 97 ∷ [], 10 ∷ [])
-    ∷ (shortRefusal A (0xC2 ∷ 0x01 ∷ 0x13 ∷ 0x00 ∷ []) 1 97 ∷ [], 9 ∷ [])
-    ∷ (nestedRefusal A (0xC2 ∷ 0x01 ∷ 0x13 ∷ 0x00 ∷ []) 1 3 ∷ [], 9 ∷ [])
-    ∷ (syndromesRefusal 1 A (0xC2 ∷ 0x01 ∷ 0x13 ∷ 0x00 ∷ []) 1 3 ∷ [], 10 ∷ [])
-    ∷ (syndromesRefusal 2 A (0xC2 ∷ 0x01 ∷ 0x13 ∷ 0x00 ∷ []) 1 5 ∷ [], 10 ∷ [])
-    ∷ (nestedSyndromesRefusal 1 A (0xC2 ∷ 0x01 ∷ 0x13 ∷ 0x00 ∷ []) 1 3 ∷ [], 9 ∷ [])
-    ∷ (nestedSyndromesRefusal 2 A (0xC2 ∷ 0x01 ∷ 0x13 ∷ 0x00 ∷ []) 1 5 ∷ [], 9 ∷ [])
-    ∷ (remainderRefusal A (0xC2 ∷ 0x01 ∷ 0x13 ∷ 0x00 ∷ []) 2 96 ∷ [], 9 ∷ [])
-    ∷ (shortRefusal A (0xC2 ∷ 0x01 ∷ 0x13 ∷ 0x00 ∷ []) 2 96 ∷ [], 9 ∷ [])
-    ∷ (nestedRefusal A (0xC2 ∷ 0x01 ∷ 0x13 ∷ 0x00 ∷ []) 2 2 ∷ [], 9 ∷ [])
-    ∷ (syndromesRefusal 1 A (0xC2 ∷ 0x01 ∷ 0x13 ∷ 0x00 ∷ []) 2 2 ∷ [], 9 ∷ [])
-    ∷ (syndromesRefusal 2 A (0xC2 ∷ 0x01 ∷ 0x13 ∷ 0x00 ∷ []) 2 4 ∷ [], 9 ∷ [])
-    ∷ (nestedSyndromesRefusal 1 A (0xC2 ∷ 0x01 ∷ 0x13 ∷ 0x00 ∷ []) 2 2 ∷ [], 9 ∷ [])
-    ∷ (nestedSyndromesRefusal 2 A (0xC2 ∷ 0x01 ∷ 0x13 ∷ 0x00 ∷ []) 2 4 ∷ [], 9 ∷ [])
-    ∷ (remainderRefusal A (0xC2 ∷ 0x01 ∷ 0x13 ∷ 0x00 ∷ []) 2 95 ∷ [], 9 ∷ [])
-    ∷ (shortRefusal A (0xC2 ∷ 0x01 ∷ 0x13 ∷ 0x00 ∷ []) 2 95 ∷ [], 9 ∷ [])
-    ∷ (nestedRefusal A (0xC2 ∷ 0x01 ∷ 0x13 ∷ 0x00 ∷ []) 2 1 ∷ [], 9 ∷ [])
-    ∷ (syndromesRefusal 1 A (0xC2 ∷ 0x01 ∷ 0x13 ∷ 0x00 ∷ []) 2 1 ∷ [], 9 ∷ [])
-    ∷ (syndromesRefusal 2 A (0xC2 ∷ 0x01 ∷ 0x13 ∷ 0x00 ∷ []) 2 3 ∷ [], 9 ∷ [])
-    ∷ (nestedSyndromesRefusal 1 A (0xC2 ∷ 0x01 ∷ 0x13 ∷ 0x00 ∷ []) 2 1 ∷ [], 9 ∷ [])
-    ∷ (nestedSyndromesRefusal 2 A (0xC2 ∷ 0x01 ∷ 0x13 ∷ 0x00 ∷ []) 2 3 ∷ [], 9 ∷ [])
-    ∷ (remainderRefusal A (0xC2 ∷ 0x01 ∷ 0x13 ∷ []) 2 95 ∷ [], 7 ∷ [])
-    ∷ (shortRefusal A (0xC2 ∷ 0x01 ∷ 0x13 ∷ []) 2 95 ∷ [], 7 ∷ [])
-    ∷ (nestedRefusal A (0xC2 ∷ 0x01 ∷ 0x13 ∷ []) 2 1 ∷ [], 7 ∷ [])
-    ∷ (syndromesRefusal 1 A (0xC2 ∷ 0x01 ∷ 0x13 ∷ []) 2 1 ∷ [], 7 ∷ [])
-    ∷ (syndromesRefusal 2 A (0xC2 ∷ 0x01 ∷ 0x13 ∷ []) 2 3 ∷ [], 7 ∷ [])
-    ∷ (nestedSyndromesRefusal 1 A (0xC2 ∷ 0x01 ∷ 0x13 ∷ []) 2 1 ∷ [], 7 ∷ [])
-    ∷ (nestedSyndromesRefusal 2 A (0xC2 ∷ 0x01 ∷ 0x13 ∷ []) 2 3 ∷ [], 7 ∷ [])
-    ∷ (remainderRefusal A (0xC2 ∷ 0x01 ∷ 0x13 ∷ 0x00 ∷ 0x00 ∷ []) 9 97 ∷ [], 7 ∷ [])
-    ∷ (shortRefusal A (0xC2 ∷ 0x01 ∷ 0x13 ∷ 0x00 ∷ 0x00 ∷ []) 9 97 ∷ [], 7 ∷ [])
-    ∷ (nestedRefusal A (0xC2 ∷ 0x01 ∷ 0x13 ∷ 0x00 ∷ 0x00 ∷ []) 9 3 ∷ [], 7 ∷ [])
-    ∷ (syndromesRefusal 1 A (0xC2 ∷ 0x01 ∷ 0x13 ∷ 0x00 ∷ 0x00 ∷ []) 9 3 ∷ [], 7 ∷ [])
-    ∷ (syndromesRefusal 2 A (0xC2 ∷ 0x01 ∷ 0x13 ∷ 0x00 ∷ 0x00 ∷ []) 9 5 ∷ [], 7 ∷ [])
-    ∷ (nestedSyndromesRefusal 1 A (0xC2 ∷ 0x01 ∷ 0x13 ∷ 0x00 ∷ 0x00 ∷ []) 9 3 ∷ [], 7 ∷ [])
-    ∷ (nestedSyndromesRefusal 2 A (0xC2 ∷ 0x01 ∷ 0x13 ∷ 0x00 ∷ 0x00 ∷ []) 9 5 ∷ [], 7 ∷ [])
-    ∷ (remainderRefusal A (0xC2 ∷ 0x01 ∷ 0x13 ∷ 0x80 ∷ []) 0 96 ∷ [], 8 ∷ [])
-    ∷ (shortRefusal A (0xC2 ∷ 0x01 ∷ 0x13 ∷ 0x80 ∷ []) 0 96 ∷ [], 8 ∷ [])
-    ∷ (nestedRefusal A (0xC2 ∷ 0x01 ∷ 0x13 ∷ 0x80 ∷ []) 0 2 ∷ [], 8 ∷ [])
-    ∷ (syndromesRefusal 1 A (0xC2 ∷ 0x01 ∷ 0x13 ∷ 0x80 ∷ []) 0 2 ∷ [], 8 ∷ [])
-    ∷ (syndromesRefusal 2 A (0xC2 ∷ 0x01 ∷ 0x13 ∷ 0x80 ∷ []) 0 4 ∷ [], 8 ∷ [])
-    ∷ (nestedSyndromesRefusal 1 A (0xC2 ∷ 0x01 ∷ 0x13 ∷ 0x80 ∷ []) 0 4 ∷ [], 8 ∷ [])
-    ∷ (nestedSyndromesRefusal 2 A (0xC2 ∷ 0x01 ∷ 0x13 ∷ 0x80 ∷ []) 0 8 ∷ [], 8 ∷ [])
-    ∷ (remainderRefusal A (0xC2 ∷ 0x01 ∷ 0x13 ∷ 0x80 ∷ []) 2 95 ∷ [], 8 ∷ [])
-    ∷ (shortRefusal A (0xC2 ∷ 0x01 ∷ 0x13 ∷ 0x80 ∷ []) 2 95 ∷ [], 8 ∷ [])
-    ∷ (nestedRefusal A (0xC2 ∷ 0x01 ∷ 0x13 ∷ 0x80 ∷ []) 2 1 ∷ [], 8 ∷ [])
-    ∷ (syndromesRefusal 1 A (0xC2 ∷ 0x01 ∷ 0x13 ∷ 0x80 ∷ []) 2 1 ∷ [], 8 ∷ [])
-    ∷ (syndromesRefusal 2 A (0xC2 ∷ 0x01 ∷ 0x13 ∷ 0x80 ∷ []) 2 3 ∷ [], 8 ∷ [])
-    ∷ (nestedSyndromesRefusal 1 A (0xC2 ∷ 0x01 ∷ 0x13 ∷ 0x80 ∷ []) 2 1 ∷ [], 8 ∷ [])
-    ∷ (nestedSyndromesRefusal 2 A (0xC2 ∷ 0x01 ∷ 0x13 ∷ 0x80 ∷ []) 2 3 ∷ [], 8 ∷ [])
-    ∷ (remainderRefusal A (0xC2 ∷ 0x01 ∷ 0x13 ∷ []) 0 96 ∷ [], 7 ∷ [])
-    ∷ (shortRefusal A (0xC2 ∷ 0x01 ∷ 0x13 ∷ []) 0 96 ∷ [], 7 ∷ [])
-    ∷ (nestedRefusal A (0xC2 ∷ 0x01 ∷ 0x13 ∷ []) 0 2 ∷ [], 7 ∷ [])
-    ∷ (syndromesRefusal 1 A (0xC2 ∷ 0x01 ∷ 0x13 ∷ []) 0 2 ∷ [], 7 ∷ [])
-    ∷ (syndromesRefusal 2 A (0xC2 ∷ 0x01 ∷ 0x13 ∷ []) 0 4 ∷ [], 7 ∷ [])
-    ∷ (nestedSyndromesRefusal 1 A (0xC2 ∷ 0x01 ∷ 0x13 ∷ []) 0 4 ∷ [], 7 ∷ [])
-    ∷ (nestedSyndromesRefusal 2 A (0xC2 ∷ 0x01 ∷ 0x13 ∷ []) 0 8 ∷ [], 7 ∷ [])
-    ∷ (remainderRefusal B (0x26 ∷ 0x00 ∷ 0x35 ∷ 0x00 ∷ 0x13 ∷ 0x00 ∷ []) 0 96 ∷ [], 0 ∷ [])
-    ∷ (shortRefusal B (0x26 ∷ 0x00 ∷ 0x35 ∷ 0x00 ∷ 0x13 ∷ 0x00 ∷ []) 0 96 ∷ [], 0 ∷ [])
-    ∷ (nestedRefusal B (0x26 ∷ 0x00 ∷ 0x35 ∷ 0x00 ∷ 0x13 ∷ 0x00 ∷ []) 0 2 ∷ [], 0 ∷ [])
-    ∷ (syndromesRefusal 1 B (0x26 ∷ 0x00 ∷ 0x35 ∷ 0x00 ∷ 0x13 ∷ 0x00 ∷ []) 0 2 ∷ [], 0 ∷ [])
-    ∷ (syndromesRefusal 2 B (0x26 ∷ 0x00 ∷ 0x35 ∷ 0x00 ∷ 0x13 ∷ 0x00 ∷ []) 0 4 ∷ [], 0 ∷ [])
-    ∷ (nestedSyndromesRefusal 1 B (0x26 ∷ 0x00 ∷ 0x35 ∷ 0x00 ∷ 0x13 ∷ 0x00 ∷ []) 0 6 ∷ [], 0 ∷ [])
-    ∷ (nestedSyndromesRefusal 2 B (0x26 ∷ 0x00 ∷ 0x35 ∷ 0x00 ∷ 0x13 ∷ 0x00 ∷ []) 0 12 ∷ [], 0 ∷ [])
-    ∷ (remainderRefusal B (0x26 ∷ 0x00 ∷ 0x35 ∷ 0x00 ∷ 0x13 ∷ 0x00 ∷ []) 1 96 ∷ [], 0 ∷ [])
-    ∷ (shortRefusal B (0x26 ∷ 0x00 ∷ 0x35 ∷ 0x00 ∷ 0x13 ∷ 0x00 ∷ []) 1 96 ∷ [], 0 ∷ [])
-    ∷ (nestedRefusal B (0x26 ∷ 0x00 ∷ 0x35 ∷ 0x00 ∷ 0x13 ∷ 0x00 ∷ []) 1 2 ∷ [], 0 ∷ [])
-    ∷ (syndromesRefusal 1 B (0x26 ∷ 0x00 ∷ 0x35 ∷ 0x00 ∷ 0x13 ∷ 0x00 ∷ []) 1 2 ∷ [], 0 ∷ [])
-    ∷ (syndromesRefusal 2 B (0x26 ∷ 0x00 ∷ 0x35 ∷ 0x00 ∷ 0x13 ∷ 0x00 ∷ []) 1 4 ∷ [], 0 ∷ [])
-    ∷ (nestedSyndromesRefusal 1 B (0x26 ∷ 0x00 ∷ 0x35 ∷ 0x00 ∷ 0x13 ∷ 0x00 ∷ []) 1 4 ∷ [], 0 ∷ [])
-    ∷ (nestedSyndromesRefusal 2 B (0x26 ∷ 0x00 ∷ 0x35 ∷ 0x00 ∷ 0x13 ∷ 0x00 ∷ []) 1 8 ∷ [], 0 ∷ [])
-    ∷ (remainderRefusal B (0x26 ∷ 0x00 ∷ 0x35 ∷ 0x00 ∷ 0x13 ∷ 0x00 ∷ []) 1 97 ∷ [], 10 ∷ [])
-    ∷ (shortRefusal B (0x26 ∷ 0x00 ∷ 0x35 ∷ 0x00 ∷ 0x13 ∷ 0x00 ∷ []) 1 97 ∷ [], 10 ∷ [])
-    ∷ (nestedRefusal B (0x26 ∷ 0x00 ∷ 0x35 ∷ 0x00 ∷ 0x13 ∷ 0x00 ∷ []) 1 3 ∷ [], 10 ∷ [])
-    ∷ (syndromesRefusal 1 B (0x26 ∷ 0x00 ∷ 0x35 ∷ 0x00 ∷ 0x13 ∷ 0x00 ∷ []) 1 3 ∷ [], 10 ∷ [])
-    ∷ (syndromesRefusal 2 B (0x26 ∷ 0x00 ∷ 0x35 ∷ 0x00 ∷ 0x13 ∷ 0x00 ∷ []) 1 5 ∷ [], 10 ∷ [])
-    ∷ (nestedSyndromesRefusal 1 B (0x26 ∷ 0x00 ∷ 0x35 ∷ 0x00 ∷ 0x13 ∷ 0x00 ∷ []) 1 5 ∷ [], 10 ∷ [])
-    ∷ (nestedSyndromesRefusal 2 B (0x26 ∷ 0x00 ∷ 0x35 ∷ 0x00 ∷ 0x13 ∷ 0x00 ∷ []) 1 9 ∷ [], 10 ∷ [])
-    ∷ (remainderRefusal B (0x26 ∷ 0x00 ∷ 0x35 ∷ 0x00 ∷ 0x13 ∷ 0x00 ∷ []) 2 96 ∷ [], 0 ∷ [])
-    ∷ (shortRefusal B (0x26 ∷ 0x00 ∷ 0x35 ∷ 0x00 ∷ 0x13 ∷ 0x00 ∷ []) 2 96 ∷ [], 9 ∷ [])
-    ∷ (nestedRefusal B (0x26 ∷ 0x00 ∷ 0x35 ∷ 0x00 ∷ 0x13 ∷ 0x00 ∷ []) 2 2 ∷ [], 9 ∷ [])
-    ∷ (syndromesRefusal 1 B (0x26 ∷ 0x00 ∷ 0x35 ∷ 0x00 ∷ 0x13 ∷ 0x00 ∷ []) 2 2 ∷ [], 0 ∷ [])
-    ∷ (syndromesRefusal 2 B (0x26 ∷ 0x00 ∷ 0x35 ∷ 0x00 ∷ 0x13 ∷ 0x00 ∷ []) 2 4 ∷ [], 0 ∷ [])
-    ∷ (nestedSyndromesRefusal 1 B (0x26 ∷ 0x00 ∷ 0x35 ∷ 0x00 ∷ 0x13 ∷ 0x00 ∷ []) 2 2 ∷ [], 9 ∷ [])
-    ∷ (nestedSyndromesRefusal 2 B (0x26 ∷ 0x00 ∷ 0x35 ∷ 0x00 ∷ 0x13 ∷ 0x00 ∷ []) 2 4 ∷ [], 9 ∷ [])
-    ∷ (remainderRefusal B (0x26 ∷ 0x00 ∷ 0x35 ∷ 0x00 ∷ 0x13 ∷ 0x00 ∷ []) 3 96 ∷ [], 9 ∷ [])
-    ∷ (shortRefusal B (0x26 ∷ 0x00 ∷ 0x35 ∷ 0x00 ∷ 0x13 ∷ 0x00 ∷ []) 3 96 ∷ [], 9 ∷ [])
-    ∷ (nestedRefusal B (0x26 ∷ 0x00 ∷ 0x35 ∷ 0x00 ∷ 0x13 ∷ 0x00 ∷ []) 3 2 ∷ [], 9 ∷ [])
-    ∷ (syndromesRefusal 1 B (0x26 ∷ 0x00 ∷ 0x35 ∷ 0x00 ∷ 0x13 ∷ 0x00 ∷ []) 3 2 ∷ [], 9 ∷ [])
-    ∷ (syndromesRefusal 2 B (0x26 ∷ 0x00 ∷ 0x35 ∷ 0x00 ∷ 0x13 ∷ 0x00 ∷ []) 3 4 ∷ [], 9 ∷ [])
-    ∷ (nestedSyndromesRefusal 1 B (0x26 ∷ 0x00 ∷ 0x35 ∷ 0x00 ∷ 0x13 ∷ 0x00 ∷ []) 3 2 ∷ [], 9 ∷ [])
-    ∷ (nestedSyndromesRefusal 2 B (0x26 ∷ 0x00 ∷ 0x35 ∷ 0x00 ∷ 0x13 ∷ 0x00 ∷ []) 3 4 ∷ [], 9 ∷ [])
-    ∷ (remainderRefusal B (0x26 ∷ 0x00 ∷ 0x35 ∷ 0x00 ∷ 0x13 ∷ 0x00 ∷ []) 2 95 ∷ [], 10 ∷ [])
-    ∷ (shortRefusal B (0x26 ∷ 0x00 ∷ 0x35 ∷ 0x00 ∷ 0x13 ∷ 0x00 ∷ []) 2 95 ∷ [], 9 ∷ [])
-    ∷ (nestedRefusal B (0x26 ∷ 0x00 ∷ 0x35 ∷ 0x00 ∷ 0x13 ∷ 0x00 ∷ []) 2 1 ∷ [], 9 ∷ [])
-    ∷ (syndromesRefusal 1 B (0x26 ∷ 0x00 ∷ 0x35 ∷ 0x00 ∷ 0x13 ∷ 0x00 ∷ []) 2 1 ∷ [], 10 ∷ [])
-    ∷ (syndromesRefusal 2 B (0x26 ∷ 0x00 ∷ 0x35 ∷ 0x00 ∷ 0x13 ∷ 0x00 ∷ []) 2 3 ∷ [], 10 ∷ [])
-    ∷ (nestedSyndromesRefusal 1 B (0x26 ∷ 0x00 ∷ 0x35 ∷ 0x00 ∷ 0x13 ∷ 0x00 ∷ []) 2 1 ∷ [], 9 ∷ [])
-    ∷ (nestedSyndromesRefusal 2 B (0x26 ∷ 0x00 ∷ 0x35 ∷ 0x00 ∷ 0x13 ∷ 0x00 ∷ []) 2 3 ∷ [], 9 ∷ [])
-    ∷ (nestedSyndromesRefusal 1 B (replicate 6 0x00) 0 4 ∷ [], 10 ∷ [])
-    ∷ (nestedSyndromesRefusal 2 B (replicate 6 0x00) 1 4 ∷ [], 10 ∷ [])
-    ∷ (nestedSyndromesRefusal 1 B (replicate 6 0x00) 0 6 ∷ [], 0 ∷ [])
-    ∷ (nestedSyndromesRefusal 2 B (replicate 6 0x00) 1 6 ∷ [], 10 ∷ [])
-    ∷ (nestedSyndromesRefusal 1 B (replicate 6 0x00) 0 8 ∷ [], 10 ∷ [])
-    ∷ (nestedSyndromesRefusal 2 B (replicate 6 0x00) 1 8 ∷ [], 0 ∷ [])
-    ∷ (nestedSyndromesRefusal 1 B (replicate 6 0x00) 0 12 ∷ [], 10 ∷ [])
-    ∷ (nestedSyndromesRefusal 2 B (replicate 6 0x00) 1 12 ∷ [], 10 ∷ [])
-    ∷ []
-
-pub wordRefusals-hold : map (λ r. r .0) wordRefusals ≡ map (λ r. r .1) wordRefusals
-unfolding wordRefusals wordRefusal
-wordRefusals-hold = refl
-
--- Refused calls: the number, and the lent buffer as it was.
-pub refusedCalls : List Row
-refusedCalls =
-    (written (sheet 5 2 1 1 2 0 0) 8 (0x01 ∷ 0x01 ∷ 0x00 ∷ []) (0xA1 ∷ 0xB2 ∷ 0xC3 ∷ 0xD4 ∷ []), 1 ∷ 0xA1 ∷ 0xB2 ∷ 0xC3 ∷ 0xD4 ∷ [])
-    ∷ (written (sheet 4 6 1 1 2 0 0) 0 (0x01 ∷ 0x01 ∷ 0x00 ∷ []) (0xA1 ∷ 0xB2 ∷ 0xC3 ∷ 0xD4 ∷ []), 4 ∷ 0xA1 ∷ 0xB2 ∷ 0xC3 ∷ 0xD4 ∷ [])
-    ∷ (written A 65 (0x01 ∷ 0x01 ∷ 0x00 ∷ []) (0xA1 ∷ 0xB2 ∷ 0xC3 ∷ 0xD4 ∷ []), 5 ∷ 0xA1 ∷ 0xB2 ∷ 0xC3 ∷ 0xD4 ∷ [])
-    ∷ (written A 8 (0x01 ∷ 0x01 ∷ 0x00 ∷ 0x00 ∷ []) (0xA1 ∷ 0xB2 ∷ 0xC3 ∷ 0xD4 ∷ []), 6 ∷ 0xA1 ∷ 0xB2 ∷ 0xC3 ∷ 0xD4 ∷ [])
-    ∷ (written A 8 (0xFF ∷ 0xFF ∷ 0xFF ∷ []) (0xA1 ∷ 0xB2 ∷ 0xC3 ∷ 0xD4 ∷ []), 8 ∷ 0xA1 ∷ 0xB2 ∷ 0xC3 ∷ 0xD4 ∷ [])
-    ∷ (written A 8 (0x01 ∷ 0x01 ∷ 0x00 ∷ []) (0xA1 ∷ 0xB2 ∷ 0xC3 ∷ []), 7 ∷ 0xA1 ∷ 0xB2 ∷ 0xC3 ∷ [])
-    ∷ (readOut (sheet 4 2 0 1 2 0 0) (0xC2 ∷ 0x01 ∷ 0x13 ∷ 0x00 ∷ []) (0xA1 ∷ 0xB2 ∷ 0xC3 ∷ 0xD4 ∷ []), 2 ∷ 0xA1 ∷ 0xB2 ∷ 0xC3 ∷ 0xD4 ∷ [])
-    ∷ (judged (sheet 4 2 0 1 2 0 0) (0xC2 ∷ 0x01 ∷ 0x13 ∷ 0x00 ∷ []), 2 ∷ [])
-    ∷ (readOut A (0xC2 ∷ 0x01 ∷ 0x13 ∷ 0x00 ∷ []) (0xA1 ∷ 0xB2 ∷ 0xC3 ∷ 0xD4 ∷ []), 6 ∷ 0xA1 ∷ 0xB2 ∷ 0xC3 ∷ 0xD4 ∷ [])
-    ∷ (judged A (0xC2 ∷ 0x01 ∷ 0x13 ∷ 0x00 ∷ []), 0 ∷ [])
-    ∷ (readOut A (0xC2 ∷ 0x01 ∷ 0x13 ∷ []) (0xA1 ∷ 0xB2 ∷ 0xC3 ∷ []), 7 ∷ 0xA1 ∷ 0xB2 ∷ 0xC3 ∷ [])
-    ∷ (judged A (0xC2 ∷ 0x01 ∷ 0x13 ∷ []), 7 ∷ [])
-    ∷ (readOut A (0xC2 ∷ 0x01 ∷ 0x13 ∷ 0x80 ∷ []) (0xA1 ∷ 0xB2 ∷ 0xC3 ∷ []), 8 ∷ 0xA1 ∷ 0xB2 ∷ 0xC3 ∷ [])
-    ∷ (judged A (0xC2 ∷ 0x01 ∷ 0x13 ∷ 0x80 ∷ []), 8 ∷ [])
-    ∷ (readOut A (0xFF ∷ 0xFF ∷ 0xFF ∷ 0xFF ∷ []) (0xA1 ∷ 0xB2 ∷ 0xC3 ∷ 0xD4 ∷ []), 6 ∷ 0xA1 ∷ 0xB2 ∷ 0xC3 ∷ 0xD4 ∷ [])
-    ∷ (judged A (0xFF ∷ 0xFF ∷ 0xFF ∷ 0xFF ∷ []), 8 ∷ [])
-    ∷ (remainderMade A (0xC2 ∷ 0x01 ∷ 0x13 ∷ 0x00 ∷ []) 2 (replicate 96 0xAA), 9 ∷ replicate 96 0xAA)
-    ∷ (remainderMade A (0xC2 ∷ 0x01 ∷ 0x13 ∷ 0x00 ∷ []) 1 (replicate 95 0xAA), 10 ∷ replicate 95 0xAA)
-    ∷ (shortMade A (0xC2 ∷ 0x01 ∷ 0x13 ∷ 0x00 ∷ []) 1 (replicate 96 0xAA), 9 ∷ replicate 96 0xAA)
-    ∷ (shortMade A (0xC2 ∷ 0x01 ∷ 0x13 ∷ 0x00 ∷ []) 0 (replicate 97 0xAA), 10 ∷ replicate 97 0xAA)
-    ∷ (nestedMade A (0xC2 ∷ 0x01 ∷ 0x13 ∷ 0x00 ∷ []) 1 (0xAA ∷ 0xAA ∷ []), 9 ∷ 0xAA ∷ 0xAA ∷ [])
-    ∷ (nestedMade A (0xC2 ∷ 0x01 ∷ 0x13 ∷ 0x00 ∷ []) 0 (0xAA ∷ 0xAA ∷ 0xAA ∷ []), 10 ∷ 0xAA ∷ 0xAA ∷ 0xAA ∷ [])
-    ∷ (syndromesMade A (0xC2 ∷ 0x01 ∷ 0x13 ∷ 0x00 ∷ []) 2 (0xAA ∷ 0xAA ∷ []), 9 ∷ 0xAA ∷ 0xAA ∷ [])
-    ∷ (syndromesMade A (0xC2 ∷ 0x01 ∷ 0x13 ∷ 0x00 ∷ []) 0 (0xAA ∷ 0xAA ∷ 0xAA ∷ 0xAA ∷ []), 10 ∷ 0xAA ∷ 0xAA ∷ 0xAA ∷ 0xAA ∷ [])
-    ∷ (syndromesMadeC A (0xC2 ∷ 0x01 ∷ 0x13 ∷ 0x00 ∷ []) 0 (0xAA ∷ 0xAA ∷ []), 10 ∷ 0xAA ∷ 0xAA ∷ [])
-    ∷ (nestedSyndromesMade A (0xC2 ∷ 0x01 ∷ 0x13 ∷ 0x00 ∷ []) 0 (replicate 8 0xAA), 10 ∷ replicate 8 0xAA)
-    ∷ (nestedSyndromesMadeC A (0xC2 ∷ 0x01 ∷ 0x13 ∷ 0x00 ∷ []) 0 (0xAA ∷ 0xAA ∷ 0xAA ∷ 0xAA ∷ []), 10 ∷ 0xAA ∷ 0xAA ∷ 0xAA ∷ 0xAA ∷ [])
-    ∷ (nestedSyndromesMadeC A (0xC2 ∷ 0x01 ∷ 0x13 ∷ 0x00 ∷ []) 1 (replicate 8 0xAA), 9 ∷ replicate 8 0xAA)
-    ∷ []
-
-pub refusedCalls-hold : map (λ r. r .0) refusedCalls ≡ map (λ r. r .1) refusedCalls
-unfolding refusedCalls readAnswer readLeaves judgeAnswer wordRefusal writeRefusal pow
-refusedCalls-hold = refl
-
--- Opening a register: the number, then level, count and words.
-pub openings : List Row
-openings =
-    (handed (opened A 0), replicate 15 0)
-    ∷ (handed (opened A 1), 0 ∷ 1 ∷ replicate 13 0)
-    ∷ (handed (opened A 2), 9 ∷ replicate 14 0)
-    ∷ (handed (opened A 3), 9 ∷ replicate 14 0)
-    ∷ (handed (opened A 4), 9 ∷ replicate 14 0)
-    ∷ (handed (opened B 0), replicate 15 0)
-    ∷ (handed (opened B 1), 0 ∷ 1 ∷ replicate 13 0)
-    ∷ (handed (opened B 2), 0 ∷ 2 ∷ replicate 13 0)
-    ∷ (handed (opened B 3), 9 ∷ replicate 14 0)
-    ∷ (handed (opened B 4), 9 ∷ replicate 14 0)
-    ∷ (handed (opened (sheet 4 5 3 1 2 2 2) 0), replicate 15 0)
-    ∷ (handed (opened (sheet 4 5 3 1 2 2 2) 1), 0 ∷ 1 ∷ replicate 13 0)
-    ∷ (handed (opened (sheet 4 5 3 1 2 2 2) 2), 0 ∷ 2 ∷ replicate 13 0)
-    ∷ (handed (opened (sheet 4 5 3 1 2 2 2) 3), 0 ∷ 3 ∷ replicate 13 0)
-    ∷ (handed (opened (sheet 4 5 3 1 2 2 2) 4), 9 ∷ replicate 14 0)
-    ∷ (handed (opened (sheet 4 3 2 6 7 7 0) 0), replicate 15 0)
-    ∷ (handed (opened (sheet 4 3 2 6 7 7 0) 1), 0 ∷ 1 ∷ replicate 13 0)
-    ∷ (handed (opened (sheet 4 3 2 6 7 7 0) 2), 0 ∷ 2 ∷ replicate 13 0)
-    ∷ (handed (opened (sheet 4 3 2 6 7 7 0) 3), 9 ∷ replicate 14 0)
-    ∷ (handed (opened (sheet 4 3 2 6 7 7 0) 4), 9 ∷ replicate 14 0)
-    ∷ (handed (opened (sheet 6 2 1 1 2 0 0) 0), 1 ∷ replicate 14 0)
-    ∷ (handed (opened (sheet 6 2 1 1 2 0 0) 1), 1 ∷ replicate 14 0)
-    ∷ (handed (opened (sheet 6 2 1 1 2 0 0) 2), 1 ∷ replicate 14 0)
-    ∷ (handed (opened (sheet 6 2 1 1 2 0 0) 3), 1 ∷ replicate 14 0)
-    ∷ (handed (opened (sheet 6 2 1 1 2 0 0) 4), 1 ∷ replicate 14 0)
-    ∷ (handed (opened (sheet 4 2 0 1 2 0 0) 0), 2 ∷ replicate 14 0)
-    ∷ (handed (opened (sheet 4 2 0 1 2 0 0) 1), 2 ∷ replicate 14 0)
-    ∷ (handed (opened (sheet 4 2 0 1 2 0 0) 2), 2 ∷ replicate 14 0)
-    ∷ (handed (opened (sheet 4 2 0 1 2 0 0) 3), 2 ∷ replicate 14 0)
-    ∷ (handed (opened (sheet 4 2 0 1 2 0 0) 4), 2 ∷ replicate 14 0)
-    ∷ (handed (opened (sheet 4 2 1 2 2 0 0) 0), 3 ∷ replicate 14 0)
-    ∷ (handed (opened (sheet 4 2 1 2 2 0 0) 1), 3 ∷ replicate 14 0)
-    ∷ (handed (opened (sheet 4 2 1 2 2 0 0) 2), 3 ∷ replicate 14 0)
-    ∷ (handed (opened (sheet 4 2 1 2 2 0 0) 3), 3 ∷ replicate 14 0)
-    ∷ (handed (opened (sheet 4 2 1 2 2 0 0) 4), 3 ∷ replicate 14 0)
-    ∷ (handed (opened (sheet 4 6 1 1 2 0 0) 0), 4 ∷ replicate 14 0)
-    ∷ (handed (opened (sheet 4 6 1 1 2 0 0) 1), 4 ∷ replicate 14 0)
-    ∷ (handed (opened (sheet 4 6 1 1 2 0 0) 2), 4 ∷ replicate 14 0)
-    ∷ (handed (opened (sheet 4 6 1 1 2 0 0) 3), 4 ∷ replicate 14 0)
-    ∷ (handed (opened (sheet 4 6 1 1 2 0 0) 4), 4 ∷ replicate 14 0)
-    ∷ []
-
-pub openings-hold : map (λ r. r .0) openings ≡ map (λ r. r .1) openings
-unfolding openings opened
-openings-hold = refl
-
--- Feedings after an opening: what is left is the remainder of the polynomial formed so far.
-pub feedings : List Row
-feedings =
-    (handed (feeding A (opened A 0) ((15, 0x5CBF) ∷ [])), 0 ∷ 0 ∷ 15 ∷ 14 ∷ replicate 11 0)
-    ∷ (handed (feeding A (opened A 1) ((15, 0x7251) ∷ [])), 0 ∷ 1 ∷ 15 ∷ 132 ∷ replicate 11 0)
-    ∷ (handed (feeding A (opened A 1) ((8, 0x16) ∷ (7, 0x30) ∷ [])), 0 ∷ 1 ∷ 15 ∷ 143 ∷ replicate 11 0)
-    ∷ (handed (feeding A (opened A 1) ((1, 0x1) ∷ (1, 0x0) ∷ (1, 0x0) ∷ (1, 0x1) ∷ (1, 0x0) ∷ (1, 0x1) ∷ (1, 0x1) ∷ (1, 0x1) ∷ (1, 0x0) ∷ [])), 0 ∷ 1 ∷ 9 ∷ 255 ∷ replicate 11 0)
-    ∷ (handed (feeding B (opened B 2) ((7, 0x4C) ∷ (1, 0x1) ∷ (7, 0x2) ∷ [])), 0 ∷ 2 ∷ 15 ∷ 320 ∷ replicate 11 0)
-    ∷ (handed (feeding B (opened B 0) ((5, 0xF) ∷ (5, 0x9) ∷ (5, 0x12) ∷ [])), 0 ∷ 0 ∷ 15 ∷ 9 ∷ replicate 11 0)
-    ∷ (handed (feeding (sheet 4 2 1 4 5 0 0) (opened (sheet 4 2 1 4 5 0 0) 1) ((14, 0x13F9) ∷ (1, 0x0) ∷ [])), 0 ∷ 1 ∷ 15 ∷ 10226 ∷ replicate 11 0)
-    ∷ (handed (feeding (sheet 4 5 3 1 2 2 2) (opened (sheet 4 5 3 1 2 2 2) 3) ((3, 0x6) ∷ (4, 0xF) ∷ (8, 0xC2) ∷ [])), 0 ∷ 3 ∷ 15 ∷ 7 ∷ replicate 11 0)
-    ∷ (handed (feeding (sheet 4 3 2 6 7 7 0) (opened (sheet 4 3 2 6 7 7 0) 0) ((15, 0x37BE) ∷ [])), 0 ∷ 0 ∷ 15 ∷ 14270 ∷ replicate 11 0)
-    ∷ (handed (feeding (sheet 4 3 2 2 5 7 0) (opened (sheet 4 3 2 2 5 7 0) 1) ((11, 0x59E) ∷ (4, 0x4) ∷ [])), 0 ∷ 1 ∷ 15 ∷ 9755 ∷ replicate 11 0)
-    ∷ (handed (feeding (sheet 4 3 2 2 5 7 0) (opened (sheet 4 3 2 2 5 7 0) 0) ((4, 0x7) ∷ (11, 0xD5) ∷ [])), 0 ∷ 0 ∷ 15 ∷ 134 ∷ replicate 11 0)
-    ∷ (handed (feeding A (opened A 1) ((8, 0x36) ∷ (8, 0x7C) ∷ [])), 11 ∷ 1 ∷ 8 ∷ 54 ∷ replicate 11 0)
-    ∷ (handed (feeding A (opened A 0) ((15, 0x39E1) ∷ (1, 0x0) ∷ [])), 11 ∷ 0 ∷ 15 ∷ 9 ∷ replicate 11 0)
-    ∷ (handed (feeding B (opened B 1) ((16, 0xA6FD) ∷ [])), 11 ∷ 1 ∷ replicate 13 0)
-    ∷ (handed (feeding B (opened B 1) ((64, 0x44CEBF8) ∷ [])), 11 ∷ 1 ∷ replicate 13 0)
-    ∷ []
-
-pub feedings-hold : map (λ r. r .0) feedings ≡ map (λ r. r .1) feedings
-unfolding feedings opened feeding pow
-feedings-hold = refl
-
--- A feeding of any register: refused, it comes back as it was.
-pub feedRefusals : List Row
-feedRefusals =
-    (handed (fed (sheet 7 2 1 1 2 0 0) 0 (register 9 99 0xFFFFFFFFFFFFFFFF) 0x1), 1 ∷ 9 ∷ 99 ∷ 18446744073709551615 ∷ replicate 11 0)
-    ∷ (handed (fed (sheet 4 1 1 1 2 0 0) 0 (register 9 99 0xFFFFFFFFFFFFFFFF) 0x1), 2 ∷ 9 ∷ 99 ∷ 18446744073709551615 ∷ replicate 11 0)
-    ∷ (handed (fed (sheet 4 2 1 3 2 0 0) 0 (register 9 99 0xFFFFFFFFFFFFFFFF) 0x1), 3 ∷ 9 ∷ 99 ∷ 18446744073709551615 ∷ replicate 11 0)
-    ∷ (handed (fed (sheet 4 7 1 1 2 0 0) 0 (register 9 99 0xFFFFFFFFFFFFFFFF) 0x1), 4 ∷ 9 ∷ 99 ∷ 18446744073709551615 ∷ replicate 11 0)
-    ∷ (handed (fed A 0 (register 0 0 0x0) 0x0), 5 ∷ replicate 14 0)
-    ∷ (handed (fed A 65 (register 0 0 0x0) 0x0), 5 ∷ replicate 14 0)
-    ∷ (handed (fed A 64 (register 0 0 0x0) 0x0), 11 ∷ replicate 14 0)
-    ∷ (handed (fed A 16 (register 0 0 0x0) 0x0), 11 ∷ replicate 14 0)
-    ∷ (handed (fed A 15 (register 0 0 0x0) 0x7FFF), 0 ∷ 0 ∷ 15 ∷ replicate 12 0)
-    ∷ (handed (fed A 15 (register 0 0 0x0) 0x8000), 8 ∷ replicate 14 0)
-    ∷ (handed (fed A 0 (register 2 16 0x10) 0x1), 5 ∷ 2 ∷ 16 ∷ 16 ∷ replicate 11 0)
-    ∷ (handed (fed A 65 (register 2 16 0x10) 0xFFFFFFFFFFFFFFFF), 5 ∷ 2 ∷ 16 ∷ 16 ∷ replicate 11 0)
-    ∷ (handed (fed A 3 (register 2 16 0x10) 0x8), 8 ∷ 2 ∷ 16 ∷ 16 ∷ replicate 11 0)
-    ∷ (handed (fed A 3 (register 2 16 0x10) 0x7), 11 ∷ 2 ∷ 16 ∷ 16 ∷ replicate 11 0)
-    ∷ (handed (fed A 3 (register 2 12 0x10) 0x7), 12 ∷ 2 ∷ 12 ∷ 16 ∷ replicate 11 0)
-    ∷ (handed (fed A 3 (register 1 12 0xFF) 0x7), 0 ∷ 1 ∷ 15 ∷ 187 ∷ replicate 11 0)
-    ∷ (handed (fed A 3 (register 1 12 0x100) 0x7), 12 ∷ 1 ∷ 12 ∷ 256 ∷ replicate 11 0)
-    ∷ (handed (fed A 3 (register 1 13 0xFF) 0x7), 11 ∷ 1 ∷ 13 ∷ 255 ∷ replicate 11 0)
-    ∷ (handed (fed A 3 (register 0 12 0xF) 0x7), 0 ∷ 0 ∷ 15 ∷ 6 ∷ replicate 11 0)
-    ∷ (handed (fed A 3 (register 0 12 0x10) 0x7), 12 ∷ 0 ∷ 12 ∷ 16 ∷ replicate 11 0)
-    ∷ (handed (fed A 1 (register 0 14 0x0) 0x1), 0 ∷ 0 ∷ 15 ∷ 1 ∷ replicate 11 0)
-    ∷ (handed (fed A 1 (register 0 15 0x0) 0x1), 11 ∷ 0 ∷ 15 ∷ replicate 12 0)
-    ∷ (handed (fed A 1 (register 0 15 0x0) 0x2), 8 ∷ 0 ∷ 15 ∷ replicate 12 0)
-    ∷ (handed (fed A 4 (register 0 0 0x9) 0x5), 0 ∷ 0 ∷ 4 ∷ 13 ∷ replicate 11 0)
-    ∷ (handed (fed A 8 (register 1 0 0xAB) 0xCD), 0 ∷ 1 ∷ 8 ∷ 7 ∷ replicate 11 0)
-    ∷ (handed (fed A 1 (register 1 7 0x80) 0x0), 0 ∷ 1 ∷ 8 ∷ 209 ∷ replicate 11 0)
-    ∷ (handed (fed A 1 (register 1 7 0x80) 0x1), 0 ∷ 1 ∷ 8 ∷ 208 ∷ replicate 11 0)
-    ∷ (handed (fed A 15 (register 1 0 0xFF) 0x7FFF), 0 ∷ 1 ∷ 15 ∷ 255 ∷ replicate 11 0)
-    ∷ (handed (fed A 15 (register 0 0 0xF) 0x1234), 0 ∷ 0 ∷ 15 ∷ 11 ∷ replicate 11 0)
-    ∷ (handed (fed A 1 (register 2 0 0x0) 0x0), 12 ∷ 2 ∷ replicate 13 0)
-    ∷ (handed (fed A 1 (register 4294967295 0 0x0) 0x0), 12 ∷ 4294967295 ∷ replicate 13 0)
-    ∷ (handed (fed A 1 (register 0 18446744073709551615 0x0) 0x0), 11 ∷ 0 ∷ 18446744073709551615 ∷ replicate 12 0)
-    ∷ (handed (fed A 64 (register 1 18446744073709551615 0x0) 0x0), 11 ∷ 1 ∷ 18446744073709551615 ∷ replicate 12 0)
-    ∷ (handed (fed A 64 (register 0 18446744073709551615 0xFFFFFFFFFFFFFFFF) 0xFFFFFFFFFFFFFFFF), 11 ∷ 0 ∷ 18446744073709551615 ∷ 18446744073709551615 ∷ replicate 11 0)
-    ∷ (handed (fed A 1 (register 0 0 0xFFFFFFFFFFFFFFFF) 0x0), 12 ∷ 0 ∷ 0 ∷ 18446744073709551615 ∷ replicate 11 0)
-    ∷ (handed (fed B 5 (register 2 4 0x3FF) 0x1F), 0 ∷ 2 ∷ 9 ∷ replicate 12 0)
-    ∷ (handed (fed B 5 (register 2 4 0x400) 0x1F), 12 ∷ 2 ∷ 4 ∷ 1024 ∷ replicate 11 0)
-    ∷ (handed (fed B 5 (register 3 4 0x0) 0x0), 12 ∷ 3 ∷ 4 ∷ replicate 12 0)
-    ∷ (handed (fed (sheet 4 3 2 6 7 7 0) 1 (register 2 14 0x3FFF) 0x1), 0 ∷ 2 ∷ 15 ∷ replicate 12 0)
-    ∷ (handed (fed (sheet 4 3 2 6 7 7 0) 1 (register 2 14 0x4000) 0x1), 12 ∷ 2 ∷ 14 ∷ 16384 ∷ replicate 11 0)
-    ∷ (handed (fed (sheet 8 2 1 1 2 0 0) 64 (register 0 192 0x0) 0x0), 11 ∷ 0 ∷ 192 ∷ replicate 12 0)
-    ∷ (handed (fed (sheet 8 2 1 1 2 0 0) 64 (register 0 191 0x0) 0x0), 0 ∷ 0 ∷ 255 ∷ replicate 12 0)
-    ∷ (handed (fed (sheet 12 2 1 1 2 0 0) 64 (register 0 4032 0x0) 0x0), 11 ∷ 0 ∷ 4032 ∷ replicate 12 0)
-    ∷ (handed (fed (sheet 12 2 1 1 2 0 0) 64 (register 0 4031 0x0) 0x0), 0 ∷ 0 ∷ 4095 ∷ replicate 12 0)
-    ∷ (handed (fed A 8 (feeding B (opened B 1) ((7, 0x55) ∷ []) .register) 0x99), 0 ∷ 1 ∷ 15 ∷ 124 ∷ replicate 11 0)
-    ∷ (handed (fed (sheet 4 2 1 4 5 0 0) 8 (feeding B (opened B 1) ((7, 0x55) ∷ []) .register) 0x99), 0 ∷ 1 ∷ 15 ∷ 10854 ∷ replicate 11 0)
-    ∷ (handed (fed (sheet 4 5 3 1 2 2 2) 8 (feeding B (opened B 1) ((7, 0x55) ∷ []) .register) 0x99), 0 ∷ 1 ∷ 15 ∷ 124 ∷ replicate 11 0)
-    ∷ (handed (fed A 8 (feeding B (opened B 2) ((7, 0x55) ∷ []) .register) 0x99), 12 ∷ 2 ∷ 7 ∷ 85 ∷ replicate 11 0)
-    ∷ (handed (fed A 1 (record { level = 1; count = 0; remainder = replicate 11 0 ++ 1 ∷ [] }) 1), 12 ∷ 1 ∷ 0 ∷ 0 ∷ 0 ∷ 0 ∷ 0 ∷ 0 ∷ 0 ∷ 0 ∷ 0 ∷ 0 ∷ 0 ∷ 0 ∷ 1 ∷ [])
-    ∷ []
-
-pub feedRefusals-hold : map (λ r. r .0) feedRefusals ≡ map (λ r. r .1) feedRefusals
-unfolding feedRefusals opened feeding fed pow
-feedRefusals-hold = refl
-
--- Sheets with huge numbers, in every call.
-pub hugeSheets : List Row
-hugeSheets =
-    (tests (sheet 255 2 1 1 2 0 0), 1 ∷ [])
-    ∷ (written (sheet 255 2 1 1 2 0 0) 4294967295 (0x01 ∷ 0x01 ∷ 0x00 ∷ []) (0xC2 ∷ 0x01 ∷ 0x13 ∷ 0x00 ∷ []), 1 ∷ 0xC2 ∷ 0x01 ∷ 0x13 ∷ 0x00 ∷ [])
-    ∷ (readOut (sheet 255 2 1 1 2 0 0) (0xC2 ∷ 0x01 ∷ 0x13 ∷ 0x00 ∷ []) (0x01 ∷ 0x01 ∷ 0x00 ∷ []), 1 ∷ 0x01 ∷ 0x01 ∷ 0x00 ∷ [])
-    ∷ (judged (sheet 255 2 1 1 2 0 0) (0xC2 ∷ 0x01 ∷ 0x13 ∷ 0x00 ∷ []), 1 ∷ [])
-    ∷ (remainderMade (sheet 255 2 1 1 2 0 0) (0xC2 ∷ 0x01 ∷ 0x13 ∷ 0x00 ∷ []) 18446744073709551615 (0x01 ∷ 0x01 ∷ 0x00 ∷ []), 1 ∷ 0x01 ∷ 0x01 ∷ 0x00 ∷ [])
-    ∷ (shortMade (sheet 255 2 1 1 2 0 0) (0xC2 ∷ 0x01 ∷ 0x13 ∷ 0x00 ∷ []) 18446744073709551615 (0x01 ∷ 0x01 ∷ 0x00 ∷ []), 1 ∷ 0x01 ∷ 0x01 ∷ 0x00 ∷ [])
-    ∷ (nestedMade (sheet 255 2 1 1 2 0 0) (0xC2 ∷ 0x01 ∷ 0x13 ∷ 0x00 ∷ []) 18446744073709551615 (0x01 ∷ 0x01 ∷ 0x00 ∷ []), 1 ∷ 0x01 ∷ 0x01 ∷ 0x00 ∷ [])
-    ∷ (syndromesMade (sheet 255 2 1 1 2 0 0) (0xC2 ∷ 0x01 ∷ 0x13 ∷ 0x00 ∷ []) 18446744073709551615 (0x01 ∷ 0x01 ∷ 0x00 ∷ []), 1 ∷ 0x01 ∷ 0x01 ∷ 0x00 ∷ [])
-    ∷ (nestedSyndromesMade (sheet 255 2 1 1 2 0 0) (0xC2 ∷ 0x01 ∷ 0x13 ∷ 0x00 ∷ []) 18446744073709551615 (0x01 ∷ 0x01 ∷ 0x00 ∷ []), 1 ∷ 0x01 ∷ 0x01 ∷ 0x00 ∷ [])
-    ∷ (syndromesMadeC (sheet 255 2 1 1 2 0 0) (0xC2 ∷ 0x01 ∷ 0x13 ∷ 0x00 ∷ []) 18446744073709551615 (0x01 ∷ 0x01 ∷ 0x00 ∷ []), 1 ∷ 0x01 ∷ 0x01 ∷ 0x00 ∷ [])
-    ∷ (nestedSyndromesMadeC (sheet 255 2 1 1 2 0 0) (0xC2 ∷ 0x01 ∷ 0x13 ∷ 0x00 ∷ []) 18446744073709551615 (0x01 ∷ 0x01 ∷ 0x00 ∷ []), 1 ∷ 0x01 ∷ 0x01 ∷ 0x00 ∷ [])
-    ∷ (handed (opened (sheet 255 2 1 1 2 0 0) 4294967295), 1 ∷ replicate 14 0)
-    ∷ (handed (fed (sheet 255 2 1 1 2 0 0) 4294967295 (register 4294967295 18446744073709551615 0xFFFFFFFFFFFFFFFF) 0xFFFFFFFFFFFFFFFF), 1 ∷ 4294967295 ∷ 18446744073709551615 ∷ 18446744073709551615 ∷ replicate 11 0)
-    ∷ (tests (sheet 4294967295 2 1 1 2 0 0), 1 ∷ [])
-    ∷ (written (sheet 4294967295 2 1 1 2 0 0) 4294967295 (0x01 ∷ 0x01 ∷ 0x00 ∷ []) (0xC2 ∷ 0x01 ∷ 0x13 ∷ 0x00 ∷ []), 1 ∷ 0xC2 ∷ 0x01 ∷ 0x13 ∷ 0x00 ∷ [])
-    ∷ (readOut (sheet 4294967295 2 1 1 2 0 0) (0xC2 ∷ 0x01 ∷ 0x13 ∷ 0x00 ∷ []) (0x01 ∷ 0x01 ∷ 0x00 ∷ []), 1 ∷ 0x01 ∷ 0x01 ∷ 0x00 ∷ [])
-    ∷ (judged (sheet 4294967295 2 1 1 2 0 0) (0xC2 ∷ 0x01 ∷ 0x13 ∷ 0x00 ∷ []), 1 ∷ [])
-    ∷ (remainderMade (sheet 4294967295 2 1 1 2 0 0) (0xC2 ∷ 0x01 ∷ 0x13 ∷ 0x00 ∷ []) 18446744073709551615 (0x01 ∷ 0x01 ∷ 0x00 ∷ []), 1 ∷ 0x01 ∷ 0x01 ∷ 0x00 ∷ [])
-    ∷ (shortMade (sheet 4294967295 2 1 1 2 0 0) (0xC2 ∷ 0x01 ∷ 0x13 ∷ 0x00 ∷ []) 18446744073709551615 (0x01 ∷ 0x01 ∷ 0x00 ∷ []), 1 ∷ 0x01 ∷ 0x01 ∷ 0x00 ∷ [])
-    ∷ (nestedMade (sheet 4294967295 2 1 1 2 0 0) (0xC2 ∷ 0x01 ∷ 0x13 ∷ 0x00 ∷ []) 18446744073709551615 (0x01 ∷ 0x01 ∷ 0x00 ∷ []), 1 ∷ 0x01 ∷ 0x01 ∷ 0x00 ∷ [])
-    ∷ (syndromesMade (sheet 4294967295 2 1 1 2 0 0) (0xC2 ∷ 0x01 ∷ 0x13 ∷ 0x00 ∷ []) 18446744073709551615 (0x01 ∷ 0x01 ∷ 0x00 ∷ []), 1 ∷ 0x01 ∷ 0x01 ∷ 0x00 ∷ [])
-    ∷ (nestedSyndromesMade (sheet 4294967295 2 1 1 2 0 0) (0xC2 ∷ 0x01 ∷ 0x13 ∷ 0x00 ∷ []) 18446744073709551615 (0x01 ∷ 0x01 ∷ 0x00 ∷ []), 1 ∷ 0x01 ∷ 0x01 ∷ 0x00 ∷ [])
-    ∷ (syndromesMadeC (sheet 4294967295 2 1 1 2 0 0) (0xC2 ∷ 0x01 ∷ 0x13 ∷ 0x00 ∷ []) 18446744073709551615 (0x01 ∷ 0x01 ∷ 0x00 ∷ []), 1 ∷ 0x01 ∷ 0x01 ∷ 0x00 ∷ [])
-    ∷ (nestedSyndromesMadeC (sheet 4294967295 2 1 1 2 0 0) (0xC2 ∷ 0x01 ∷ 0x13 ∷ 0x00 ∷ []) 18446744073709551615 (0x01 ∷ 0x01 ∷ 0x00 ∷ []), 1 ∷ 0x01 ∷ 0x01 ∷ 0x00 ∷ [])
-    ∷ (handed (opened (sheet 4294967295 2 1 1 2 0 0) 4294967295), 1 ∷ replicate 14 0)
-    ∷ (handed (fed (sheet 4294967295 2 1 1 2 0 0) 4294967295 (register 4294967295 18446744073709551615 0xFFFFFFFFFFFFFFFF) 0xFFFFFFFFFFFFFFFF), 1 ∷ 4294967295 ∷ 18446744073709551615 ∷ 18446744073709551615 ∷ replicate 11 0)
-    ∷ (tests (sheet 4 4294967295 1 1 2 0 0), 2 ∷ [])
-    ∷ (written (sheet 4 4294967295 1 1 2 0 0) 4294967295 (0x01 ∷ 0x01 ∷ 0x00 ∷ []) (0xC2 ∷ 0x01 ∷ 0x13 ∷ 0x00 ∷ []), 2 ∷ 0xC2 ∷ 0x01 ∷ 0x13 ∷ 0x00 ∷ [])
-    ∷ (readOut (sheet 4 4294967295 1 1 2 0 0) (0xC2 ∷ 0x01 ∷ 0x13 ∷ 0x00 ∷ []) (0x01 ∷ 0x01 ∷ 0x00 ∷ []), 2 ∷ 0x01 ∷ 0x01 ∷ 0x00 ∷ [])
-    ∷ (judged (sheet 4 4294967295 1 1 2 0 0) (0xC2 ∷ 0x01 ∷ 0x13 ∷ 0x00 ∷ []), 2 ∷ [])
-    ∷ (remainderMade (sheet 4 4294967295 1 1 2 0 0) (0xC2 ∷ 0x01 ∷ 0x13 ∷ 0x00 ∷ []) 18446744073709551615 (0x01 ∷ 0x01 ∷ 0x00 ∷ []), 2 ∷ 0x01 ∷ 0x01 ∷ 0x00 ∷ [])
-    ∷ (shortMade (sheet 4 4294967295 1 1 2 0 0) (0xC2 ∷ 0x01 ∷ 0x13 ∷ 0x00 ∷ []) 18446744073709551615 (0x01 ∷ 0x01 ∷ 0x00 ∷ []), 2 ∷ 0x01 ∷ 0x01 ∷ 0x00 ∷ [])
-    ∷ (nestedMade (sheet 4 4294967295 1 1 2 0 0) (0xC2 ∷ 0x01 ∷ 0x13 ∷ 0x00 ∷ []) 18446744073709551615 (0x01 ∷ 0x01 ∷ 0x00 ∷ []), 2 ∷ 0x01 ∷ 0x01 ∷ 0x00 ∷ [])
-    ∷ (syndromesMade (sheet 4 4294967295 1 1 2 0 0) (0xC2 ∷ 0x01 ∷ 0x13 ∷ 0x00 ∷ []) 18446744073709551615 (0x01 ∷ 0x01 ∷ 0x00 ∷ []), 2 ∷ 0x01 ∷ 0x01 ∷ 0x00 ∷ [])
-    ∷ (nestedSyndromesMade (sheet 4 4294967295 1 1 2 0 0) (0xC2 ∷ 0x01 ∷ 0x13 ∷ 0x00 ∷ []) 18446744073709551615 (0x01 ∷ 0x01 ∷ 0x00 ∷ []), 2 ∷ 0x01 ∷ 0x01 ∷ 0x00 ∷ [])
-    ∷ (syndromesMadeC (sheet 4 4294967295 1 1 2 0 0) (0xC2 ∷ 0x01 ∷ 0x13 ∷ 0x00 ∷ []) 18446744073709551615 (0x01 ∷ 0x01 ∷ 0x00 ∷ []), 2 ∷ 0x01 ∷ 0x01 ∷ 0x00 ∷ [])
-    ∷ (nestedSyndromesMadeC (sheet 4 4294967295 1 1 2 0 0) (0xC2 ∷ 0x01 ∷ 0x13 ∷ 0x00 ∷ []) 18446744073709551615 (0x01 ∷ 0x01 ∷ 0x00 ∷ []), 2 ∷ 0x01 ∷ 0x01 ∷ 0x00 ∷ [])
-    ∷ (handed (opened (sheet 4 4294967295 1 1 2 0 0) 4294967295), 2 ∷ replicate 14 0)
-    ∷ (handed (fed (sheet 4 4294967295 1 1 2 0 0) 4294967295 (register 4294967295 18446744073709551615 0xFFFFFFFFFFFFFFFF) 0xFFFFFFFFFFFFFFFF), 2 ∷ 4294967295 ∷ 18446744073709551615 ∷ 18446744073709551615 ∷ replicate 11 0)
-    ∷ (tests (sheet 4 2 4294967295 1 2 0 0), 2 ∷ [])
-    ∷ (written (sheet 4 2 4294967295 1 2 0 0) 4294967295 (0x01 ∷ 0x01 ∷ 0x00 ∷ []) (0xC2 ∷ 0x01 ∷ 0x13 ∷ 0x00 ∷ []), 2 ∷ 0xC2 ∷ 0x01 ∷ 0x13 ∷ 0x00 ∷ [])
-    ∷ (readOut (sheet 4 2 4294967295 1 2 0 0) (0xC2 ∷ 0x01 ∷ 0x13 ∷ 0x00 ∷ []) (0x01 ∷ 0x01 ∷ 0x00 ∷ []), 2 ∷ 0x01 ∷ 0x01 ∷ 0x00 ∷ [])
-    ∷ (judged (sheet 4 2 4294967295 1 2 0 0) (0xC2 ∷ 0x01 ∷ 0x13 ∷ 0x00 ∷ []), 2 ∷ [])
-    ∷ (remainderMade (sheet 4 2 4294967295 1 2 0 0) (0xC2 ∷ 0x01 ∷ 0x13 ∷ 0x00 ∷ []) 18446744073709551615 (0x01 ∷ 0x01 ∷ 0x00 ∷ []), 2 ∷ 0x01 ∷ 0x01 ∷ 0x00 ∷ [])
-    ∷ (shortMade (sheet 4 2 4294967295 1 2 0 0) (0xC2 ∷ 0x01 ∷ 0x13 ∷ 0x00 ∷ []) 18446744073709551615 (0x01 ∷ 0x01 ∷ 0x00 ∷ []), 2 ∷ 0x01 ∷ 0x01 ∷ 0x00 ∷ [])
-    ∷ (nestedMade (sheet 4 2 4294967295 1 2 0 0) (0xC2 ∷ 0x01 ∷ 0x13 ∷ 0x00 ∷ []) 18446744073709551615 (0x01 ∷ 0x01 ∷ 0x00 ∷ []), 2 ∷ 0x01 ∷ 0x01 ∷ 0x00 ∷ [])
-    ∷ (syndromesMade (sheet 4 2 4294967295 1 2 0 0) (0xC2 ∷ 0x01 ∷ 0x13 ∷ 0x00 ∷ []) 18446744073709551615 (0x01 ∷ 0x01 ∷ 0x00 ∷ []), 2 ∷ 0x01 ∷ 0x01 ∷ 0x00 ∷ [])
-    ∷ (nestedSyndromesMade (sheet 4 2 4294967295 1 2 0 0) (0xC2 ∷ 0x01 ∷ 0x13 ∷ 0x00 ∷ []) 18446744073709551615 (0x01 ∷ 0x01 ∷ 0x00 ∷ []), 2 ∷ 0x01 ∷ 0x01 ∷ 0x00 ∷ [])
-    ∷ (syndromesMadeC (sheet 4 2 4294967295 1 2 0 0) (0xC2 ∷ 0x01 ∷ 0x13 ∷ 0x00 ∷ []) 18446744073709551615 (0x01 ∷ 0x01 ∷ 0x00 ∷ []), 2 ∷ 0x01 ∷ 0x01 ∷ 0x00 ∷ [])
-    ∷ (nestedSyndromesMadeC (sheet 4 2 4294967295 1 2 0 0) (0xC2 ∷ 0x01 ∷ 0x13 ∷ 0x00 ∷ []) 18446744073709551615 (0x01 ∷ 0x01 ∷ 0x00 ∷ []), 2 ∷ 0x01 ∷ 0x01 ∷ 0x00 ∷ [])
-    ∷ (handed (opened (sheet 4 2 4294967295 1 2 0 0) 4294967295), 2 ∷ replicate 14 0)
-    ∷ (handed (fed (sheet 4 2 4294967295 1 2 0 0) 4294967295 (register 4294967295 18446744073709551615 0xFFFFFFFFFFFFFFFF) 0xFFFFFFFFFFFFFFFF), 2 ∷ 4294967295 ∷ 18446744073709551615 ∷ 18446744073709551615 ∷ replicate 11 0)
-    ∷ (tests (sheet 4 4294967295 4294967295 1 2 0 0), 2 ∷ [])
-    ∷ (written (sheet 4 4294967295 4294967295 1 2 0 0) 4294967295 (0x01 ∷ 0x01 ∷ 0x00 ∷ []) (0xC2 ∷ 0x01 ∷ 0x13 ∷ 0x00 ∷ []), 2 ∷ 0xC2 ∷ 0x01 ∷ 0x13 ∷ 0x00 ∷ [])
-    ∷ (readOut (sheet 4 4294967295 4294967295 1 2 0 0) (0xC2 ∷ 0x01 ∷ 0x13 ∷ 0x00 ∷ []) (0x01 ∷ 0x01 ∷ 0x00 ∷ []), 2 ∷ 0x01 ∷ 0x01 ∷ 0x00 ∷ [])
-    ∷ (judged (sheet 4 4294967295 4294967295 1 2 0 0) (0xC2 ∷ 0x01 ∷ 0x13 ∷ 0x00 ∷ []), 2 ∷ [])
-    ∷ (remainderMade (sheet 4 4294967295 4294967295 1 2 0 0) (0xC2 ∷ 0x01 ∷ 0x13 ∷ 0x00 ∷ []) 18446744073709551615 (0x01 ∷ 0x01 ∷ 0x00 ∷ []), 2 ∷ 0x01 ∷ 0x01 ∷ 0x00 ∷ [])
-    ∷ (shortMade (sheet 4 4294967295 4294967295 1 2 0 0) (0xC2 ∷ 0x01 ∷ 0x13 ∷ 0x00 ∷ []) 18446744073709551615 (0x01 ∷ 0x01 ∷ 0x00 ∷ []), 2 ∷ 0x01 ∷ 0x01 ∷ 0x00 ∷ [])
-    ∷ (nestedMade (sheet 4 4294967295 4294967295 1 2 0 0) (0xC2 ∷ 0x01 ∷ 0x13 ∷ 0x00 ∷ []) 18446744073709551615 (0x01 ∷ 0x01 ∷ 0x00 ∷ []), 2 ∷ 0x01 ∷ 0x01 ∷ 0x00 ∷ [])
-    ∷ (syndromesMade (sheet 4 4294967295 4294967295 1 2 0 0) (0xC2 ∷ 0x01 ∷ 0x13 ∷ 0x00 ∷ []) 18446744073709551615 (0x01 ∷ 0x01 ∷ 0x00 ∷ []), 2 ∷ 0x01 ∷ 0x01 ∷ 0x00 ∷ [])
-    ∷ (nestedSyndromesMade (sheet 4 4294967295 4294967295 1 2 0 0) (0xC2 ∷ 0x01 ∷ 0x13 ∷ 0x00 ∷ []) 18446744073709551615 (0x01 ∷ 0x01 ∷ 0x00 ∷ []), 2 ∷ 0x01 ∷ 0x01 ∷ 0x00 ∷ [])
-    ∷ (syndromesMadeC (sheet 4 4294967295 4294967295 1 2 0 0) (0xC2 ∷ 0x01 ∷ 0x13 ∷ 0x00 ∷ []) 18446744073709551615 (0x01 ∷ 0x01 ∷ 0x00 ∷ []), 2 ∷ 0x01 ∷ 0x01 ∷ 0x00 ∷ [])
-    ∷ (nestedSyndromesMadeC (sheet 4 4294967295 4294967295 1 2 0 0) (0xC2 ∷ 0x01 ∷ 0x13 ∷ 0x00 ∷ []) 18446744073709551615 (0x01 ∷ 0x01 ∷ 0x00 ∷ []), 2 ∷ 0x01 ∷ 0x01 ∷ 0x00 ∷ [])
-    ∷ (handed (opened (sheet 4 4294967295 4294967295 1 2 0 0) 4294967295), 2 ∷ replicate 14 0)
-    ∷ (handed (fed (sheet 4 4294967295 4294967295 1 2 0 0) 4294967295 (register 4294967295 18446744073709551615 0xFFFFFFFFFFFFFFFF) 0xFFFFFFFFFFFFFFFF), 2 ∷ 4294967295 ∷ 18446744073709551615 ∷ 18446744073709551615 ∷ replicate 11 0)
-    ∷ (tests (sheet 4 2 1 4294967295 2 0 0), 3 ∷ [])
-    ∷ (written (sheet 4 2 1 4294967295 2 0 0) 4294967295 (0x01 ∷ 0x01 ∷ 0x00 ∷ []) (0xC2 ∷ 0x01 ∷ 0x13 ∷ 0x00 ∷ []), 3 ∷ 0xC2 ∷ 0x01 ∷ 0x13 ∷ 0x00 ∷ [])
-    ∷ (readOut (sheet 4 2 1 4294967295 2 0 0) (0xC2 ∷ 0x01 ∷ 0x13 ∷ 0x00 ∷ []) (0x01 ∷ 0x01 ∷ 0x00 ∷ []), 3 ∷ 0x01 ∷ 0x01 ∷ 0x00 ∷ [])
-    ∷ (judged (sheet 4 2 1 4294967295 2 0 0) (0xC2 ∷ 0x01 ∷ 0x13 ∷ 0x00 ∷ []), 3 ∷ [])
-    ∷ (remainderMade (sheet 4 2 1 4294967295 2 0 0) (0xC2 ∷ 0x01 ∷ 0x13 ∷ 0x00 ∷ []) 18446744073709551615 (0x01 ∷ 0x01 ∷ 0x00 ∷ []), 3 ∷ 0x01 ∷ 0x01 ∷ 0x00 ∷ [])
-    ∷ (shortMade (sheet 4 2 1 4294967295 2 0 0) (0xC2 ∷ 0x01 ∷ 0x13 ∷ 0x00 ∷ []) 18446744073709551615 (0x01 ∷ 0x01 ∷ 0x00 ∷ []), 3 ∷ 0x01 ∷ 0x01 ∷ 0x00 ∷ [])
-    ∷ (nestedMade (sheet 4 2 1 4294967295 2 0 0) (0xC2 ∷ 0x01 ∷ 0x13 ∷ 0x00 ∷ []) 18446744073709551615 (0x01 ∷ 0x01 ∷ 0x00 ∷ []), 3 ∷ 0x01 ∷ 0x01 ∷ 0x00 ∷ [])
-    ∷ (syndromesMade (sheet 4 2 1 4294967295 2 0 0) (0xC2 ∷ 0x01 ∷ 0x13 ∷ 0x00 ∷ []) 18446744073709551615 (0x01 ∷ 0x01 ∷ 0x00 ∷ []), 3 ∷ 0x01 ∷ 0x01 ∷ 0x00 ∷ [])
-    ∷ (nestedSyndromesMade (sheet 4 2 1 4294967295 2 0 0) (0xC2 ∷ 0x01 ∷ 0x13 ∷ 0x00 ∷ []) 18446744073709551615 (0x01 ∷ 0x01 ∷ 0x00 ∷ []), 3 ∷ 0x01 ∷ 0x01 ∷ 0x00 ∷ [])
-    ∷ (syndromesMadeC (sheet 4 2 1 4294967295 2 0 0) (0xC2 ∷ 0x01 ∷ 0x13 ∷ 0x00 ∷ []) 18446744073709551615 (0x01 ∷ 0x01 ∷ 0x00 ∷ []), 3 ∷ 0x01 ∷ 0x01 ∷ 0x00 ∷ [])
-    ∷ (nestedSyndromesMadeC (sheet 4 2 1 4294967295 2 0 0) (0xC2 ∷ 0x01 ∷ 0x13 ∷ 0x00 ∷ []) 18446744073709551615 (0x01 ∷ 0x01 ∷ 0x00 ∷ []), 3 ∷ 0x01 ∷ 0x01 ∷ 0x00 ∷ [])
-    ∷ (handed (opened (sheet 4 2 1 4294967295 2 0 0) 4294967295), 3 ∷ replicate 14 0)
-    ∷ (handed (fed (sheet 4 2 1 4294967295 2 0 0) 4294967295 (register 4294967295 18446744073709551615 0xFFFFFFFFFFFFFFFF) 0xFFFFFFFFFFFFFFFF), 3 ∷ 4294967295 ∷ 18446744073709551615 ∷ 18446744073709551615 ∷ replicate 11 0)
-    ∷ (tests (sheet 4 2 1 1 4294967295 0 0), 3 ∷ [])
-    ∷ (written (sheet 4 2 1 1 4294967295 0 0) 4294967295 (0x01 ∷ 0x01 ∷ 0x00 ∷ []) (0xC2 ∷ 0x01 ∷ 0x13 ∷ 0x00 ∷ []), 3 ∷ 0xC2 ∷ 0x01 ∷ 0x13 ∷ 0x00 ∷ [])
-    ∷ (readOut (sheet 4 2 1 1 4294967295 0 0) (0xC2 ∷ 0x01 ∷ 0x13 ∷ 0x00 ∷ []) (0x01 ∷ 0x01 ∷ 0x00 ∷ []), 3 ∷ 0x01 ∷ 0x01 ∷ 0x00 ∷ [])
-    ∷ (judged (sheet 4 2 1 1 4294967295 0 0) (0xC2 ∷ 0x01 ∷ 0x13 ∷ 0x00 ∷ []), 3 ∷ [])
-    ∷ (remainderMade (sheet 4 2 1 1 4294967295 0 0) (0xC2 ∷ 0x01 ∷ 0x13 ∷ 0x00 ∷ []) 18446744073709551615 (0x01 ∷ 0x01 ∷ 0x00 ∷ []), 3 ∷ 0x01 ∷ 0x01 ∷ 0x00 ∷ [])
-    ∷ (shortMade (sheet 4 2 1 1 4294967295 0 0) (0xC2 ∷ 0x01 ∷ 0x13 ∷ 0x00 ∷ []) 18446744073709551615 (0x01 ∷ 0x01 ∷ 0x00 ∷ []), 3 ∷ 0x01 ∷ 0x01 ∷ 0x00 ∷ [])
-    ∷ (nestedMade (sheet 4 2 1 1 4294967295 0 0) (0xC2 ∷ 0x01 ∷ 0x13 ∷ 0x00 ∷ []) 18446744073709551615 (0x01 ∷ 0x01 ∷ 0x00 ∷ []), 3 ∷ 0x01 ∷ 0x01 ∷ 0x00 ∷ [])
-    ∷ (syndromesMade (sheet 4 2 1 1 4294967295 0 0) (0xC2 ∷ 0x01 ∷ 0x13 ∷ 0x00 ∷ []) 18446744073709551615 (0x01 ∷ 0x01 ∷ 0x00 ∷ []), 3 ∷ 0x01 ∷ 0x01 ∷ 0x00 ∷ [])
-    ∷ (nestedSyndromesMade (sheet 4 2 1 1 4294967295 0 0) (0xC2 ∷ 0x01 ∷ 0x13 ∷ 0x00 ∷ []) 18446744073709551615 (0x01 ∷ 0x01 ∷ 0x00 ∷ []), 3 ∷ 0x01 ∷ 0x01 ∷ 0x00 ∷ [])
-    ∷ (syndromesMadeC (sheet 4 2 1 1 4294967295 0 0) (0xC2 ∷ 0x01 ∷ 0x13 ∷ 0x00 ∷ []) 18446744073709551615 (0x01 ∷ 0x01 ∷ 0x00 ∷ []), 3 ∷ 0x01 ∷ 0x01 ∷ 0x00 ∷ [])
-    ∷ (nestedSyndromesMadeC (sheet 4 2 1 1 4294967295 0 0) (0xC2 ∷ 0x01 ∷ 0x13 ∷ 0x00 ∷ []) 18446744073709551615 (0x01 ∷ 0x01 ∷ 0x00 ∷ []), 3 ∷ 0x01 ∷ 0x01 ∷ 0x00 ∷ [])
-    ∷ (handed (opened (sheet 4 2 1 1 4294967295 0 0) 4294967295), 3 ∷ replicate 14 0)
-    ∷ (handed (fed (sheet 4 2 1 1 4294967295 0 0) 4294967295 (register 4294967295 18446744073709551615 0xFFFFFFFFFFFFFFFF) 0xFFFFFFFFFFFFFFFF), 3 ∷ 4294967295 ∷ 18446744073709551615 ∷ 18446744073709551615 ∷ replicate 11 0)
-    ∷ (tests (sheet 4 2 1 1 2 4294967295 0), 3 ∷ [])
-    ∷ (written (sheet 4 2 1 1 2 4294967295 0) 4294967295 (0x01 ∷ 0x01 ∷ 0x00 ∷ []) (0xC2 ∷ 0x01 ∷ 0x13 ∷ 0x00 ∷ []), 3 ∷ 0xC2 ∷ 0x01 ∷ 0x13 ∷ 0x00 ∷ [])
-    ∷ (readOut (sheet 4 2 1 1 2 4294967295 0) (0xC2 ∷ 0x01 ∷ 0x13 ∷ 0x00 ∷ []) (0x01 ∷ 0x01 ∷ 0x00 ∷ []), 3 ∷ 0x01 ∷ 0x01 ∷ 0x00 ∷ [])
-    ∷ (judged (sheet 4 2 1 1 2 4294967295 0) (0xC2 ∷ 0x01 ∷ 0x13 ∷ 0x00 ∷ []), 3 ∷ [])
-    ∷ (remainderMade (sheet 4 2 1 1 2 4294967295 0) (0xC2 ∷ 0x01 ∷ 0x13 ∷ 0x00 ∷ []) 18446744073709551615 (0x01 ∷ 0x01 ∷ 0x00 ∷ []), 3 ∷ 0x01 ∷ 0x01 ∷ 0x00 ∷ [])
-    ∷ (shortMade (sheet 4 2 1 1 2 4294967295 0) (0xC2 ∷ 0x01 ∷ 0x13 ∷ 0x00 ∷ []) 18446744073709551615 (0x01 ∷ 0x01 ∷ 0x00 ∷ []), 3 ∷ 0x01 ∷ 0x01 ∷ 0x00 ∷ [])
-    ∷ (nestedMade (sheet 4 2 1 1 2 4294967295 0) (0xC2 ∷ 0x01 ∷ 0x13 ∷ 0x00 ∷ []) 18446744073709551615 (0x01 ∷ 0x01 ∷ 0x00 ∷ []), 3 ∷ 0x01 ∷ 0x01 ∷ 0x00 ∷ [])
-    ∷ (syndromesMade (sheet 4 2 1 1 2 4294967295 0) (0xC2 ∷ 0x01 ∷ 0x13 ∷ 0x00 ∷ []) 18446744073709551615 (0x01 ∷ 0x01 ∷ 0x00 ∷ []), 3 ∷ 0x01 ∷ 0x01 ∷ 0x00 ∷ [])
-    ∷ (nestedSyndromesMade (sheet 4 2 1 1 2 4294967295 0) (0xC2 ∷ 0x01 ∷ 0x13 ∷ 0x00 ∷ []) 18446744073709551615 (0x01 ∷ 0x01 ∷ 0x00 ∷ []), 3 ∷ 0x01 ∷ 0x01 ∷ 0x00 ∷ [])
-    ∷ (syndromesMadeC (sheet 4 2 1 1 2 4294967295 0) (0xC2 ∷ 0x01 ∷ 0x13 ∷ 0x00 ∷ []) 18446744073709551615 (0x01 ∷ 0x01 ∷ 0x00 ∷ []), 3 ∷ 0x01 ∷ 0x01 ∷ 0x00 ∷ [])
-    ∷ (nestedSyndromesMadeC (sheet 4 2 1 1 2 4294967295 0) (0xC2 ∷ 0x01 ∷ 0x13 ∷ 0x00 ∷ []) 18446744073709551615 (0x01 ∷ 0x01 ∷ 0x00 ∷ []), 3 ∷ 0x01 ∷ 0x01 ∷ 0x00 ∷ [])
-    ∷ (handed (opened (sheet 4 2 1 1 2 4294967295 0) 4294967295), 3 ∷ replicate 14 0)
-    ∷ (handed (fed (sheet 4 2 1 1 2 4294967295 0) 4294967295 (register 4294967295 18446744073709551615 0xFFFFFFFFFFFFFFFF) 0xFFFFFFFFFFFFFFFF), 3 ∷ 4294967295 ∷ 18446744073709551615 ∷ 18446744073709551615 ∷ replicate 11 0)
-    ∷ (tests (sheet 4 2 1 1 2 0 4294967295), 3 ∷ [])
-    ∷ (written (sheet 4 2 1 1 2 0 4294967295) 4294967295 (0x01 ∷ 0x01 ∷ 0x00 ∷ []) (0xC2 ∷ 0x01 ∷ 0x13 ∷ 0x00 ∷ []), 3 ∷ 0xC2 ∷ 0x01 ∷ 0x13 ∷ 0x00 ∷ [])
-    ∷ (readOut (sheet 4 2 1 1 2 0 4294967295) (0xC2 ∷ 0x01 ∷ 0x13 ∷ 0x00 ∷ []) (0x01 ∷ 0x01 ∷ 0x00 ∷ []), 3 ∷ 0x01 ∷ 0x01 ∷ 0x00 ∷ [])
-    ∷ (judged (sheet 4 2 1 1 2 0 4294967295) (0xC2 ∷ 0x01 ∷ 0x13 ∷ 0x00 ∷ []), 3 ∷ [])
-    ∷ (remainderMade (sheet 4 2 1 1 2 0 4294967295) (0xC2 ∷ 0x01 ∷ 0x13 ∷ 0x00 ∷ []) 18446744073709551615 (0x01 ∷ 0x01 ∷ 0x00 ∷ []), 3 ∷ 0x01 ∷ 0x01 ∷ 0x00 ∷ [])
-    ∷ (shortMade (sheet 4 2 1 1 2 0 4294967295) (0xC2 ∷ 0x01 ∷ 0x13 ∷ 0x00 ∷ []) 18446744073709551615 (0x01 ∷ 0x01 ∷ 0x00 ∷ []), 3 ∷ 0x01 ∷ 0x01 ∷ 0x00 ∷ [])
-    ∷ (nestedMade (sheet 4 2 1 1 2 0 4294967295) (0xC2 ∷ 0x01 ∷ 0x13 ∷ 0x00 ∷ []) 18446744073709551615 (0x01 ∷ 0x01 ∷ 0x00 ∷ []), 3 ∷ 0x01 ∷ 0x01 ∷ 0x00 ∷ [])
-    ∷ (syndromesMade (sheet 4 2 1 1 2 0 4294967295) (0xC2 ∷ 0x01 ∷ 0x13 ∷ 0x00 ∷ []) 18446744073709551615 (0x01 ∷ 0x01 ∷ 0x00 ∷ []), 3 ∷ 0x01 ∷ 0x01 ∷ 0x00 ∷ [])
-    ∷ (nestedSyndromesMade (sheet 4 2 1 1 2 0 4294967295) (0xC2 ∷ 0x01 ∷ 0x13 ∷ 0x00 ∷ []) 18446744073709551615 (0x01 ∷ 0x01 ∷ 0x00 ∷ []), 3 ∷ 0x01 ∷ 0x01 ∷ 0x00 ∷ [])
-    ∷ (syndromesMadeC (sheet 4 2 1 1 2 0 4294967295) (0xC2 ∷ 0x01 ∷ 0x13 ∷ 0x00 ∷ []) 18446744073709551615 (0x01 ∷ 0x01 ∷ 0x00 ∷ []), 3 ∷ 0x01 ∷ 0x01 ∷ 0x00 ∷ [])
-    ∷ (nestedSyndromesMadeC (sheet 4 2 1 1 2 0 4294967295) (0xC2 ∷ 0x01 ∷ 0x13 ∷ 0x00 ∷ []) 18446744073709551615 (0x01 ∷ 0x01 ∷ 0x00 ∷ []), 3 ∷ 0x01 ∷ 0x01 ∷ 0x00 ∷ [])
-    ∷ (handed (opened (sheet 4 2 1 1 2 0 4294967295) 4294967295), 3 ∷ replicate 14 0)
-    ∷ (handed (fed (sheet 4 2 1 1 2 0 4294967295) 4294967295 (register 4294967295 18446744073709551615 0xFFFFFFFFFFFFFFFF) 0xFFFFFFFFFFFFFFFF), 3 ∷ 4294967295 ∷ 18446744073709551615 ∷ 18446744073709551615 ∷ replicate 11 0)
-    ∷ (tests (sheet 4 4 3 1 2 2 4294967295), 3 ∷ [])
-    ∷ (written (sheet 4 4 3 1 2 2 4294967295) 4294967295 (0x01 ∷ 0x01 ∷ 0x00 ∷ []) (0xC2 ∷ 0x01 ∷ 0x13 ∷ 0x00 ∷ []), 3 ∷ 0xC2 ∷ 0x01 ∷ 0x13 ∷ 0x00 ∷ [])
-    ∷ (readOut (sheet 4 4 3 1 2 2 4294967295) (0xC2 ∷ 0x01 ∷ 0x13 ∷ 0x00 ∷ []) (0x01 ∷ 0x01 ∷ 0x00 ∷ []), 3 ∷ 0x01 ∷ 0x01 ∷ 0x00 ∷ [])
-    ∷ (judged (sheet 4 4 3 1 2 2 4294967295) (0xC2 ∷ 0x01 ∷ 0x13 ∷ 0x00 ∷ []), 3 ∷ [])
-    ∷ (remainderMade (sheet 4 4 3 1 2 2 4294967295) (0xC2 ∷ 0x01 ∷ 0x13 ∷ 0x00 ∷ []) 18446744073709551615 (0x01 ∷ 0x01 ∷ 0x00 ∷ []), 3 ∷ 0x01 ∷ 0x01 ∷ 0x00 ∷ [])
-    ∷ (shortMade (sheet 4 4 3 1 2 2 4294967295) (0xC2 ∷ 0x01 ∷ 0x13 ∷ 0x00 ∷ []) 18446744073709551615 (0x01 ∷ 0x01 ∷ 0x00 ∷ []), 3 ∷ 0x01 ∷ 0x01 ∷ 0x00 ∷ [])
-    ∷ (nestedMade (sheet 4 4 3 1 2 2 4294967295) (0xC2 ∷ 0x01 ∷ 0x13 ∷ 0x00 ∷ []) 18446744073709551615 (0x01 ∷ 0x01 ∷ 0x00 ∷ []), 3 ∷ 0x01 ∷ 0x01 ∷ 0x00 ∷ [])
-    ∷ (syndromesMade (sheet 4 4 3 1 2 2 4294967295) (0xC2 ∷ 0x01 ∷ 0x13 ∷ 0x00 ∷ []) 18446744073709551615 (0x01 ∷ 0x01 ∷ 0x00 ∷ []), 3 ∷ 0x01 ∷ 0x01 ∷ 0x00 ∷ [])
-    ∷ (nestedSyndromesMade (sheet 4 4 3 1 2 2 4294967295) (0xC2 ∷ 0x01 ∷ 0x13 ∷ 0x00 ∷ []) 18446744073709551615 (0x01 ∷ 0x01 ∷ 0x00 ∷ []), 3 ∷ 0x01 ∷ 0x01 ∷ 0x00 ∷ [])
-    ∷ (syndromesMadeC (sheet 4 4 3 1 2 2 4294967295) (0xC2 ∷ 0x01 ∷ 0x13 ∷ 0x00 ∷ []) 18446744073709551615 (0x01 ∷ 0x01 ∷ 0x00 ∷ []), 3 ∷ 0x01 ∷ 0x01 ∷ 0x00 ∷ [])
-    ∷ (nestedSyndromesMadeC (sheet 4 4 3 1 2 2 4294967295) (0xC2 ∷ 0x01 ∷ 0x13 ∷ 0x00 ∷ []) 18446744073709551615 (0x01 ∷ 0x01 ∷ 0x00 ∷ []), 3 ∷ 0x01 ∷ 0x01 ∷ 0x00 ∷ [])
-    ∷ (handed (opened (sheet 4 4 3 1 2 2 4294967295) 4294967295), 3 ∷ replicate 14 0)
-    ∷ (handed (fed (sheet 4 4 3 1 2 2 4294967295) 4294967295 (register 4294967295 18446744073709551615 0xFFFFFFFFFFFFFFFF) 0xFFFFFFFFFFFFFFFF), 3 ∷ 4294967295 ∷ 18446744073709551615 ∷ 18446744073709551615 ∷ replicate 11 0)
-    ∷ (tests (sheet 4294967295 4294967295 4294967295 4294967295 4294967295 4294967295 4294967295), 1 ∷ [])
-    ∷ (written (sheet 4294967295 4294967295 4294967295 4294967295 4294967295 4294967295 4294967295) 4294967295 (0x01 ∷ 0x01 ∷ 0x00 ∷ []) (0xC2 ∷ 0x01 ∷ 0x13 ∷ 0x00 ∷ []), 1 ∷ 0xC2 ∷ 0x01 ∷ 0x13 ∷ 0x00 ∷ [])
-    ∷ (readOut (sheet 4294967295 4294967295 4294967295 4294967295 4294967295 4294967295 4294967295) (0xC2 ∷ 0x01 ∷ 0x13 ∷ 0x00 ∷ []) (0x01 ∷ 0x01 ∷ 0x00 ∷ []), 1 ∷ 0x01 ∷ 0x01 ∷ 0x00 ∷ [])
-    ∷ (judged (sheet 4294967295 4294967295 4294967295 4294967295 4294967295 4294967295 4294967295) (0xC2 ∷ 0x01 ∷ 0x13 ∷ 0x00 ∷ []), 1 ∷ [])
-    ∷ (remainderMade (sheet 4294967295 4294967295 4294967295 4294967295 4294967295 4294967295 4294967295) (0xC2 ∷ 0x01 ∷ 0x13 ∷ 0x00 ∷ []) 18446744073709551615 (0x01 ∷ 0x01 ∷ 0x00 ∷ []), 1 ∷ 0x01 ∷ 0x01 ∷ 0x00 ∷ [])
-    ∷ (shortMade (sheet 4294967295 4294967295 4294967295 4294967295 4294967295 4294967295 4294967295) (0xC2 ∷ 0x01 ∷ 0x13 ∷ 0x00 ∷ []) 18446744073709551615 (0x01 ∷ 0x01 ∷ 0x00 ∷ []), 1 ∷ 0x01 ∷ 0x01 ∷ 0x00 ∷ [])
-    ∷ (nestedMade (sheet 4294967295 4294967295 4294967295 4294967295 4294967295 4294967295 4294967295) (0xC2 ∷ 0x01 ∷ 0x13 ∷ 0x00 ∷ []) 18446744073709551615 (0x01 ∷ 0x01 ∷ 0x00 ∷ []), 1 ∷ 0x01 ∷ 0x01 ∷ 0x00 ∷ [])
-    ∷ (syndromesMade (sheet 4294967295 4294967295 4294967295 4294967295 4294967295 4294967295 4294967295) (0xC2 ∷ 0x01 ∷ 0x13 ∷ 0x00 ∷ []) 18446744073709551615 (0x01 ∷ 0x01 ∷ 0x00 ∷ []), 1 ∷ 0x01 ∷ 0x01 ∷ 0x00 ∷ [])
-    ∷ (nestedSyndromesMade (sheet 4294967295 4294967295 4294967295 4294967295 4294967295 4294967295 4294967295) (0xC2 ∷ 0x01 ∷ 0x13 ∷ 0x00 ∷ []) 18446744073709551615 (0x01 ∷ 0x01 ∷ 0x00 ∷ []), 1 ∷ 0x01 ∷ 0x01 ∷ 0x00 ∷ [])
-    ∷ (syndromesMadeC (sheet 4294967295 4294967295 4294967295 4294967295 4294967295 4294967295 4294967295) (0xC2 ∷ 0x01 ∷ 0x13 ∷ 0x00 ∷ []) 18446744073709551615 (0x01 ∷ 0x01 ∷ 0x00 ∷ []), 1 ∷ 0x01 ∷ 0x01 ∷ 0x00 ∷ [])
-    ∷ (nestedSyndromesMadeC (sheet 4294967295 4294967295 4294967295 4294967295 4294967295 4294967295 4294967295) (0xC2 ∷ 0x01 ∷ 0x13 ∷ 0x00 ∷ []) 18446744073709551615 (0x01 ∷ 0x01 ∷ 0x00 ∷ []), 1 ∷ 0x01 ∷ 0x01 ∷ 0x00 ∷ [])
-    ∷ (handed (opened (sheet 4294967295 4294967295 4294967295 4294967295 4294967295 4294967295 4294967295) 4294967295), 1 ∷ replicate 14 0)
-    ∷ (handed (fed (sheet 4294967295 4294967295 4294967295 4294967295 4294967295 4294967295 4294967295) 4294967295 (register 4294967295 18446744073709551615 0xFFFFFFFFFFFFFFFF) 0xFFFFFFFFFFFFFFFF), 1 ∷ 4294967295 ∷ 18446744073709551615 ∷ 18446744073709551615 ∷ replicate 11 0)
-    ∷ (tests (sheet 12 8 3 1 2 3 4294967295), 3 ∷ [])
-    ∷ (written (sheet 12 8 3 1 2 3 4294967295) 4294967295 (0x01 ∷ 0x01 ∷ 0x00 ∷ []) (0xC2 ∷ 0x01 ∷ 0x13 ∷ 0x00 ∷ []), 3 ∷ 0xC2 ∷ 0x01 ∷ 0x13 ∷ 0x00 ∷ [])
-    ∷ (readOut (sheet 12 8 3 1 2 3 4294967295) (0xC2 ∷ 0x01 ∷ 0x13 ∷ 0x00 ∷ []) (0x01 ∷ 0x01 ∷ 0x00 ∷ []), 3 ∷ 0x01 ∷ 0x01 ∷ 0x00 ∷ [])
-    ∷ (judged (sheet 12 8 3 1 2 3 4294967295) (0xC2 ∷ 0x01 ∷ 0x13 ∷ 0x00 ∷ []), 3 ∷ [])
-    ∷ (remainderMade (sheet 12 8 3 1 2 3 4294967295) (0xC2 ∷ 0x01 ∷ 0x13 ∷ 0x00 ∷ []) 18446744073709551615 (0x01 ∷ 0x01 ∷ 0x00 ∷ []), 3 ∷ 0x01 ∷ 0x01 ∷ 0x00 ∷ [])
-    ∷ (shortMade (sheet 12 8 3 1 2 3 4294967295) (0xC2 ∷ 0x01 ∷ 0x13 ∷ 0x00 ∷ []) 18446744073709551615 (0x01 ∷ 0x01 ∷ 0x00 ∷ []), 3 ∷ 0x01 ∷ 0x01 ∷ 0x00 ∷ [])
-    ∷ (nestedMade (sheet 12 8 3 1 2 3 4294967295) (0xC2 ∷ 0x01 ∷ 0x13 ∷ 0x00 ∷ []) 18446744073709551615 (0x01 ∷ 0x01 ∷ 0x00 ∷ []), 3 ∷ 0x01 ∷ 0x01 ∷ 0x00 ∷ [])
-    ∷ (syndromesMade (sheet 12 8 3 1 2 3 4294967295) (0xC2 ∷ 0x01 ∷ 0x13 ∷ 0x00 ∷ []) 18446744073709551615 (0x01 ∷ 0x01 ∷ 0x00 ∷ []), 3 ∷ 0x01 ∷ 0x01 ∷ 0x00 ∷ [])
-    ∷ (nestedSyndromesMade (sheet 12 8 3 1 2 3 4294967295) (0xC2 ∷ 0x01 ∷ 0x13 ∷ 0x00 ∷ []) 18446744073709551615 (0x01 ∷ 0x01 ∷ 0x00 ∷ []), 3 ∷ 0x01 ∷ 0x01 ∷ 0x00 ∷ [])
-    ∷ (syndromesMadeC (sheet 12 8 3 1 2 3 4294967295) (0xC2 ∷ 0x01 ∷ 0x13 ∷ 0x00 ∷ []) 18446744073709551615 (0x01 ∷ 0x01 ∷ 0x00 ∷ []), 3 ∷ 0x01 ∷ 0x01 ∷ 0x00 ∷ [])
-    ∷ (nestedSyndromesMadeC (sheet 12 8 3 1 2 3 4294967295) (0xC2 ∷ 0x01 ∷ 0x13 ∷ 0x00 ∷ []) 18446744073709551615 (0x01 ∷ 0x01 ∷ 0x00 ∷ []), 3 ∷ 0x01 ∷ 0x01 ∷ 0x00 ∷ [])
-    ∷ (handed (opened (sheet 12 8 3 1 2 3 4294967295) 4294967295), 3 ∷ replicate 14 0)
-    ∷ (handed (fed (sheet 12 8 3 1 2 3 4294967295) 4294967295 (register 4294967295 18446744073709551615 0xFFFFFFFFFFFFFFFF) 0xFFFFFFFFFFFFFFFF), 3 ∷ 4294967295 ∷ 18446744073709551615 ∷ 18446744073709551615 ∷ replicate 11 0)
-    ∷ []
-
-pub hugeSheets-hold : map (λ r. r .0) hugeSheets ≡ map (λ r. r .1) hugeSheets
-unfolding hugeSheets tested judgeAnswer readAnswer readLeaves writeRefusal wordRefusal opened fed
-hugeSheets-hold = refl
-
--- Huge numbers beside an accepted sheet.
+-- Huge numbers: sheets; a register, its width and what is fed; an index.
 pub hugeNumbers : List Row
 hugeNumbers =
-    (written A 66 (0x01 ∷ 0x01 ∷ 0x00 ∷ []) (0xC2 ∷ 0x01 ∷ 0x13 ∷ 0x00 ∷ []), 5 ∷ 0xC2 ∷ 0x01 ∷ 0x13 ∷ 0x00 ∷ [])
-    ∷ (written A 4294967295 (0x01 ∷ 0x01 ∷ 0x00 ∷ []) (0xC2 ∷ 0x01 ∷ 0x13 ∷ 0x00 ∷ []), 5 ∷ 0xC2 ∷ 0x01 ∷ 0x13 ∷ 0x00 ∷ [])
-    ∷ (writeRefusal A 8 (0x01 ∷ 0x01 ∷ 0x00 ∷ []) 18446744073709551615 ∷ [], 7 ∷ [])
-    ∷ (readRefusal A (0xC2 ∷ 0x01 ∷ 0x13 ∷ 0x00 ∷ []) 18446744073709551615 ∷ [], 6 ∷ [])
-    ∷ (remainderRefusal A (0xC2 ∷ 0x01 ∷ 0x13 ∷ 0x00 ∷ []) 18446744073709551615 18446744073709551615 ∷ [], 9 ∷ [])
-    ∷ (remainderRefusal A (0xC2 ∷ 0x01 ∷ 0x13 ∷ 0x00 ∷ []) 0 18446744073709551615 ∷ [], 10 ∷ [])
-    ∷ (shortRefusal A (0xC2 ∷ 0x01 ∷ 0x13 ∷ 0x00 ∷ []) 18446744073709551615 18446744073709551615 ∷ [], 9 ∷ [])
-    ∷ (shortRefusal A (0xC2 ∷ 0x01 ∷ 0x13 ∷ 0x00 ∷ []) 0 18446744073709551615 ∷ [], 10 ∷ [])
-    ∷ (nestedRefusal A (0xC2 ∷ 0x01 ∷ 0x13 ∷ 0x00 ∷ []) 18446744073709551615 18446744073709551615 ∷ [], 9 ∷ [])
-    ∷ (nestedRefusal A (0xC2 ∷ 0x01 ∷ 0x13 ∷ 0x00 ∷ []) 0 18446744073709551615 ∷ [], 10 ∷ [])
-    ∷ (syndromesRefusal 1 A (0xC2 ∷ 0x01 ∷ 0x13 ∷ 0x00 ∷ []) 18446744073709551615 18446744073709551615 ∷ [], 9 ∷ [])
-    ∷ (syndromesRefusal 1 A (0xC2 ∷ 0x01 ∷ 0x13 ∷ 0x00 ∷ []) 0 18446744073709551615 ∷ [], 10 ∷ [])
-    ∷ (syndromesRefusal 2 A (0xC2 ∷ 0x01 ∷ 0x13 ∷ 0x00 ∷ []) 18446744073709551615 18446744073709551615 ∷ [], 9 ∷ [])
-    ∷ (syndromesRefusal 2 A (0xC2 ∷ 0x01 ∷ 0x13 ∷ 0x00 ∷ []) 0 18446744073709551615 ∷ [], 10 ∷ [])
-    ∷ (nestedSyndromesRefusal 1 A (0xC2 ∷ 0x01 ∷ 0x13 ∷ 0x00 ∷ []) 18446744073709551615 18446744073709551615 ∷ [], 9 ∷ [])
-    ∷ (nestedSyndromesRefusal 1 A (0xC2 ∷ 0x01 ∷ 0x13 ∷ 0x00 ∷ []) 0 18446744073709551615 ∷ [], 10 ∷ [])
-    ∷ (nestedSyndromesRefusal 2 A (0xC2 ∷ 0x01 ∷ 0x13 ∷ 0x00 ∷ []) 18446744073709551615 18446744073709551615 ∷ [], 9 ∷ [])
-    ∷ (nestedSyndromesRefusal 2 A (0xC2 ∷ 0x01 ∷ 0x13 ∷ 0x00 ∷ []) 0 18446744073709551615 ∷ [], 10 ∷ [])
-    ∷ (remainderMade A (0xC2 ∷ 0x01 ∷ 0x13 ∷ 0x00 ∷ []) 18446744073709551615 (0x01 ∷ 0x01 ∷ 0x00 ∷ []), 9 ∷ 0x01 ∷ 0x01 ∷ 0x00 ∷ [])
-    ∷ (shortMade A (0xC2 ∷ 0x01 ∷ 0x13 ∷ 0x00 ∷ []) 18446744073709551615 (0x01 ∷ 0x01 ∷ 0x00 ∷ []), 9 ∷ 0x01 ∷ 0x01 ∷ 0x00 ∷ [])
-    ∷ (nestedMade A (0xC2 ∷ 0x01 ∷ 0x13 ∷ 0x00 ∷ []) 18446744073709551615 (0x01 ∷ 0x01 ∷ 0x00 ∷ []), 9 ∷ 0x01 ∷ 0x01 ∷ 0x00 ∷ [])
-    ∷ (syndromesMade A (0xC2 ∷ 0x01 ∷ 0x13 ∷ 0x00 ∷ []) 18446744073709551615 (0x01 ∷ 0x01 ∷ 0x00 ∷ []), 9 ∷ 0x01 ∷ 0x01 ∷ 0x00 ∷ [])
-    ∷ (nestedSyndromesMade A (0xC2 ∷ 0x01 ∷ 0x13 ∷ 0x00 ∷ []) 18446744073709551615 (0x01 ∷ 0x01 ∷ 0x00 ∷ []), 9 ∷ 0x01 ∷ 0x01 ∷ 0x00 ∷ [])
-    ∷ (syndromesMadeC A (0xC2 ∷ 0x01 ∷ 0x13 ∷ 0x00 ∷ []) 18446744073709551615 (0x01 ∷ 0x01 ∷ 0x00 ∷ []), 9 ∷ 0x01 ∷ 0x01 ∷ 0x00 ∷ [])
-    ∷ (nestedSyndromesMadeC A (0xC2 ∷ 0x01 ∷ 0x13 ∷ 0x00 ∷ []) 18446744073709551615 (0x01 ∷ 0x01 ∷ 0x00 ∷ []), 9 ∷ 0x01 ∷ 0x01 ∷ 0x00 ∷ [])
-    ∷ (handed (opened A 4294967295), 9 ∷ replicate 14 0)
-    ∷ (handed (fed A 4294967295 (register 0 0 0x0) 0x0), 5 ∷ replicate 14 0)
-    ∷ (handed (fed A 4294967295 (register 4294967295 18446744073709551615 0xFFFFFFFFFFFFFFFF) 0xFFFFFFFFFFFFFFFF), 5 ∷ 4294967295 ∷ 18446744073709551615 ∷ 18446744073709551615 ∷ replicate 11 0)
-    ∷ (handed (fed A 64 (register 0 0 0x0) 0xFFFFFFFFFFFFFFFF), 11 ∷ replicate 14 0)
-    ∷ (handed (fed A 1 (register 0 18446744073709551615 0x0) 0x0), 11 ∷ 0 ∷ 18446744073709551615 ∷ replicate 12 0)
-    ∷ (handed (fed A 8 (register 4294967295 0 0x0) 0x0), 12 ∷ 4294967295 ∷ replicate 13 0)
+    (map sheetRefusal ((sheet 4294967295 2 1 1 2 0 0) ∷ (sheet 4 4294967295 1 1 2 0 0) ∷ (sheet 4 2 4294967295 1 2 0 0) ∷ (sheet 4 2 1 1 4294967295 0 0) ∷ (sheet 4 2 1 1 2 0 4294967295) ∷ (sheet 12 8 3 1 2 3 4294967295) ∷ []), 1 ∷ 2 ∷ 2 ∷ 3 ∷ 3 ∷ 3 ∷ [])
+    ∷ (feedRefusal A 4294967295 (record { level = 4294967295; count = 18446744073709551615; remainder = replicate 12 0 }) 18446744073709551615 ∷ feedRefusal A 64 (record { level = 0; count = 18446744073709551615; remainder = replicate 12 0 }) 18446744073709551615 ∷ feedRefusal A 1 (record { level = 4294967295; count = 0; remainder = replicate 12 0 }) 1 ∷ [], 5 ∷ 11 ∷ 12 ∷ [])
+    ∷ (remainderRefusal A (0xC2 ∷ 0x01 ∷ 0x13 ∷ 0x00 ∷ []) 18446744073709551615 0 ∷ [], 9 ∷ [])
     ∷ []
 
 pub hugeNumbers-hold : map (λ r. r .0) hugeNumbers ≡ map (λ r. r .1) hugeNumbers
-unfolding hugeNumbers judgeAnswer readAnswer readLeaves writeRefusal wordRefusal opened fed pow
+unfolding hugeNumbers sheetRefusal feedRefusal wordRefusal
 hugeNumbers-hold = refl
-
--- q = 8 with m = 8 and v = 3: layout, a generator, a remainder, a nested word of 255 places turned by up to 14.
-pub largeField : List Row
-largeField =
-    (blockBits (sheet 8 8 3 1 2 2 2), 239 ∷ 239 ∷ 239 ∷ 247 ∷ 247 ∷ 247 ∷ 247 ∷ 247 ∷ [])
-    ∷ (map (blockOffset (sheet 8 8 3 1 2 2 2)) (range 0 8), 0 ∷ 30 ∷ 60 ∷ 90 ∷ 121 ∷ 152 ∷ 183 ∷ 214 ∷ [])
-    ∷ (getD (generators (sheet 8 8 3 1 2 2 2)) 3 [], 94051 ∷ replicate 12 0)
-    ∷ (nestedMade (sheet 8 8 3 1 2 2 2) (0x6F ∷ 0xF2 ∷ 0xB2 ∷ 0xD8 ∷ 0x14 ∷ 0xF6 ∷ 0x37 ∷ 0x9E ∷ 0xA8 ∷ 0x27 ∷ 0xAD ∷ 0xA2 ∷ 0xB5 ∷ 0x98 ∷ 0xF2 ∷ 0x29 ∷ 0x0C ∷ 0x42 ∷ 0x0E ∷ 0x69 ∷ 0x9A ∷ 0x69 ∷ 0xE7 ∷ 0x24 ∷ 0x4F ∷ 0x2F ∷ 0x46 ∷ 0x53 ∷ 0x66 ∷ 0x95 ∷ 0x95 ∷ 0x0A ∷ 0x52 ∷ 0x03 ∷ 0x84 ∷ 0xE1 ∷ 0x3E ∷ 0x6D ∷ 0x9A ∷ 0x96 ∷ 0x06 ∷ 0x1D ∷ 0xE1 ∷ 0x45 ∷ 0x8C ∷ 0xB2 ∷ 0x4C ∷ 0x65 ∷ 0x1B ∷ 0xB7 ∷ 0xD7 ∷ 0xF0 ∷ 0x2D ∷ 0xCA ∷ 0xAB ∷ 0x5D ∷ 0xD3 ∷ 0x05 ∷ 0x42 ∷ 0x2B ∷ 0x93 ∷ 0x30 ∷ 0x73 ∷ 0x62 ∷ 0x86 ∷ 0xB7 ∷ 0xDC ∷ 0x47 ∷ 0x67 ∷ 0xA5 ∷ 0x1A ∷ 0x87 ∷ 0x9A ∷ 0x5D ∷ 0xD2 ∷ 0x68 ∷ 0x94 ∷ 0xC1 ∷ 0xA4 ∷ 0x49 ∷ 0x69 ∷ 0x9A ∷ 0xED ∷ 0x2B ∷ 0x54 ∷ 0x0E ∷ 0xD3 ∷ 0x84 ∷ 0x29 ∷ 0x25 ∷ 0x7B ∷ 0x8B ∷ 0xC9 ∷ 0xE7 ∷ 0x12 ∷ 0x07 ∷ 0xEB ∷ 0x62 ∷ 0x09 ∷ 0xE3 ∷ 0x3A ∷ 0xBE ∷ 0x41 ∷ 0xF4 ∷ 0x02 ∷ 0x73 ∷ 0xF6 ∷ 0xBE ∷ 0x9B ∷ 0x80 ∷ 0x9E ∷ 0xD7 ∷ 0xDB ∷ 0x12 ∷ 0x4C ∷ 0x28 ∷ 0xCE ∷ 0x09 ∷ 0x20 ∷ 0x3A ∷ 0x6C ∷ 0xDA ∷ 0x2D ∷ 0xD4 ∷ 0xFC ∷ 0x08 ∷ 0xCF ∷ 0x0E ∷ 0xB6 ∷ 0x06 ∷ 0x2C ∷ 0x28 ∷ 0x37 ∷ 0xB4 ∷ 0x26 ∷ 0xC3 ∷ 0xB5 ∷ 0x4A ∷ 0x24 ∷ 0x41 ∷ 0x9D ∷ 0x60 ∷ 0x2A ∷ 0xD6 ∷ 0x03 ∷ 0x50 ∷ 0x88 ∷ 0x3A ∷ 0x25 ∷ 0x87 ∷ 0x7D ∷ 0xDD ∷ 0x8A ∷ 0xEB ∷ 0x6B ∷ 0x65 ∷ 0x57 ∷ 0x38 ∷ 0xC1 ∷ 0x08 ∷ 0xED ∷ 0x43 ∷ 0x94 ∷ 0x29 ∷ 0xFE ∷ 0x75 ∷ 0x73 ∷ 0x45 ∷ 0xDB ∷ 0xD3 ∷ 0xE4 ∷ 0x73 ∷ 0x4C ∷ 0x29 ∷ 0x35 ∷ 0x98 ∷ 0x30 ∷ 0x82 ∷ 0x8A ∷ 0x17 ∷ 0x6B ∷ 0x06 ∷ 0xE3 ∷ 0x0A ∷ 0x2E ∷ 0xAE ∷ 0x4E ∷ 0x62 ∷ 0xDA ∷ 0xF2 ∷ 0x4B ∷ 0x46 ∷ 0x88 ∷ 0x77 ∷ 0x12 ∷ 0x0E ∷ 0x82 ∷ 0xC2 ∷ 0x04 ∷ 0x89 ∷ 0x80 ∷ 0x6B ∷ 0xF3 ∷ 0xC4 ∷ 0x10 ∷ 0x42 ∷ 0x97 ∷ 0x1A ∷ 0x8B ∷ 0x7D ∷ 0x52 ∷ 0xCC ∷ 0x92 ∷ 0x97 ∷ 0xCB ∷ 0x3B ∷ 0x63 ∷ 0xD0 ∷ 0xBD ∷ 0x7A ∷ 0xDF ∷ 0x2F ∷ 0xB2 ∷ 0x43 ∷ 0x0B ∷ 0x96 ∷ 0xF8 ∷ 0x7F ∷ 0x69 ∷ 0x10 ∷ 0x7D ∷ 0xA8 ∷ 0x8F ∷ 0x3C ∷ 0xD3 ∷ 0x31 ∷ 0x5A ∷ 0xB5 ∷ 0xDC ∷ 0xC0 ∷ 0x6F ∷ 0x2F ∷ 0xAC ∷ 0x59 ∷ 0x8A ∷ 0x03 ∷ 0xB0 ∷ 0x73 ∷ 0x03 ∷ 0x9E ∷ 0xBC ∷ 0x79 ∷ 0xC6 ∷ 0x36 ∷ 0x75 ∷ 0x55 ∷ []) 2 (replicate 32 0xFF), 0 ∷ 0x6C ∷ 0x5F ∷ 0xC2 ∷ 0x9E ∷ 0xB2 ∷ 0x2A ∷ 0xCA ∷ 0x46 ∷ 0xFE ∷ 0x70 ∷ 0x0E ∷ 0xCB ∷ 0x98 ∷ 0x41 ∷ 0x9E ∷ 0x66 ∷ 0x28 ∷ 0x0E ∷ 0xD6 ∷ 0x89 ∷ 0x2F ∷ 0xE4 ∷ 0x7F ∷ 0xDF ∷ 0x32 ∷ 0x2C ∷ 0x5F ∷ 0xE9 ∷ 0xAF ∷ 0x43 ∷ 0x0A ∷ 0x40 ∷ [])
-    ∷ (remainderMade (sheet 8 8 3 1 2 2 2) (0x6F ∷ 0xF2 ∷ 0xB2 ∷ 0xD8 ∷ 0x14 ∷ 0xF6 ∷ 0x37 ∷ 0x9E ∷ 0xA8 ∷ 0x27 ∷ 0xAD ∷ 0xA2 ∷ 0xB5 ∷ 0x98 ∷ 0xF2 ∷ 0x29 ∷ 0x0C ∷ 0x42 ∷ 0x0E ∷ 0x69 ∷ 0x9A ∷ 0x69 ∷ 0xE7 ∷ 0x24 ∷ 0x4F ∷ 0x2F ∷ 0x46 ∷ 0x53 ∷ 0x66 ∷ 0x95 ∷ 0x95 ∷ 0x0A ∷ 0x52 ∷ 0x03 ∷ 0x84 ∷ 0xE1 ∷ 0x3E ∷ 0x6D ∷ 0x9A ∷ 0x96 ∷ 0x06 ∷ 0x1D ∷ 0xE1 ∷ 0x45 ∷ 0x8C ∷ 0xB2 ∷ 0x4C ∷ 0x65 ∷ 0x1B ∷ 0xB7 ∷ 0xD7 ∷ 0xF0 ∷ 0x2D ∷ 0xCA ∷ 0xAB ∷ 0x5D ∷ 0xD3 ∷ 0x05 ∷ 0x42 ∷ 0x2B ∷ 0x93 ∷ 0x30 ∷ 0x73 ∷ 0x62 ∷ 0x86 ∷ 0xB7 ∷ 0xDC ∷ 0x47 ∷ 0x67 ∷ 0xA5 ∷ 0x1A ∷ 0x87 ∷ 0x9A ∷ 0x5D ∷ 0xD2 ∷ 0x68 ∷ 0x94 ∷ 0xC1 ∷ 0xA4 ∷ 0x49 ∷ 0x69 ∷ 0x9A ∷ 0xED ∷ 0x2B ∷ 0x54 ∷ 0x0E ∷ 0xD3 ∷ 0x84 ∷ 0x29 ∷ 0x25 ∷ 0x7B ∷ 0x8B ∷ 0xC9 ∷ 0xE7 ∷ 0x12 ∷ 0x07 ∷ 0xEB ∷ 0x62 ∷ 0x09 ∷ 0xE3 ∷ 0x3A ∷ 0xBE ∷ 0x41 ∷ 0xF4 ∷ 0x02 ∷ 0x73 ∷ 0xF6 ∷ 0xBE ∷ 0x9B ∷ 0x80 ∷ 0x9E ∷ 0xD7 ∷ 0xDB ∷ 0x12 ∷ 0x4C ∷ 0x28 ∷ 0xCE ∷ 0x09 ∷ 0x20 ∷ 0x3A ∷ 0x6C ∷ 0xDA ∷ 0x2D ∷ 0xD4 ∷ 0xFC ∷ 0x08 ∷ 0xCF ∷ 0x0E ∷ 0xB6 ∷ 0x06 ∷ 0x2C ∷ 0x28 ∷ 0x37 ∷ 0xB4 ∷ 0x26 ∷ 0xC3 ∷ 0xB5 ∷ 0x4A ∷ 0x24 ∷ 0x41 ∷ 0x9D ∷ 0x60 ∷ 0x2A ∷ 0xD6 ∷ 0x03 ∷ 0x50 ∷ 0x88 ∷ 0x3A ∷ 0x25 ∷ 0x87 ∷ 0x7D ∷ 0xDD ∷ 0x8A ∷ 0xEB ∷ 0x6B ∷ 0x65 ∷ 0x57 ∷ 0x38 ∷ 0xC1 ∷ 0x08 ∷ 0xED ∷ 0x43 ∷ 0x94 ∷ 0x29 ∷ 0xFE ∷ 0x75 ∷ 0x73 ∷ 0x45 ∷ 0xDB ∷ 0xD3 ∷ 0xE4 ∷ 0x73 ∷ 0x4C ∷ 0x29 ∷ 0x35 ∷ 0x98 ∷ 0x30 ∷ 0x82 ∷ 0x8A ∷ 0x17 ∷ 0x6B ∷ 0x06 ∷ 0xE3 ∷ 0x0A ∷ 0x2E ∷ 0xAE ∷ 0x4E ∷ 0x62 ∷ 0xDA ∷ 0xF2 ∷ 0x4B ∷ 0x46 ∷ 0x88 ∷ 0x77 ∷ 0x12 ∷ 0x0E ∷ 0x82 ∷ 0xC2 ∷ 0x04 ∷ 0x89 ∷ 0x80 ∷ 0x6B ∷ 0xF3 ∷ 0xC4 ∷ 0x10 ∷ 0x42 ∷ 0x97 ∷ 0x1A ∷ 0x8B ∷ 0x7D ∷ 0x52 ∷ 0xCC ∷ 0x92 ∷ 0x97 ∷ 0xCB ∷ 0x3B ∷ 0x63 ∷ 0xD0 ∷ 0xBD ∷ 0x7A ∷ 0xDF ∷ 0x2F ∷ 0xB2 ∷ 0x43 ∷ 0x0B ∷ 0x96 ∷ 0xF8 ∷ 0x7F ∷ 0x69 ∷ 0x10 ∷ 0x7D ∷ 0xA8 ∷ 0x8F ∷ 0x3C ∷ 0xD3 ∷ 0x31 ∷ 0x5A ∷ 0xB5 ∷ 0xDC ∷ 0xC0 ∷ 0x6F ∷ 0x2F ∷ 0xAC ∷ 0x59 ∷ 0x8A ∷ 0x03 ∷ 0xB0 ∷ 0x73 ∷ 0x03 ∷ 0x9E ∷ 0xBC ∷ 0x79 ∷ 0xC6 ∷ 0x36 ∷ 0x75 ∷ 0x55 ∷ []) 7 (replicate 96 0xAA), 0 ∷ 0xE9 ∷ replicate 95 0x00)
-    ∷ []
-
-pub largeField-hold : map (λ r. r .0) largeField ≡ map (λ r. r .1) largeField
-unfolding largeField blockBits blockOffset range generators wordRefusal remainderBytes nestedWordBytes pow xor rem
-largeField-hold = refl

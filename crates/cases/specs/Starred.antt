@@ -1,6 +1,7 @@
--- Document 01's worked cases: those of 'On the counter' that are marked *, and the writer program's two, in one table with one proof.
+-- The requirement's worked cases (docs/REQUIREMENT.md): those of 'On the counter' that are marked *, and the writer program's two, in one table with one proof.
 use mathlib.Core.Path.{_≡_, refl}
 use mathlib.Core.List.{List, [], _∷_, map}
+use Rattle.polynomial.specs.Digits.{value}
 use Rattle.field.specs.Field.{pow}
 use Rattle.field.specs.Fields.{fieldOf}
 use Rattle.generator.specs.Generator.{generator}
@@ -8,7 +9,7 @@ use Rattle.code.specs.Parameters.{sheetRefusal}
 use Rattle.code.specs.Code.{syndromes}
 use Rattle.code.specs.Refusals.{writeRefusal}
 use Rattle.code.specs.Layout.{pageOf}
-use Rattle.code.specs.Calls.{judgeNumber, judgeAnswer}
+use Rattle.code.specs.Calls.{verdictNumber, judgeAnswer}
 use Rattle.code.specs.Writer.{writer}
 use Rattle.cases.specs.Sheets.{Row, sheet, A, B, page}
 
@@ -22,10 +23,10 @@ table =
     ∷ (page A 4 (0x00 ∷ 0x01 ∷ 0x00 ∷ []), 0x13 ∷ 0x00 ∷ 0x13 ∷ 0x00 ∷ [])
     ∷ (page A 4 (0x01 ∷ 0x01 ∷ 0x00 ∷ []), 0xC2 ∷ 0x01 ∷ 0x13 ∷ 0x00 ∷ [])
     ∷ (page B 6 (0x00 ∷ 0x00 ∷ 0x01 ∷ 0x00 ∷ []), 0x26 ∷ 0x00 ∷ 0x35 ∷ 0x00 ∷ 0x13 ∷ 0x00 ∷ [])
-    ∷ (judgeNumber A (0xFF ∷ 0x7F ∷ 0xFF ∷ 0x7F ∷ []) ∷ [], 0 ∷ [])
-    ∷ (judgeNumber A (0x01 ∷ 0x00 ∷ 0x00 ∷ 0x00 ∷ []) ∷ [], 32 ∷ [])
-    ∷ (judgeNumber A (0x13 ∷ 0x00 ∷ 0x00 ∷ 0x00 ∷ []) ∷ [], 64 ∷ [])
-    ∷ (syndromes A 4 0x0002, 2 ∷ 4 ∷ 8 ∷ 3 ∷ [])
+    ∷ (verdictNumber (judgeAnswer A (0xFF ∷ 0x7F ∷ 0xFF ∷ 0x7F ∷ [])) ∷ [], 0 ∷ [])
+    ∷ (verdictNumber (judgeAnswer A (0x01 ∷ 0x00 ∷ 0x00 ∷ 0x00 ∷ [])) ∷ [], 32 ∷ [])
+    ∷ (verdictNumber (judgeAnswer A (0x13 ∷ 0x00 ∷ 0x00 ∷ 0x00 ∷ [])) ∷ [], 64 ∷ [])
+    ∷ (syndromes A 4 (value 8 (0x02 ∷ 0x00 ∷ [])), 2 ∷ 4 ∷ 8 ∷ 3 ∷ [])
     ∷ (sheetRefusal (sheet 4 4 2 1 2 3 0) ∷ [], 4 ∷ [])
     ∷ (sheetRefusal (sheet 4 4 2 1 2 2 0) ∷ [], 0 ∷ [])
     ∷ (sheetRefusal (sheet 8 4 1 1 42 0 0) ∷ [], 0 ∷ [])
@@ -35,5 +36,5 @@ table =
     ∷ []
 
 pub starred : map (λ r. r .0) table ≡ map (λ r. r .1) table
-unfolding table generator fieldOf pow writeRefusal pageOf judgeAnswer syndromes sheetRefusal writer
+unfolding table value generator fieldOf pow writeRefusal pageOf judgeAnswer syndromes sheetRefusal writer
 starred = refl
