@@ -10,14 +10,14 @@ use Rattle.polynomial.specs.Xor.{xor}
 use Rattle.field.specs.Elements.{power, sumBelow}
 use Rattle.field.specs.Field.{pow}
 use Rattle.code.specs.Lists.{range, sum}
-use Rattle.code.specs.Parameters.{sheetRefusal}
+use Rattle.code.specs.Parameters.{sheet, sheetRefusal}
 use Rattle.code.specs.Code.{carried, combine, distance, divisor, N, newton}
 use Rattle.code.specs.Layout.{blockOffset, wordsOf, coefficientOf, blockBit, differences}
 use Rattle.code.specs.Refusals.{feedRefusal, wordRefusal, remainderRefusal}
 use Rattle.code.specs.Calls.{asBytes, empty, fed}
 use Rattle.code.specs.Registers.{cut, feedings}
 use Rattle.code.specs.Writer.{writer}
-use Rattle.cases.specs.Sheets.{Row, sheet, A, B, held}
+use Rattle.cases.specs.Sheets.{Row, A, B, held}
 
 -- Where each block begins.
 pub offsets : List Row

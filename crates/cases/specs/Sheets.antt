@@ -1,6 +1,6 @@
 -- What the tables share.
 --   Row           what a definition gives, and what it should give
---   sheet ..      parameters from their seven numbers; A and B the requirement's two
+--   A, B          the requirement's two sheets
 --   page p k b    what write leaves at L = 8 in a zeroed page of k bytes
 --   held r        a register's level, count and words
 use mathlib.Core.List.{List, _∷_}
@@ -9,12 +9,10 @@ use lib.ListN.{replicate}
 use Rattle.code.specs.declared.Parameters.{Parameters}
 use Rattle.code.specs.Register.{Register}
 use Rattle.code.specs.Calls.{writeLeaves}
+use Rattle.code.specs.Parameters.{sheet}
 
 abbrev pub Row : Type 0
 Row = List ℕ × List ℕ
-
-abbrev pub sheet : ℕ → ℕ → ℕ → ℕ → ℕ → ℕ → ℕ → Parameters
-sheet q m v t0 t1 t2 t3 = record { q = q; m = m; v = v; t0 = t0; t1 = t1; t2 = t2; t3 = t3 }
 
 abbrev pub A : Parameters
 A = sheet 4 2 1 1 2 0 0

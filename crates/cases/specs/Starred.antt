@@ -5,13 +5,13 @@ use Rattle.polynomial.specs.Digits.{value}
 use Rattle.field.specs.Field.{pow}
 use Rattle.field.specs.Fields.{fieldOf}
 use Rattle.generator.specs.Generator.{generator}
-use Rattle.code.specs.Parameters.{sheetRefusal}
+use Rattle.code.specs.Parameters.{sheet, sheetRefusal}
 use Rattle.code.specs.Code.{syndromes}
 use Rattle.code.specs.Refusals.{writeRefusal}
 use Rattle.code.specs.Layout.{pageOf}
 use Rattle.code.specs.Calls.{verdictNumber, judgeAnswer}
 use Rattle.code.specs.Writer.{writer}
-use Rattle.cases.specs.Sheets.{Row, sheet, A, B, page}
+use Rattle.cases.specs.Sheets.{Row, A, B, page}
 
 pub table : List Row
 table =

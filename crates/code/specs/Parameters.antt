@@ -1,4 +1,5 @@
 -- The parameters of a code (document 01: the sheet) and the rules on its numbers.
+--   sheet q m v ..    the parameters by their seven numbers, as C gives them
 --   len p             n = 2^q - 1, the cyclic length: the places of a nested word, x^n = 1
 --   stored p          how many coefficients of a sub-word are stored, from x^0 on
 --   subWordBytes p    the bytes of a sub-word in a page
@@ -17,6 +18,9 @@ use lib.ListN.{getD}
 use Rattle.code.specs.declared.Parameters.{Parameters}
 use Rattle.code.specs.declared.Tested.{Tested}
 use Rattle.code.specs.Lists.{range, any, _when_, _orElse_, valuesBy, lastRefusal}
+
+abbrev pub sheet : ℕ → ℕ → ℕ → ℕ → ℕ → ℕ → ℕ → Parameters
+sheet q m v t0 t1 t2 t3 = record { q = q; m = m; v = v; t0 = t0; t1 = t1; t2 = t2; t3 = t3 }
 
 abbrev pub len : Parameters → ℕ
 len p = 2 ^ p .q - 1

@@ -12,8 +12,8 @@ use Rattle.code.specs.declared.Parameters.{Parameters}
 use Rattle.field.specs.Irreducible.{both}
 use Rattle.code.specs.Calls.{judgeAnswer}
 use Rattle.code.specs.Layout.{Bytes, Fits, IsPage, blocksClear, dataBytes, pageBytes, pageClear}
-use Rattle.code.specs.Parameters.{Accepted, sheetRefusal}
-use Rattle.cases.specs.Sheets.{sheet, A, B}
+use Rattle.code.specs.Parameters.{Accepted, sheet, sheetRefusal}
+use Rattle.cases.specs.Sheets.{A, B}
 use Rattle.gate_rounds.specs.Answers.{isMember}
 
 abbrev areBytes : List ℕ → Bool

@@ -1,5 +1,4 @@
--- The C calls: the parameters by their numbers, the answers' numbers, a list as bytes.
-pub mod Sheet
+-- The C calls: the answers' numbers, a list as bytes.
 pub mod Number
 pub mod List
 pub mod Syndromes

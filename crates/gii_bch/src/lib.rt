@@ -1,7 +1,6 @@
 // The C calls: the numbers of a sheet one by one, buffers as byte slices, the answer as a number. Each tests everything.
-ghost use mathlib.Core.Path.{_≡_};
-ghost use Rattle.code.specs.Calls.{WrittenC, judgeNumber, ReadOutC, SyndromesMadeC, NestedSyndromesMadeC};
-ghost use Rattle.gii_bch.specs.Sheet.{sheetOf};
+ghost use Rattle.code.specs.Calls.{WrittenC, JudgedC, ReadOutC, SyndromesMadeC, NestedSyndromesMadeC};
+ghost use Rattle.code.specs.Parameters.{sheet};
 use crate::answers::outcome_number;
 use crate::answers::verdict_number;
 use crate::syndromes::syndrome_bytes;
@@ -25,7 +24,7 @@ pub extern "C" fn gii_write(
     blocks: &[u8],
     page: &mut [u8],
 ) -> u32
-    ensures { λ r. ⌜ WrittenC (sheetOf q m v t0 t1 t2 t3) width (now (blocks .entry)) (now (page .entry)) (now (page .exit)) r ⌝ }
+    ensures { λ r. ⌜ WrittenC (sheet q m v t0 t1 t2 t3) width (now (blocks .entry)) (now (page .entry)) (now (page .exit)) r ⌝ }
 {
     let p = Parameters {
         q,
@@ -52,7 +51,7 @@ pub extern "C" fn gii_judge(
     t3: u32,
     page: &[u8],
 ) -> u32
-    ensures { λ r. ⌜ r ≡ judgeNumber (sheetOf q m v t0 t1 t2 t3) (now (page .entry)) ⌝ }
+    ensures { λ r. ⌜ JudgedC (sheet q m v t0 t1 t2 t3) (now (page .entry)) r ⌝ }
 {
     let p = Parameters {
         q,
@@ -79,7 +78,7 @@ pub extern "C" fn gii_read_out(
     page: &[u8],
     blocks: &mut [u8],
 ) -> u32
-    ensures { λ r. ⌜ ReadOutC (sheetOf q m v t0 t1 t2 t3) (now (page .entry)) (now (blocks .entry)) (now (blocks .exit)) r ⌝ }
+    ensures { λ r. ⌜ ReadOutC (sheet q m v t0 t1 t2 t3) (now (page .entry)) (now (blocks .entry)) (now (blocks .exit)) r ⌝ }
 {
     let p = Parameters {
         q,
@@ -108,7 +107,7 @@ pub extern "C" fn gii_syndromes(
     index: u32,
     list: &mut [u8],
 ) -> u32
-    ensures { λ r. ⌜ SyndromesMadeC (sheetOf q m v t0 t1 t2 t3) (now (page .entry)) index (now (list .entry)) (now (list .exit)) r ⌝ }
+    ensures { λ r. ⌜ SyndromesMadeC (sheet q m v t0 t1 t2 t3) (now (page .entry)) index (now (list .entry)) (now (list .exit)) r ⌝ }
 {
     let p = Parameters {
         q,
@@ -136,7 +135,7 @@ pub extern "C" fn gii_nested_syndromes(
     index: u32,
     list: &mut [u8],
 ) -> u32
-    ensures { λ r. ⌜ NestedSyndromesMadeC (sheetOf q m v t0 t1 t2 t3) (now (page .entry)) index (now (list .entry)) (now (list .exit)) r ⌝ }
+    ensures { λ r. ⌜ NestedSyndromesMadeC (sheet q m v t0 t1 t2 t3) (now (page .entry)) index (now (list .entry)) (now (list .exit)) r ⌝ }
 {
     let p = Parameters {
         q,
