@@ -1,5 +1,5 @@
 -- The numbers of accepted parameters: degrees, check and data bits, and their bounds.
---   Degrees p w    w holds the degrees w_0 to w_v of the generators, in four places
+--   Degrees p w    w holds the degrees w_0 to w_v of the generators, in four places; those past v are 0
 use mathlib.Core.Path.{_≡_, refl, _∙_}
 use mathlib.Core.Logic.{inl, inr}
 use mathlib.Core.List.{List, [], _∷_}
@@ -23,6 +23,7 @@ use Rattle.code.specs.Steps.{degree-eq}
 pub record Degrees (p : Parameters) (w : List ℕ) : Type 0 where
   pub four : length w ≡ 4
   pub at : (a : ℕ) → a ≤ p .v → getD w a 0 ≡ degree p a
+  pub past : (a : ℕ) → p .v < a → getD w a 0 ≡ 0
 
 pub level-low : (p : Parameters) (i : ℕ) → level p i ≤ p .v
 level-low p i = Nat.sub-le (p .v) i

@@ -41,7 +41,6 @@ pub fn syndrome_at(powers: &[u16], logs: &[u16], f: Field, r: &[u64], w: usize, 
     requires { ⌜ Tables f (now powers) (now logs) × (w ≤ 64 * length (now r)) × (value 64 (now r) < 2 ^ w) × (j < 2 ^ f .q - 1) ⌝ }
     ensures { λ x. ⌜ x ≡ syndrome (f .q) (value 64 (now (r .entry))) j ⌝ }
 {
-    let n = f.order;
     let mut x: u32 = 0;
     let mut e: u32 = 0;
     let mut k: usize = 0;
@@ -49,7 +48,7 @@ pub fn syndrome_at(powers: &[u16], logs: &[u16], f: Field, r: &[u64], w: usize, 
         let b = coefficient_at(r, k);
         let y = term(powers, e, b);
         x = x ^ y;
-        e = element::modulo(n, e + j);
+        e = element::modulo(f.order, e + j);
         k += 1;
     }
     x

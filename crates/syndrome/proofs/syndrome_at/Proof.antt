@@ -12,10 +12,10 @@ use Rattle.syndrome.proofs.syndrome_at.Statement.{statement}
 use Rattle.syndrome.proofs.syndrome_at.Tie as tie
 
 abbrev Inv-loop : tie.InvT-loop
-Inv-loop powers logs f r w j n x₀ e₀ k₀ x e k = Summing (f .q) (value 64 r) j k e x × (k ≤ w)
+Inv-loop powers logs f r w j x₀ e₀ k₀ x e k = Summing (f .q) (value 64 r) j k e x × (k ≤ w)
 
 abbrev μ-loop : tie.MeasureT-loop
-μ-loop powers logs f r w j n x₀ e₀ k₀ x e k = w - k
+μ-loop powers logs f r w j x₀ e₀ k₀ x e k = w - k
 
 loop-holds : tie.Need-loop-holds Inv-loop μ-loop
 loop-holds c = let s = c .before .before .before in let a = s .args in (sum-start (a .f) (a .powers .now) (a .logs .now) (s .pre .0) (value 64 (a .r .now)) (a .j), omega arith)
