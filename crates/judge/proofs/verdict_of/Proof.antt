@@ -6,15 +6,15 @@ use Prim.Native.Nat.{ℕ, _+_, _≤_}
 use lib.ListN.{length-take}
 use Rattle.code.specs.Judge.{answer-sub, answer-nested, answer-member}
 use Rattle.code.specs.Layout.{wordsOf}
-use Rattle.layout.specs.Sizes.{word-high}
+use Rattle.layout.specs.Sizes.{nested-high}
 use Rattle.judge.proofs.verdict_of.Statement.{statement}
 use Rattle.judge.proofs.verdict_of.Tie as tie
 
 -- the room for a nested word lies within the array
-room-most : (c : tie.After-sub-word-bytes) → c .sub-word-bytes .result + 8 ≤ 520
+room-most : (c : tie.After-nested-bytes) → c .nested-bytes .result + 8 ≤ 520
 room-most c =
     let s = c .before .before .before .before .before .before .before .before .before .before .before in
-    omega (arith, c .sub-word-bytes .ensures, word-high (s .args .p) (s .pre .0))
+    omega (arith, c .nested-bytes .ensures, nested-high (s .args .p) (s .pre .0))
 
 rows-requires : tie.Need-rows-requires
 rows-requires c κs = search needs
@@ -46,13 +46,13 @@ returns c =
     let a = f .before .before .before .before .before .before .before .before .args in
     answer-sub (a .p) (wordsOf (a .p) (a .page .now)) (f .first-failing .result) (f .first-failing .ensures) (c .if1 .taken)
 
-sub-word-bytes-requires : tie.Need-sub-word-bytes-requires
-sub-word-bytes-requires c κs = search needs
+nested-bytes-requires : tie.Need-nested-bytes-requires
+nested-bytes-requires c κs = search needs
 
 add-k : tie.Need-add-k
 add-k c =
     let s = c .before .before .before .before .before .before .before .before .before .before .before in
-    omega (arith, c .sub-word-bytes .ensures, word-high (s .args .p) (s .pre .0))
+    omega (arith, c .nested-bytes .ensures, nested-high (s .args .p) (s .pre .0))
 
 slice-aggregate-first-failing-nested : tie.Need-slice-aggregate-first-failing-nested
 slice-aggregate-first-failing-nested c = search needs
@@ -61,7 +61,7 @@ array-borrow-prefix-room : tie.Need-array-borrow-prefix-room
 array-borrow-prefix-room c = room-most (c .before)
 
 slice-aggregate-first-failing-nested-2 : tie.Need-slice-aggregate-first-failing-nested-2
-slice-aggregate-first-failing-nested-2 c = sym (length-take (c .before .before .sub-word-bytes .result + 8) _ ∙ Nat.min-eq-left (room-most (c .before .before)))
+slice-aggregate-first-failing-nested-2 c = sym (length-take (c .before .before .nested-bytes .result + 8) _ ∙ Nat.min-eq-left (room-most (c .before .before)))
 
 first-failing-nested-requires : tie.Need-first-failing-nested-requires
 first-failing-nested-requires c κs =
@@ -69,7 +69,7 @@ first-failing-nested-requires c κs =
     let f = b .before .before .before in
     let r = f .before .before .before .before .before .before in
     let s = r .before .before in
-    (s .pre .0, r .rows .ensures, s .pre .1, search needs, length-take (c .before .before .sub-word-bytes .result + 8) _ ∙ Nat.min-eq-left (room-most (c .before .before)) ∙ ap (λ (k : ℕ). k + 8) (b .sub-word-bytes .ensures))
+    (s .pre .0, r .rows .ensures, s .pre .1, search needs, length-take (c .before .before .nested-bytes .result + 8) _ ∙ Nat.min-eq-left (room-most (c .before .before)) ∙ ap (λ (k : ℕ). k + 8) (b .nested-bytes .ensures))
 
 cast-if2 : tie.Need-cast-if2
 cast-if2 c = search needs
@@ -103,7 +103,7 @@ verdict-of-spec =
     first-failing-requires
     cast-if1
     returns
-    sub-word-bytes-requires
+    nested-bytes-requires
     add-k
     slice-aggregate-first-failing-nested
     array-borrow-prefix-room
