@@ -1,16 +1,14 @@
 // Elements of the three fields, as numbers below 2^q: sums, products and powers, by tables of powers and logs.
 ghost use mathlib.Core.Path.{_≡_};
-ghost use mathlib.Core.List.{_++_};
-ghost use Prim.Native.Nat.{_+_, _-_, _%_, _^_, _≤_, _<_};
-ghost use lib.ListN.{length, replicate};
+ghost use Prim.Native.Nat.{_+_, _%_, _^_, _<_};
+ghost use lib.ListN.{length};
 ghost use Rattle.field.specs.Elements.{times, power};
 ghost use Rattle.field.specs.Fields.{Known};
 ghost use Rattle.polynomial.specs.Xor.{xor};
 ghost use Rattle.element.specs.Exponents.{raise};
-ghost use Rattle.element.specs.Lent.{RootIn, LogIn, Tables, PowersOf, LogsOf};
-ghost use Rattle.element.specs.Operations.{MadeOf, isField, zeroOf, oneOf, alphaOf, refusal, Gives};
-use tables::Chosen;
-use tables::choose;
+ghost use Rattle.element.specs.Fields.{MadeOf, Sized, fieldAt, isField};
+ghost use Rattle.element.specs.Lent.{RootIn, LogIn, Tables};
+ghost use Rattle.element.specs.Operations.{zeroOf, oneOf, alphaOf, refusal, Gives};
 use tables::logs4;
 use tables::logs8;
 use tables::logs12;
@@ -29,13 +27,35 @@ impl Element {
     pub const ALPHA: Element = Element(2);
 }
 
-// A field GF(2^q): its field polynomial, its size 2^q, and the order 2^q - 1 of alpha.
+// A field GF(2^q): its field polynomial (bit k is the coefficient of x^k), its size 2^q, and the order 2^q - 1 of alpha.
 pub struct Field {
     pub q: u32,
     pub polynomial: u32,
     pub size: u32,
     pub order: u32,
 }
+
+// The table from q to its field.
+pub const FIELDS: [Field; 3] = [
+    Field {
+        q: 4,
+        polynomial: 19,
+        size: 16,
+        order: 15,
+    },
+    Field {
+        q: 8,
+        polynomial: 285,
+        size: 256,
+        order: 255,
+    },
+    Field {
+        q: 12,
+        polynomial: 4179,
+        size: 4096,
+        order: 4095,
+    },
+];
 
 pub enum Made {
     Field(Field),
@@ -48,7 +68,7 @@ pub enum Computed {
     Refused(u8),
 }
 
-// On lent tables: those of the field of q, with any entries after them, of which nothing is read.
+// On lent tables: those of the field, with any entries after them, of which nothing is read.
 
 // The power e of alpha.
 pub fn root(powers: &[u16], e: u32) -> u32
@@ -66,26 +86,18 @@ pub fn log(logs: &[u16], a: u32) -> u32
     logs[a as usize] as u32
 }
 
-// The order of alpha.
-pub fn order(q: u32) -> u32
-    requires { ⌜ Known q ⌝ }
-    ensures { λ r. ⌜ r ≡ 2 ^ q - 1 ⌝ }
-{
-    (1 << q) - 1
-}
-
 // s modulo n, for s below 2 n.
 pub fn modulo(n: u32, s: u32) -> u32
     requires { ⌜ s < n + n ⌝ }
-    ensures { λ r. ⌜ r ≡ s % n ⌝ }
+    ensures { λ r. ⌜ (r ≡ s % n) × (r < n) ⌝ }
 {
     if s < n { s } else { s - n }
 }
 
 // The product a b.
-pub fn times_by(powers: &[u16], logs: &[u16], q: u32, a: u32, b: u32) -> u32
-    requires { ⌜ Tables q (now powers) (now logs) × (a < 2 ^ q) × (b < 2 ^ q) ⌝ }
-    ensures { λ r. ⌜ r ≡ times q a b ⌝ }
+pub fn times_by(powers: &[u16], logs: &[u16], f: Field, a: u32, b: u32) -> u32
+    requires { ⌜ Tables f (now powers) (now logs) × (a < 2 ^ f .q) × (b < 2 ^ f .q) ⌝ }
+    ensures { λ r. ⌜ r ≡ times (f .q) a b ⌝ }
 {
     if a == 0 {
         return 0;
@@ -95,14 +107,14 @@ pub fn times_by(powers: &[u16], logs: &[u16], q: u32, a: u32, b: u32) -> u32
     }
     let i = log(logs, a);
     let j = log(logs, b);
-    let e = modulo(order(q), i + j);
+    let e = modulo(f.order, i + j);
     root(powers, e)
 }
 
 // The power a^k.
-pub fn raise_by(powers: &[u16], logs: &[u16], q: u32, a: u32, k: u32) -> u32
-    requires { ⌜ Tables q (now powers) (now logs) × (a < 2 ^ q) ⌝ }
-    ensures { λ r. ⌜ r ≡ raise q a k ⌝ }
+pub fn raise_by(powers: &[u16], logs: &[u16], f: Field, a: u32, k: u32) -> u32
+    requires { ⌜ Tables f (now powers) (now logs) × (a < 2 ^ f .q) ⌝ }
+    ensures { λ r. ⌜ r ≡ raise (f .q) a k ⌝ }
 {
     if k == 0 {
         return 1;
@@ -111,84 +123,92 @@ pub fn raise_by(powers: &[u16], logs: &[u16], q: u32, a: u32, k: u32) -> u32
         return 0;
     }
     let i = log(logs, a) as u64;
-    let n = order(q) as u64;
+    let n = f.order as u64;
     let e = i * (k as u64) % n;
     root(powers, e as u32)
 }
 
-// A table, then zeros.
-fn padded(t: &[u16]) -> [u16; 4096]
-    requires { ⌜ length (now t) ≤ 4096 ⌝ }
-    ensures { λ r. ⌜ r ≡ now (t .entry) ++ replicate (4096 - length (now (t .entry))) 0 ⌝ }
+// The same by the tables of the field.
+
+fn times_in(f: Field, a: u32, b: u32) -> u32
+    requires { ⌜ Sized f × (a < 2 ^ f .q) × (b < 2 ^ f .q) ⌝ }
+    ensures { λ r. ⌜ r ≡ times (f .q) a b ⌝ }
 {
-    let mut r = [0u16; 4096];
-    let mut i: usize = 0;
-    while i < t.len() {
-        r[i] = t[i];
-        i += 1;
+    if f.q == 4 {
+        let p = powers4();
+        let l = logs4();
+        return times_by(&p, &l, f, a, b);
     }
-    r
+    if f.q == 8 {
+        let p = powers8();
+        let l = logs8();
+        return times_by(&p, &l, f, a, b);
+    }
+    let p = powers12();
+    let l = logs12();
+    times_by(&p, &l, f, a, b)
 }
 
-// The powers of alpha in the field of q, then zeros; for another q zeros alone.
-pub fn powers(q: u32) -> [u16; 4096]
-    ensures { λ r. ⌜ PowersOf q r ⌝ }
+fn raise_in(f: Field, a: u32, k: u32) -> u32
+    requires { ⌜ Sized f × (a < 2 ^ f .q) ⌝ }
+    ensures { λ r. ⌜ r ≡ raise (f .q) a k ⌝ }
 {
-    if q == 4 {
-        let t = powers4();
-        return padded(&t);
+    if f.q == 4 {
+        let p = powers4();
+        let l = logs4();
+        return raise_by(&p, &l, f, a, k);
     }
-    if q == 8 {
-        let t = powers8();
-        return padded(&t);
+    if f.q == 8 {
+        let p = powers8();
+        let l = logs8();
+        return raise_by(&p, &l, f, a, k);
     }
-    if q == 12 {
-        let t = powers12();
-        return padded(&t);
-    }
-    [0; 4096]
-}
-
-// The logs of the elements of the field of q, then zeros; for another q zeros alone.
-pub fn logs(q: u32) -> [u16; 4096]
-    ensures { λ r. ⌜ LogsOf q r ⌝ }
-{
-    if q == 4 {
-        let t = logs4();
-        return padded(&t);
-    }
-    if q == 8 {
-        let t = logs8();
-        return padded(&t);
-    }
-    if q == 12 {
-        let t = logs12();
-        return padded(&t);
-    }
-    [0; 4096]
+    let p = powers12();
+    let l = logs12();
+    raise_by(&p, &l, f, a, k)
 }
 
 impl Field {
-    // The field of q.
+    // The field of q, for any number.
     pub fn make(q: u32) -> Made
         ensures { λ r. ⌜ MadeOf q r ⌝ }
     {
-        let Chosen::Field(e) = choose(q) else {
-            return Made::Refused(1);
-        };
-        Made::Field(Field {
-            q: e.q,
-            polynomial: e.polynomial,
-            size: e.size,
-            order: e.order,
-        })
+        let a = FIELDS[0];
+        if q == a.q {
+            return Made::Field(a);
+        }
+        let b = FIELDS[1];
+        if q == b.q {
+            return Made::Field(b);
+        }
+        let c = FIELDS[2];
+        if q == c.q {
+            return Made::Field(c);
+        }
+        Made::Refused(1)
+    }
+
+    // The field of a q that has one.
+    pub fn of(q: u32) -> Field
+        requires { ⌜ Known q ⌝ }
+        ensures { λ r. ⌜ r ≡ fieldAt q ⌝ }
+    {
+        let a = FIELDS[0];
+        if q == a.q {
+            return a;
+        }
+        let b = FIELDS[1];
+        if q == b.q {
+            return b;
+        }
+        FIELDS[2]
     }
 
     // These four numbers are a field's.
     pub fn known(self) -> bool
         ensures { λ r. ⌜ r ≡ isField self ⌝ }
     {
-        let Chosen::Field(e) = choose(self.q) else {
+        let Made::Field(e) = Field::make(self.q) else {
             return false;
         };
         if self.polynomial != e.polynomial {
@@ -250,9 +270,7 @@ impl Field {
         if k != 0 {
             return Computed::Refused(k);
         }
-        let p = powers(self.q);
-        let l = logs(self.q);
-        let r = times_by(&p, &l, self.q, a.0 as u32, b.0 as u32);
+        let r = times_in(self, a.0 as u32, b.0 as u32);
         Computed::Element(Element(r as u16))
     }
 
@@ -264,9 +282,7 @@ impl Field {
         if s != 0 {
             return Computed::Refused(s);
         }
-        let p = powers(self.q);
-        let l = logs(self.q);
-        let r = raise_by(&p, &l, self.q, a.0 as u32, k);
+        let r = raise_in(self, a.0 as u32, k);
         Computed::Element(Element(r as u16))
     }
 

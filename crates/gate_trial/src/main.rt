@@ -106,10 +106,17 @@ fn nesting(i: usize, l: usize) {
     put_number(c);
 }
 
+// The number of the sheet's refusal, 0 for none.
+fn sheet_number(p: Parameters) -> u8 {
+    let Tested::Refused(k) = sheet::test(p) else {
+        return 0;
+    };
+    k
+}
+
 fn generator_rows(p: Parameters) {
-    let mut refusal: u8 = 0;
-    let rows = levels::generators_of(p, &mut refusal);
-    put(refusal);
+    put(sheet_number(p));
+    let rows = levels::generators_of(p);
     let mut k: usize = 0;
     while k < 4 {
         let r = rows[k];

@@ -1,16 +1,15 @@
 -- The words of a page as the program meets them, and judge's two searches over them.
-use mathlib.Core.Path.{_≡_, refl, sym, ap, _∙_}
+use mathlib.Core.Path.{_≡_, refl, ap, _∙_}
 use mathlib.Core.Bool.{Bool, not}
 use mathlib.Core.List.{List}
 use Prim.Native.Nat.{ℕ, _-_, _%_, _^_, _≤_, _<_}
 use native.Mathlib.Nat as Nat
-use native.Mathlib.Omega.{arith}
 use lib.Dec.{eqb}
-use lib.ListN.{getD, take}
+use lib.ListN.{getD}
 use Rattle.kernels.specs.Table.{RemainderBy}
 use Rattle.code.specs.declared.Parameters.{Parameters}
 use Rattle.code.specs.Code.{degree, remainder, nested, failing, failingNested}
-use Rattle.code.specs.Parameters.{Accepted, stored}
+use Rattle.code.specs.Parameters.{Accepted, len}
 use Rattle.levels.specs.Ready.{Prepared, table-remainder}
 use Rattle.judge.specs.Search.{firstFrom}
 
@@ -30,5 +29,5 @@ unfolding failingNested firstFrom
 failingNested-eq p cs = refl
 
 module _ (p : Parameters) (A : Accepted p) where
-  pub passes-is : (t : List ℕ) (a w f r : ℕ) (z : Bool) → a ≤ p .v → w ≡ degree p a → Prepared p a t → f < 2 ^ stored p → RemainderBy t (768 - w) (f % 2 ^ stored p) r → z ≡ eqb r 0 → z ≡ eqb (remainder p a f) 0
-  passes-is t a w f r z h e P l Q s = s ∙ ap (λ (y : ℕ). eqb y 0) (table-remainder p A a w (f % 2 ^ stored p) r t h e P Q ∙ ap (remainder p a) (Nat.mod-eq-of-lt l))
+  pub passes-is : (t : List ℕ) (a w f r : ℕ) (z : Bool) → a ≤ p .v → w ≡ degree p a → Prepared p a t → f < 2 ^ len p → RemainderBy t (768 - w) (f % 2 ^ len p) r → z ≡ eqb r 0 → z ≡ eqb (remainder p a f) 0
+  passes-is t a w f r z h e P l Q s = s ∙ ap (λ (y : ℕ). eqb y 0) (table-remainder p A a w (f % 2 ^ len p) r t h e P Q ∙ ap (remainder p a) (Nat.mod-eq-of-lt l))

@@ -1,23 +1,23 @@
 // Which word of a page fails: the lowest sub-word that is no multiple of g_0 or, if all are, the lowest nested word that fails.
 ghost use mathlib.Core.Path.{_≡_};
-ghost use Prim.Native.Nat.{ℕ, _+_, _-_, _<_, _≤_, _^_};
+ghost use Prim.Native.Nat.{_+_, _-_, _<_, _≤_, _^_};
 ghost use lib.Dec.{T, eqb};
 ghost use lib.ListN.{length, getD};
 ghost use Rattle.polynomial.specs.Digits.{value};
 ghost use Rattle.code.specs.Calls.{Named, generators};
 ghost use Rattle.code.specs.Code.{degree, remainder, nested, failing, failingNested};
 ghost use Rattle.code.specs.Layout.{pageBytes, pageClear, wordsOf};
-ghost use Rattle.code.specs.Parameters.{Accepted, nestedBytes, stored};
+ghost use Rattle.code.specs.Parameters.{Accepted, len, nestedBytes};
 ghost use Rattle.levels.specs.Ready.{Prepared};
 use code::Parameters;
 use code::Verdict;
 
 // Is the word s a multiple of level a's generator, whose table is t?
 pub fn passes(t: &[u64], s: &[u8], p: Parameters, a: usize, w: usize) -> bool
-    requires { ⌜ Accepted p × (a ≤ p .v) × (w ≡ degree p a) × Prepared p a (now t) × (value 8 (now s) < 2 ^ stored p) ⌝ }
+    requires { ⌜ Accepted p × (a ≤ p .v) × (w ≡ degree p a) × Prepared p a (now t) × (value 8 (now s) < 2 ^ len p) ⌝ }
     ensures { λ r. ⌜ r ≡ eqb (remainder p a (value 8 (now (s .entry)))) 0 ⌝ }
 {
-    let n = layout::stored_of(p);
+    let n = layout::length_of(p);
     let mut r = [0u64; 13];
     kernels::remainder::remainder_of(&mut r, t, s, n, 64, 768 - w);
     kernels::row::is_zero(&r)
@@ -101,7 +101,7 @@ pub fn verdict_of(p: Parameters, rows: [[u64; 13]; 4], page: &[u8]) -> Verdict
     let w = levels::degree_at(p, rows, 0) as usize;
     let mut table = [0u64; 3073];
     let mut room = [0u8; 520];
-    let k = layout::sub_word_bytes(p) + 8;
+    let k = layout::nested_bytes(p) + 8;
     let t = &mut table[..3072];
     levels::prepare(t, p, rows, 0, w);
     let i = first_failing(p, page, t, w);

@@ -4,14 +4,12 @@ use mathlib.Core.List.{List}
 use mathlib.Core.Bool.{true, false}
 use Prim.Native.Nat.{ℕ, _+_, _*_, _/_, _%_, _^_, _≤_, _<_}
 use native.Mathlib.Nat.{zero-add, zero-mul, zero-mod, zero-div}
-use native.Mathlib.Omega.{arith}
 use lib.Dec.{eqb}
 use lib.ListN.{length, getD, take, set}
-use lib.Pow.{mod-pow-add}
 use lib.Seq.{take-all}
 use borrow.Author.Tests.{eq-eqb, ne-eqb}
 use Rattle.polynomial.specs.Digits.{value}
-use Rattle.kernels.specs.Value.{Bounded, take-more, take-more-set, take-mod}
+use Rattle.kernels.specs.Value.{take-more, take-more-set}
 
 module _ (w : ℕ) (l : List ℕ) (i : ℕ) where
   -- a 0 is written
@@ -24,12 +22,6 @@ module _ (w : ℕ) (l : List ℕ) (i : ℕ) where
 
   pub zero-yes : length l ≤ i → value w (take i l) ≡ 0 → eqb (value w l) 0 ≡ true
   zero-yes h e = eq-eqb (value w l) 0 (ap (value w) (sym (take-all i l h)) ∙ e)
-
--- eight bytes
-pub zero-word : (l : List ℕ) (i : ℕ) → Bounded 8 l → i + 8 ≤ length l → value 8 l / 2 ^ (8 * i) % 2 ^ 64 ≡ 0 → value 8 (take i l) ≡ 0 → value 8 (take (i + 8) l) ≡ 0
-zero-word l i b h z e =
-    let k : 8 * (i + 8) ≡ 64 + 8 * i = omega arith in
-    take-mod 8 l b (i + 8) h ∙ ap (λ (n : ℕ). value 8 l % 2 ^ n) k ∙ mod-pow-add (value 8 l) 64 (8 * i) ∙ rw (z, ← take-mod 8 l b i (omega arith), e, zero-mul) refl
 
 -- something is found at x^p
 pub zero-no : (x c p v : ℕ) → v ≡ x / 2 ^ p % 2 ^ c → (v ≡ 0 → ⊥) → eqb x 0 ≡ false

@@ -2,7 +2,6 @@
 ghost use mathlib.Core.Path.{_≡_};
 ghost use mathlib.Core.List.{_++_};
 ghost use Prim.Native.Nat.{_+_, _-_, _*_, _/_, _%_, _^_, _≤_, _<_};
-ghost use lib.Dec.{eqb};
 ghost use lib.ListN.{length, take, drop};
 ghost use Rattle.polynomial.specs.Digits.{value, digits};
 ghost use Rattle.polynomial.specs.Division.{rem};
@@ -254,24 +253,4 @@ pub fn fold_cyclic(acc: &mut [u8], n: usize)
     let top = bits(acc, n, 64);
     clear_from(acc, n);
     add_bytes(acc, 0, top);
-}
-
-// Is the polynomial 0?
-pub fn is_zero(s: &[u8]) -> bool
-    ensures { λ r. ⌜ r ≡ eqb (value 8 (now (s .entry))) 0 ⌝ }
-{
-    let mut i: usize = 0;
-    while i + 8 <= s.len() {
-        if word_in(s, i) != 0 {
-            return false;
-        }
-        i += 8;
-    }
-    while i < s.len() {
-        if s[i] != 0 {
-            return false;
-        }
-        i += 1;
-    }
-    true
 }

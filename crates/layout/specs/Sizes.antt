@@ -1,5 +1,5 @@
 -- The numbers of accepted parameters: degrees, check and data bits, and their bounds.
---   Degrees p w    w holds the degrees w_0 to w_v of the generators, in four places
+--   Degrees p w    w holds the degrees w_0 to w_v of the generators, in four places; those past v are 0
 use mathlib.Core.Path.{_≡_, refl, _∙_}
 use mathlib.Core.Logic.{inl, inr}
 use mathlib.Core.List.{List, [], _∷_}
@@ -17,12 +17,13 @@ use Rattle.code.specs.declared.Parameters.{Parameters}
 use Rattle.code.specs.Accepted.{Rules, accepted, rising, width-below}
 use Rattle.code.specs.Code.{checkBits, degree, level}
 use Rattle.code.specs.Layout.{dataBits, pageBytes}
-use Rattle.code.specs.Parameters.{Accepted, stored, strength, subWordBytes}
+use Rattle.code.specs.Parameters.{Accepted, len, nestedBytes, stored, strength, subWordBytes}
 use Rattle.code.specs.Steps.{degree-eq}
 
 pub record Degrees (p : Parameters) (w : List ℕ) : Type 0 where
   pub four : length w ≡ 4
   pub at : (a : ℕ) → a ≤ p .v → getD w a 0 ≡ degree p a
+  pub past : (a : ℕ) → p .v < a → getD w a 0 ≡ 0
 
 pub level-low : (p : Parameters) (i : ℕ) → level p i ≤ p .v
 level-low p i = Nat.sub-le (p .v) i
@@ -59,12 +60,18 @@ module _ (p : Parameters) (A : Accepted p) where
   pub stored-high : stored p < 4096
   stored-high = by-known (λ q. 2 ^ q - 1 < 4096) (lit< tt) (lit< tt) (lit< tt) (p .q) (R .known)
 
+  pub length-high : len p < 4096
+  length-high = by-known (λ q. 2 ^ q - 1 < 4096) (lit< tt) (lit< tt) (lit< tt) (p .q) (R .known)
+
   -- a sub-word takes the bytes of its stored coefficients
   pub stored-bytes : (stored p + 7) / 8 ≡ subWordBytes p
   stored-bytes = by-known (λ q. (2 ^ q - 1 + 7) / 8 ≡ 2 ^ q / 8) refl refl refl (p .q) (R .known)
 
   pub word-high : subWordBytes p ≤ 512
   word-high = by-known (λ q. 2 ^ q / 8 ≤ 512) (lit≤ tt) (lit≤ tt) (lit≤ tt) (p .q) (R .known)
+
+  pub nested-high : nestedBytes p ≤ 512
+  nested-high = by-known (λ q. 2 ^ q / 8 ≤ 512) (lit≤ tt) (lit≤ tt) (lit≤ tt) (p .q) (R .known)
 
   pub page-high : pageBytes p ≤ 4096
   page-high = Nat.mul-le-mul {n₂ = 8} {m₂ = 512} (R .m-high) word-high

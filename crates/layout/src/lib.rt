@@ -2,29 +2,32 @@
 ghost use mathlib.Core.Path.{_≡_};
 ghost use Prim.Native.Nat.{_+_, _/_, _^_, _≤_, _<_};
 ghost use lib.ListN.{length};
-ghost use Rattle.code.specs.Parameters.{Accepted, full, stored, subWordBytes};
+ghost use Rattle.code.specs.Parameters.{Accepted, len, stored, subWordBytes, nestedBytes, full};
 ghost use Rattle.code.specs.Code.{level, checkBits};
 ghost use Rattle.code.specs.Layout.{pageBytes, dataBits, dataBytes, blockOffset, pageClear, blocksClear};
 ghost use Rattle.layout.specs.Sizes.{Degrees};
 ghost use Rattle.layout.specs.Runs.{runClear};
 use code::Parameters;
+use element::Field;
 
-// 2^k.
-fn two_to(k: usize) -> usize
-    requires { ⌜ k < 64 ⌝ }
-    ensures { λ r. ⌜ r ≡ 2 ^ k ⌝ }
+// ---- lengths. Some are one number today and need not stay so: each has a name of its own.
+
+// The cyclic length n: the places of a nested word.
+pub fn length_of(p: Parameters) -> usize
+    requires { ⌜ Accepted p ⌝ }
+    ensures { λ r. ⌜ r ≡ len p ⌝ }
 {
-    1 << k
+    let f = Field::of(p.q);
+    f.order as usize
 }
-
-// ---- lengths
 
 // The coefficients of a sub-word that are stored.
 pub fn stored_of(p: Parameters) -> usize
     requires { ⌜ Accepted p ⌝ }
     ensures { λ r. ⌜ r ≡ stored p ⌝ }
 {
-    two_to(p.q as usize) - 1
+    let f = Field::of(p.q);
+    f.order as usize
 }
 
 // The bytes of a sub-word in a page.
@@ -32,7 +35,17 @@ pub fn sub_word_bytes(p: Parameters) -> usize
     requires { ⌜ Accepted p ⌝ }
     ensures { λ r. ⌜ r ≡ subWordBytes p ⌝ }
 {
-    two_to(p.q as usize) / 8
+    let f = Field::of(p.q);
+    f.size as usize / 8
+}
+
+// The bytes of a nested word.
+pub fn nested_bytes(p: Parameters) -> usize
+    requires { ⌜ Accepted p ⌝ }
+    ensures { λ r. ⌜ r ≡ nestedBytes p ⌝ }
+{
+    let f = Field::of(p.q);
+    f.size as usize / 8
 }
 
 // The count at which a register is full.
@@ -40,7 +53,8 @@ pub fn full_count(p: Parameters) -> u64
     requires { ⌜ Accepted p ⌝ }
     ensures { λ r. ⌜ r ≡ full p ⌝ }
 {
-    stored_of(p) as u64
+    let f = Field::of(p.q);
+    f.order as u64
 }
 
 // The bytes of a page.
@@ -111,6 +125,14 @@ pub fn data_bytes(p: Parameters, w: &[u32]) -> usize
 }
 
 // ---- stray bits
+
+// 2^k.
+fn two_to(k: usize) -> usize
+    requires { ⌜ k < 64 ⌝ }
+    ensures { λ r. ⌜ r ≡ 2 ^ k ⌝ }
+{
+    1 << k
+}
 
 // The run of bytes at `at`, as many as b bits take, is below 2^b as a number: of its last byte no unused bit is 1.
 fn run_clear(bytes: &[u8], at: usize, size: usize, b: usize) -> bool

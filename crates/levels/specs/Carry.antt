@@ -9,9 +9,7 @@ use lib.Pow.{pow-pos, pow-add, shl-shr, shr-shr, field, mod-pow-add}
 use Rattle.polynomial.specs.Division.{xor-shr}
 use Rattle.polynomial.specs.Xor.{xor, xor-is, xor-assoc}
 use Rattle.generator.specs.Exponents.{mod-mul-l}
-
-up-mod : (x j k : ℕ) → x * 2 ^ k % 2 ^ (j + k) ≡ x % 2 ^ j * 2 ^ k
-up-mod x j k = mod-pow-add (x * 2 ^ k) j k ∙ rw (shl-shr x k, Nat.mul-mod-left x (2 ^ k)) (Nat.add-zero (x % 2 ^ j * 2 ^ k))
+use Rattle.kernels.specs.Shift.{up-mod}
 
 -- the h + k bits of y from bit h on: the k highest of the low h + k, and the next ones moved up
 between : (y h k : ℕ) → y / 2 ^ h % 2 ^ (h + k) ≡ bitXor (y / 2 ^ (h + k) % 2 ^ (h + k) * 2 ^ k % 2 ^ (h + k)) (y % 2 ^ (h + k) / 2 ^ h)

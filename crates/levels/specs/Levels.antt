@@ -1,6 +1,5 @@
 -- The rows of a sheet's generators, level by level.
 use mathlib.Core.Path.{_≡_, refl, sym, ap, _∙_}
-use mathlib.Core.Logic.{_≢_, inl, inr}
 use mathlib.Core.List.{List, [], _∷_, map}
 use Prim.Native.Nat.{ℕ, zero, suc, _≤_, _<_}
 use native.Mathlib.Nat as Nat
@@ -19,6 +18,8 @@ use Rattle.code.specs.Lists.{range}
 use Rattle.code.specs.Parameters.{Accepted, strength, sheetRefusal, tested, testedOf, Tests}
 use Rattle.code.specs.Steps.{gen-eq}
 use Rattle.tables.specs.Factors.{Factors}
+use Rattle.element.specs.declared.Field.{Field}
+use Rattle.element.specs.Fields.{fieldAt, known-last}
 use Rattle.levels.specs.Rows.{row, row-zero, Raised}
 
 -- ---- the defining equations
@@ -47,9 +48,6 @@ module _ (p : Parameters) (A : Accepted p) where
   v-pos = rules .v-low
 
   -- ---- the strengths are within the table
-  pub strength-rises : (a : ℕ) → a < p .v → strength p a ≤ strength p (suc a)
-  strength-rises a h = rules .rises a h
-
   pub strength-high : (a : ℕ) → a ≤ p .v → strength p a ≤ 64
   strength-high a h = omega (arith, rules .high, rising p rules a (p .v) h (Nat.le-refl (p .v)))
 
@@ -73,17 +71,12 @@ module _ (p : Parameters) (A : Accepted p) where
   pub rows-are : (r0 r1 r2 r3 : List ℕ) → r0 ≡ generatorRow p 0 → r1 ≡ generatorRow p 1 → r2 ≡ generatorRow p 2 → r3 ≡ generatorRow p 3 → r0 ∷ r1 ∷ r2 ∷ r3 ∷ [] ≡ generators p
   rows-are r0 r1 r2 r3 e0 e1 e2 e3 = rw (e0, e1, e2, e3) (sym (generators-eq p ∙ rw (A, range-four) refl))
 
--- ---- the table of p's field
-pub factors-of : (f : List ℕ) (q k : ℕ) → q ≡ k → Factors k f → Factors q f
-factors-of f q k e h = rw e h
+-- ---- the table of the field of q
+pub factors-of : (t : List ℕ) (q k : ℕ) (f : Field) → f ≡ fieldAt q → f .q ≡ k → Factors k t → Factors q t
+factors-of t q k f w e h = let g : q ≡ k = sym (ap (λ (f : Field). f .q) w) ∙ e in rw g h
 
-pub q-last : (p : Parameters) → Accepted p → p .q ≢ 4 → p .q ≢ 8 → p .q ≡ 12
-q-last p A a b = go (accepted p A .known)
-  where
-    go : Known (p .q) → p .q ≡ 12
-    go (inl e) = absurd (a e)
-    go (inr (inl e)) = absurd (b e)
-    go (inr (inr e)) = e
+pub last-field : (q : ℕ) (f : Field) → f ≡ fieldAt q → Known q → (f .q ≡ 4 → ⊥) → (f .q ≡ 8 → ⊥) → f .q ≡ 12
+last-field q f w k a b = let e : f .q ≡ q = ap (λ (f : Field). f .q) w in known-last (f .q) (rw e k) a b
 
 -- ---- any parameters, by what their test answers
 pub rows-refused : (p : Parameters) (k : ℕ) → Tests p (Tested.Refused k) → replicate 4 (replicate 13 0) ≡ generators p

@@ -58,10 +58,6 @@ low-row n x h l = let e : n + (13 - n) ≡ 13 = omega arith in digits-more n (13
 pub row-zero : row 0 ≡ replicate 13 0
 row-zero = digits-zero 13
 
--- 13 words are the row of the polynomial that is their value
-pub row-of-value : (r : List ℕ) (g : ℕ) → length r ≡ 13 → All (λ d. d < 2 ^ 64) r → value 64 r ≡ g → r ≡ row g
-row-of-value r g l b e = sym (digits-value 64 r b) ∙ ap₂ (digits 64) l e
-
 length-low : (n x : ℕ) → n ≤ 13 → length (low n x) ≡ 13
 length-low n x h = simp (length-append, length-digits, length-replicate) (omega arith)
 

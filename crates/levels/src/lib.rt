@@ -1,9 +1,9 @@
 // The levels of a sheet: their generators, worked out together from the constant tables of factors, their degrees, and tables for remainders.
 ghost use mathlib.Core.Path.{_≡_};
-ghost use Prim.Native.Nat.{_<_, _≤_, ℕ};
+ghost use Prim.Native.Nat.{_<_, _≤_};
 ghost use lib.ListN.{length};
 ghost use Rattle.code.specs.Calls.{generators};
-ghost use Rattle.code.specs.Parameters.{Accepted, sheetRefusal};
+ghost use Rattle.code.specs.Parameters.{Accepted};
 ghost use Rattle.tables.specs.Factors.{Factors};
 ghost use Rattle.levels.specs.Rows.{Added, Multiplied, Raised};
 ghost use Rattle.code.specs.Code.{degree};
@@ -11,6 +11,7 @@ ghost use Rattle.layout.specs.Sizes.{Degrees};
 ghost use Rattle.levels.specs.Ready.{Prepared};
 use code::Parameters;
 use code::Tested;
+use element::Field;
 
 // g times x^k is added into the n lowest words of a. The move down goes in two steps, since k may be 0.
 fn add_shifted(a: &mut [u64], g: &[u64], n: usize, k: u32)
@@ -94,11 +95,12 @@ pub fn rows(p: Parameters) -> [[u64; 13]; 4]
     requires { ⌜ Accepted p ⌝ }
     ensures { λ r. ⌜ r ≡ generators p ⌝ }
 {
-    if p.q == 4 {
+    let f = Field::of(p.q);
+    if f.q == 4 {
         let t = tables::factors4();
         return rows_by(p, &t);
     }
-    if p.q == 8 {
+    if f.q == 8 {
         let t = tables::factors8();
         return rows_by(p, &t);
     }
@@ -106,16 +108,13 @@ pub fn rows(p: Parameters) -> [[u64; 13]; 4]
     rows_by(p, &t)
 }
 
-// The same for any numbers, with the refusal's number, 0 where the sheet is accepted; the rows of a refused sheet are 0.
-pub fn generators_of(p: Parameters, refusal: &mut u8) -> [[u64; 13]; 4]
-    ensures { λ r. ⌜ (r ≡ generators p) × (now (refusal .exit) ≡ sheetRefusal p) ⌝ }
+// The same for any numbers; the rows of a refused sheet are 0.
+pub fn generators_of(p: Parameters) -> [[u64; 13]; 4]
+    ensures { λ r. ⌜ r ≡ generators p ⌝ }
 {
-    let tested = sheet::test(p);
-    let Tested::Refused(k) = tested else {
-        *refusal = 0;
+    let Tested::Refused(_) = sheet::test(p) else {
         return rows(p);
     };
-    *refusal = k;
     [[0u64; 13]; 4]
 }
 
@@ -131,7 +130,7 @@ pub fn degree_at(p: Parameters, rows: [[u64; 13]; 4], a: usize) -> u32
     d as u32
 }
 
-// The degrees of all levels.
+// The degrees of all levels, 0 past v.
 pub fn degrees(p: Parameters, rows: [[u64; 13]; 4]) -> [u32; 4]
     requires { ⌜ Accepted p × (rows ≡ generators p) ⌝ }
     ensures { λ r. ⌜ Degrees p r ⌝ }

@@ -17,10 +17,10 @@ use Rattle.code.specs.Accepted.{accepted}
 use Rattle.code.specs.Buffers.{nested-lt}
 use Rattle.code.specs.Code.{combine, nested, place}
 use Rattle.code.specs.Layout.{pageBytes, wordsOf}
-use Rattle.code.specs.Parameters.{Accepted, len, nestedBytes, stored, subWordBytes}
+use Rattle.code.specs.Parameters.{Accepted, len, nestedBytes, subWordBytes}
 use Rattle.code.specs.Steps.{nested-eq}
 use Rattle.layout.specs.Parts.{word-at}
-use Rattle.layout.specs.Sizes.{stored-high}
+use Rattle.layout.specs.Sizes.{length-high}
 use Rattle.kernels.specs.Value.{Bounded, bounded-all, bounded-take, take-mod}
 use Rattle.nested.specs.Sums.{Combined, combined-start, combined-turn, combined-done}
 use Rattle.nested.specs.Bounds.{bits-all, len-low, word-lt, words-many}
@@ -69,11 +69,11 @@ module _ (p : Parameters) (A : Accepted p) (l : ℕ) (page : List ℕ) where
       (g ∙ sym (xor-zero-l (value 8 w * 2 ^ (l * 0) % 2 ^ (8 * k)) ∙ rw (Nat.mul-zero l) refl)) turned-start
 
   -- what folding asks
-  pub turned-fold : (acc : List ℕ) (n i : ℕ) → n ≡ stored p → length acc ≡ nestedBytes p + 8 → Turned p l page (value 8 acc) i
+  pub turned-fold : (acc : List ℕ) (n i : ℕ) → n ≡ len p → length acc ≡ nestedBytes p + 8 → Turned p l page (value 8 acc) i
       → (n % 8 ≡ 7) × (n < 1000000) × (n < 8 * length acc) × (value 8 acc < 2 ^ (64 + n)) × (value 8 acc < 2 ^ (n + n))
   turned-fold acc n i e f s =
       let a = bits-all p A in
-      let b = stored-high p A in
+      let b = length-high p A in
       let c = len-low p A in (
         omega arith,
         omega arith,
@@ -82,7 +82,7 @@ module _ (p : Parameters) (A : Accepted p) (l : ℕ) (page : List ℕ) where
         Nat.lt-of-lt-of-le (s .low) (pow-mono (omega arith)),
       )
 
-  pub turned-done : (x y n i : ℕ) → n ≡ stored p → p .m ≤ i → y ≡ rem (2 ^ n + 1) n x → Turned p l page x i → y ≡ nested p l (wordsOf p page)
+  pub turned-done : (x y n i : ℕ) → n ≡ len p → p .m ≤ i → y ≡ rem (2 ^ n + 1) n x → Turned p l page x i → y ≡ nested p l (wordsOf p page)
   turned-done x y n i e h f s =
       f ∙ ap (λ (k : ℕ). rem (2 ^ k + 1) k x) e
       ∙ ap (rem (2 ^ len p + 1) (len p)) (combined-done (λ k. 2 ^ place l k) 0 (wordsOf p page) 0 x i (s .sum) (rw (words-many p page) h) ∙ xor-zero-l (combine (λ k. 2 ^ place l k) 0 (wordsOf p page)))

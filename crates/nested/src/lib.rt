@@ -1,6 +1,6 @@
 // Sums of sub-words moved up: nested words, and what the later sub-words add to the rule of an earlier one.
 ghost use mathlib.Core.Path.{_≡_};
-ghost use Prim.Native.Nat.{ℕ, suc, _+_, _*_, _%_, _≤_, _<_};
+ghost use Prim.Native.Nat.{suc, _+_, _*_, _%_, _≤_, _<_};
 ghost use lib.ListN.{length, take, drop};
 ghost use Rattle.polynomial.specs.Digits.{value};
 ghost use Rattle.polynomial.specs.Xor.{xor};
@@ -9,7 +9,7 @@ ghost use Rattle.code.specs.Layout.{pageBytes, wordsOf};
 ghost use Rattle.code.specs.Parameters.{Accepted, nestedBytes, subWordBytes};
 ghost use Rattle.nested.specs.Horner.{Over, Sums};
 use code::Parameters;
-use layout::stored_of;
+use layout::length_of;
 use layout::sub_word_bytes;
 
 // The bytes of sub-word i.
@@ -28,7 +28,7 @@ pub fn nested_into(acc: &mut [u8], p: Parameters, page: &[u8], l: usize)
     requires { ⌜ Accepted p × (length (now page) ≡ pageBytes p) × (l < p .v) × (length (now acc) ≡ nestedBytes p + 8) ⌝ }
     ensures { λ x. ⌜ value 8 (now (acc .exit)) ≡ nested p l (wordsOf p (now (page .entry))) ⌝ }
 {
-    let n = stored_of(p);
+    let n = length_of(p);
     let first = sub_word(p, page, 0);
     kernels::bytes::copy_up(acc, first, 0);
     let mut i: usize = 1;

@@ -4,10 +4,10 @@ use mathlib.Core.Path.{_≡_, refl, sym, ap, _∙_}
 use mathlib.Core.Logic.{_⊎_, inl, inr}
 use mathlib.Core.Bool.{Bool, true, false}
 use mathlib.Core.List.{List}
-use Prim.Native.Nat.{ℕ, zero, suc, _^_, _≤_, _<_}
+use Prim.Native.Nat.{ℕ, suc, _^_, _≤_, _<_}
 use native.Mathlib.Nat as Nat
-use lib.Dec.{T, eqb, leb, eqb→eq}
-use lib.ListN.{length, getD}
+use lib.Dec.{eqb, leb, eqb→eq}
+use lib.ListN.{getD}
 use borrow.Author.Tests.{le-leb, lt-leb, leb-false, eq-eqb, ne-eqb}
 use Rattle.polynomial.specs.Sums.{at-all}
 use Rattle.code.specs.declared.Outcome.{Outcome}

@@ -4,7 +4,6 @@ use mathlib.Core.List.{List, map}
 use Prim.Native.Nat.{ℕ, suc, _-_, _*_, _^_, _≤_, _<_, zero-le, suc-le-suc}
 use native.Mathlib.Nat as Nat
 use native.Mathlib.Omega.{arith}
-use lib.ListN.{length}
 use lib.Seq.{ext-getD}
 use Rattle.polynomial.specs.Digits.{value}
 use Rattle.polynomial.specs.Division.{Deg, rem-lt}
@@ -21,7 +20,8 @@ use Rattle.code.specs.Code.{gen, degree, remainder, syndromes}
 use Rattle.code.specs.Lists.{range}
 use Rattle.code.specs.Parameters.{Accepted, strength}
 use Rattle.code.specs.Steps.{gen-eq}
-use Rattle.element.specs.Lent.{size-least}
+use Rattle.element.specs.declared.Field.{Field}
+use Rattle.element.specs.Fields.{fieldAt, size-least}
 use Rattle.levels.specs.Ready.{RowOf, degree-of, degree-most}
 use Rattle.oneword.specs.Row.{remainder-room}
 
@@ -65,6 +65,10 @@ module _ (p : Parameters) (A : Accepted p) (a : ℕ) (h : a ≤ p .v) where
   pub many-few : (k : ℕ) → k ≡ many → k < 2 ^ p .q - 1
   many-few k e = omega (arith, e, rising p R a (p .v) h (Nat.le-refl (p .v)), R .short, size-least (p .q) (R .known))
 
-  pub syndromes-made : (c r k : ℕ) (l : List ℕ) → r ≡ remainder p a c → k ≡ many → l ≡ map (λ j. syndrome (p .q) r j) (range 1 k) → l ≡ syndromes p many c
-  unfolding syndromes
-  syndromes-made c r k l e f g = g ∙ ap₂ (λ (x n : ℕ). map (λ j. syndrome (p .q) x j) (range 1 n)) e f ∙ level-syndromes c
+  pub level-made : (c r k : ℕ) (l : List ℕ) → r ≡ remainder p a c → k ≡ many → l ≡ syndromes p k r → l ≡ syndromes p many c
+  level-made c r k l e f g = g ∙ ap₂ (syndromes p) f e ∙ level-syndromes c
+
+-- the list by the field's entry
+pub syndromes-are : (p : Parameters) (f : Field) (c k : ℕ) (l : List ℕ) → f ≡ fieldAt (p .q) → l ≡ map (λ j. syndrome (f .q) c j) (range 1 k) → l ≡ syndromes p k c
+unfolding syndromes
+syndromes-are p f c k l e g = g ∙ ap (λ (f : Field). map (λ j. syndrome (f .q) c j) (range 1 k)) e

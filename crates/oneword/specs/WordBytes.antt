@@ -22,12 +22,12 @@ use Rattle.code.specs.Calls.{nestedOf, nestedSyndromeList, nestedWordBytes, rem
 use Rattle.code.specs.Code.{divisor, remainder, shortRemainder, syndromes}
 use Rattle.code.specs.Layout.{IsPage, wordsOf}
 use Rattle.code.specs.Pages.{page-words, room}
-use Rattle.code.specs.Parameters.{Accepted, nestedBytes, stored, strength, subWordBytes}
+use Rattle.code.specs.Parameters.{Accepted, len, nestedBytes, strength, subWordBytes}
 use Rattle.layout.specs.Parts.{word-at}
 
 pub record WordIs (p : Parameters) (c : ℕ) (s : List ℕ) : Type 0 where
   pub is : value 8 s ≡ c
-  pub below : c < 2 ^ stored p
+  pub below : c < 2 ^ len p
 
 -- ---- sub-word i of a page
 pub sub-word-is : (p : Parameters) → Accepted p → (x : List ℕ) → IsPage p x → (i : ℕ) → i < p .m → (s : List ℕ) → s ≡ take (subWordBytes p) (drop (i * subWordBytes p) x) → WordIs p (subWordOf p x i) s
@@ -35,7 +35,7 @@ sub-word-is p A x h i l s e =
     let w = page-words p (accepted p A) x h in
     record {
       is = ap (value 8) e ∙ sym (word-at p x i l);
-      below = all-at (λ c. c < 2 ^ stored p) (wordsOf p x) (w .below) i (rw (w .many) l);
+      below = all-at (λ c. c < 2 ^ len p) (wordsOf p x) (w .below) i (rw (w .many) l);
     }
 
 -- ---- nested word l, in b + 8 bytes of 520, the others 0

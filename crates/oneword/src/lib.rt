@@ -2,10 +2,11 @@
 ghost use Rattle.code.specs.Calls.{RemainderMade, ShortMade, NestedMade, SyndromesMade, NestedSyndromesMade};
 use crate::chain::nested_bytes;
 use crate::chain::word_refusal;
+use crate::work::level_remainder;
 use crate::work::nested_of;
 use crate::work::remainder_into;
 use crate::work::short_into;
-use crate::work::syndromes_into;
+use crate::work::syndromes_from;
 use code::Outcome;
 use code::Parameters;
 use nested::sub_word;
@@ -54,7 +55,7 @@ pub fn nested_word(p: Parameters, page: &[u8], l: usize, out: &mut [u8]) -> Outc
     Outcome::Done
 }
 
-// The syndromes S_1 to S_(2 t_0) of sub-word i.
+// The syndromes S_1 to S_(2 t_0) of sub-word i, from its remainder by g_0, which has those roots. The remainder and the syndromes are two calls, so that the tables of both never stand on the stack together.
 pub fn syndromes(p: Parameters, page: &[u8], i: usize, list: &mut [u16]) -> Outcome
     ensures { λ r. ⌜ SyndromesMade p (now (page .entry)) i (now (list .entry)) (now (list .exit)) r ⌝ }
 {
@@ -64,11 +65,13 @@ pub fn syndromes(p: Parameters, page: &[u8], i: usize, list: &mut [u16]) -> Outc
         return Outcome::Refused(k);
     }
     let s = sub_word(p, page, i);
-    syndromes_into(list, p, 0, s);
+    let mut r = [0u64; 13];
+    let w = level_remainder(&mut r, p, 0, s);
+    syndromes_from(list, p, &r, w);
     Outcome::Done
 }
 
-// The syndromes S_1 to S_(2 t_(v-l)) of nested word l.
+// The syndromes S_1 to S_(2 t_(v-l)) of nested word l, from its remainder by g_(v-l).
 pub fn nested_syndromes(p: Parameters, page: &[u8], l: usize, list: &mut [u16]) -> Outcome
     ensures { λ r. ⌜ NestedSyndromesMade p (now (page .entry)) l (now (list .entry)) (now (list .exit)) r ⌝ }
 {
@@ -79,6 +82,8 @@ pub fn nested_syndromes(p: Parameters, page: &[u8], l: usize, list: &mut [u16]) 
         return Outcome::Refused(k);
     }
     let s = nested_of(p, page, l);
-    syndromes_into(list, p, a, &s);
+    let mut r = [0u64; 13];
+    let w = level_remainder(&mut r, p, a, &s);
+    syndromes_from(list, p, &r, w);
     Outcome::Done
 }

@@ -7,39 +7,40 @@ ghost use Rattle.polynomial.specs.Division.{deg, rem};
 ghost use Rattle.code.specs.Calls.{nestedOf};
 ghost use Rattle.code.specs.Code.{degree, divisor, remainder, syndromes};
 ghost use Rattle.code.specs.Layout.{IsPage};
-ghost use Rattle.code.specs.Parameters.{Accepted, stored, strength};
+ghost use Rattle.code.specs.Parameters.{Accepted, len};
 ghost use Rattle.oneword.specs.WordBytes.{WordIs};
 use crate::divide::quotient;
 use crate::divide::remainder_by;
 use code::Parameters;
+use element::Field;
 
 // Nested word l of a page, in its bytes with zeros after them.
 pub fn nested_of(p: Parameters, page: &[u8], l: usize) -> [u8; 520]
     requires { ⌜ Accepted p × IsPage p (now page) × (l < p .v) ⌝ }
     ensures { λ r. ⌜ WordIs p (nestedOf p (now (page .entry)) l) r ⌝ }
 {
-    let end = layout::sub_word_bytes(p) + 8;
+    let end = layout::nested_bytes(p) + 8;
     let mut acc = [0u8; 520];
     nested::nested_into(&mut acc[..end], p, page, l);
     acc
 }
 
 // The remainder of s by level a's generator, and that generator's degree.
-fn level_remainder(r: &mut [u64], p: Parameters, a: usize, s: &[u8]) -> usize
-    requires { ⌜ Accepted p × (a ≤ p .v) × (length (now r) ≡ 13) × (value 8 (now s) < 2 ^ stored p) ⌝ }
+pub fn level_remainder(r: &mut [u64], p: Parameters, a: usize, s: &[u8]) -> usize
+    requires { ⌜ Accepted p × (a ≤ p .v) × (length (now r) ≡ 13) × (value 8 (now s) < 2 ^ len p) ⌝ }
     ensures { λ w. ⌜ (w ≡ degree p a) × (value 64 (now (r .exit)) ≡ remainder p a (value 8 (now (s .entry)))) ⌝ }
 {
     let rows = levels::rows(p);
     let w = levels::degree_at(p, rows, a) as usize;
     let g = rows[a];
-    let n = layout::stored_of(p);
+    let n = layout::length_of(p);
     remainder_by(r, &g, w, s, n);
     w
 }
 
 // The remainder of s by level a's generator, in 96 bytes.
 pub fn remainder_into(out: &mut [u8], p: Parameters, a: usize, s: &[u8])
-    requires { ⌜ Accepted p × (a ≤ p .v) × (length (now out) ≡ 96) × (value 8 (now s) < 2 ^ stored p) ⌝ }
+    requires { ⌜ Accepted p × (a ≤ p .v) × (length (now out) ≡ 96) × (value 8 (now s) < 2 ^ len p) ⌝ }
     ensures { λ x. ⌜ now (out .exit) ≡ digits 8 96 (remainder p a (value 8 (now (s .entry)))) ⌝ }
 {
     let mut r = [0u64; 13];
@@ -47,16 +48,13 @@ pub fn remainder_into(out: &mut [u8], p: Parameters, a: usize, s: &[u8])
     kernels::bytes::store(out, &r);
 }
 
-// The syndromes S_1 to S_(2 t_a) of s, from its remainder by level a's generator, which has those roots.
-pub fn syndromes_into(list: &mut [u16], p: Parameters, a: usize, s: &[u8])
-    requires { ⌜ Accepted p × (a ≤ p .v) × (length (now list) ≡ 2 * strength p a) × (value 8 (now s) < 2 ^ stored p) ⌝ }
-    ensures { λ x. ⌜ now (list .exit) ≡ syndromes p (2 * strength p a) (value 8 (now (s .entry))) ⌝ }
+// The syndromes S_1, S_2, .. of the polynomial in r, which has w coefficients at most, as many as the list has places.
+pub fn syndromes_from(list: &mut [u16], p: Parameters, r: &[u64], w: usize)
+    requires { ⌜ Accepted p × (w ≤ 64 * length (now r)) × (value 64 (now r) < 2 ^ w) × (length (now list) < len p) ⌝ }
+    ensures { λ x. ⌜ now (list .exit) ≡ syndromes p (length (now (list .entry))) (value 64 (now (r .entry))) ⌝ }
 {
-    let mut r = [0u64; 13];
-    let w = level_remainder(&mut r, p, a, s);
-    let powers = element::powers(p.q);
-    let logs = element::logs(p.q);
-    syndrome::syndromes_into(list, &powers, &logs, p.q, &r, w);
+    let f = Field::of(p.q);
+    syndrome::syndromes_of(list, f, r, w);
 }
 
 // The divisor g_(v-l) / g_0, and its degree.
@@ -76,12 +74,12 @@ fn divisor_row(d: &mut [u64], p: Parameters, l: usize) -> usize
 
 // The remainder of s by g_(v-l) / g_0, in 96 bytes.
 pub fn short_into(out: &mut [u8], p: Parameters, l: usize, s: &[u8])
-    requires { ⌜ Accepted p × (length (now out) ≡ 96) × (value 8 (now s) < 2 ^ stored p) ⌝ }
+    requires { ⌜ Accepted p × (length (now out) ≡ 96) × (value 8 (now s) < 2 ^ len p) ⌝ }
     ensures { λ x. ⌜ now (out .exit) ≡ digits 8 96 (rem (divisor p l) (deg (divisor p l)) (value 8 (now (s .entry)))) ⌝ }
 {
     let mut d = [0u64; 13];
     let w = divisor_row(&mut d, p, l);
-    let n = layout::stored_of(p);
+    let n = layout::length_of(p);
     let mut r = [0u64; 13];
     remainder_by(&mut r, &d, w, s, n);
     kernels::bytes::store(out, &r);

@@ -94,11 +94,6 @@ next-multiple d n j x y e f =
     let s : d * (j + 1) ≡ d * j + d = omega arith in
     f ∙ ap (λ (z : ℕ). (z + d) % n) e ∙ Nat.mod-add-mod (d * j) n d ∙ ap (λ (z : ℕ). z % n) (sym s)
 
-pub wraps : (a b n : ℕ) → a < n → b < n → n ≤ a + b → a + b - n ≡ (a + b) % n
-wraps a b n h l k =
-    let t : a + b ≡ a + b - n + n = omega arith in
-    sym (ap (λ (y : ℕ). y % n) t ∙ Nat.add-mod-right (a + b - n) n ∙ Nat.mod-eq-of-lt (omega arith))
-
 -- ---- the test of one d, as the program makes it
 abbrev pub clashTest : Parameters → ℕ → Bool
 clashTest p d = anyFrom (hits (len p) d) 1 (2 * strength p (p .v))

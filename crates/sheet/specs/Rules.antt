@@ -1,19 +1,19 @@
 -- The rules on the parameters, test by test: what a program's tests show of each definition.
 use mathlib.Core.Path.{_≡_, refl, sym, ap, _∙_}
-use mathlib.Core.Bool.{Bool, true, false, not, _&&_, _||_, cond}
+use mathlib.Core.Bool.{Bool, true, false, not, _&&_, cond}
 use Prim.Native.Nat.{ℕ, zero, suc, _-_, _*_, _^_, _≤_, _<_}
 use native.Mathlib.Omega.{arith}
 use lib.Dec.{T, eqb, leb, ltb, leb→le, ltb→lt}
-use borrow.Author.Tests.{lt-ltb, le-ltb, le-leb, lt-leb, eqb-true}
+use borrow.Author.Tests.{lt-ltb, le-ltb, le-leb, lt-leb}
 use Rattle.field.specs.Irreducible.{both}
 use Rattle.code.specs.declared.Parameters.{Parameters}
 use Rattle.code.specs.declared.Tested.{Tested}
 use Rattle.code.specs.Lists.{_when_, _orElse_}
 use Rattle.code.specs.Answers.{tests}
 use Rattle.code.specs.Parameters.{len, strength, fieldKnown, shapeFits, placeFits, strengthsFit, clashes, sheetRefusal, tested, testedOf, Tests}
-use Rattle.tables.specs.declared.Chosen.{Chosen}
-use Rattle.tables.specs.declared.Entry.{Entry}
-use Rattle.tables.specs.Choice.{known, entry, chosen, chosenBy, ChosenFor}
+use Rattle.element.specs.declared.Field.{Field}
+use Rattle.element.specs.declared.Made.{Made}
+use Rattle.element.specs.Fields.{known, MadeOf, made-known, made-field, known-is, size-least, size-most}
 
 module _ (p : Parameters) where
   -- ---- the shape
@@ -103,37 +103,20 @@ strength-high p e =
     let b = both (leb 1 (p .t0) && ltb (p .t0) (p .t1) && placeFits p 2 && placeFits p 3 && leb (strength p (p .v)) 64) (leb (2 * strength p (p .v)) (len p - 1)) (holds (strengthsFit p) e) in
     leb→le (strength p (p .v)) 64 (both (leb 1 (p .t0) && ltb (p .t0) (p .t1) && placeFits p 2 && placeFits p 3) (leb (strength p (p .v)) 64) (b .0) .1)
 
--- ---- what choosing a field says
-pub record FieldFacts (q : ℕ) (f : Entry) : Type 0 where
+-- ---- what a made field says
+pub record FieldFacts (q : ℕ) (f : Field) : Type 0 where
   pub is-known : known q ≡ true
-  pub is-entry : f ≡ entry q
+  pub order : f .order ≡ 2 ^ q - 1
   pub order-low : 8 < f .order
   pub order-high : f .order < 4096
 
-by-known : (q : ℕ) (b : Bool) (f : Entry) → known q ≡ b → Chosen.Field f ≡ chosenBy (cond b 0 1) (entry q) → (known q ≡ true) × (f ≡ entry q)
-by-known q true f k e = (k, (cc))
-by-known q false f k e = let z : _≡_ {A = ℕ} 0 1 = cc in absurd (omega arith)
-
-order-of : (q : ℕ) → (b c d : Bool) → eqb q 4 ≡ b → eqb q 8 ≡ c → eqb q 12 ≡ d → (b || c || d) ≡ true → (8 < 2 ^ q - 1) × (2 ^ q - 1 < 4096)
-order-of q true c d i j k e = rw (eqb-true q 4 i) (omega arith, omega arith)
-order-of q false true d i j k e = rw (eqb-true q 8 j) (omega arith, omega arith)
-order-of q false false true i j k e = rw (eqb-true q 12 k) (omega arith, omega arith)
-order-of q false false false i j k e = let z : _≡_ {A = ℕ} 0 1 = cc in absurd (omega arith)
-
-pub field-facts : (q : ℕ) (f : Entry) → ChosenFor q (Chosen.Field f) → FieldFacts q f
-unfolding chosen
-field-facts q f r =
-    let a = by-known q (known q) f refl (r .answers) in
-    let o = order-of q (eqb q 4) (eqb q 8) (eqb q 12) refl refl refl (a .0) in
-    record { is-known = a .0; is-entry = a .1; order-low = rw (a .1) (o .0); order-high = rw (a .1) (o .1) }
-
-pub field-unknown : (q : ℕ) → ChosenFor q Chosen.Unknown → known q ≡ false
-unfolding chosen
-field-unknown q r = by (known q) (r .answers)
-  where
-    by : (b : Bool) → Chosen.Unknown ≡ chosenBy (cond b 0 1) (entry q) → b ≡ false
-    by true e = let z : _≡_ {A = ℕ} 0 1 = cc in absurd (omega arith)
-    by false e = refl
+pub field-facts : (q : ℕ) (r : Made) (f : Field) → MadeOf q r → r ≡ Made.Field f → FieldFacts q f
+field-facts q r f h e =
+    let k = made-known q r h f e in
+    let o : f .order ≡ 2 ^ q - 1 = ap (λ (g : Field). g .order) (made-field q r h f e) in
+    let low = size-least q (known-is q k) in
+    let high = size-most q (known-is q k) in
+    record { is-known = k; order = o; order-low = omega arith; order-high = omega arith }
 
 -- ---- the whole test: the refusal by its four links
 module _ (p : Parameters) where

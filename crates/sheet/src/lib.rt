@@ -1,6 +1,6 @@
 // The sheet's test and the nesting coefficient.
 ghost use mathlib.Core.Path.{_≡_};
-ghost use Prim.Native.Nat.{ℕ, _<_, _≤_, _+_, _*_, _-_, _%_};
+ghost use Prim.Native.Nat.{_<_, _≤_};
 ghost use Rattle.code.specs.Code.{N};
 ghost use Rattle.code.specs.Calls.{NestingMade};
 ghost use Rattle.code.specs.Parameters.{len, strength, shapeFits, placeFits, strengthsFit, clashes, Tests};
@@ -8,7 +8,8 @@ ghost use Rattle.sheet.specs.Clashes.{hits, anyFrom};
 use code::Nesting;
 use code::Parameters;
 use code::Tested;
-use tables::Chosen;
+use element::Field;
+use element::Made;
 
 // v is 1 to 3, m is v + 1 to 8.
 fn shape_fits(p: Parameters) -> bool
@@ -82,15 +83,6 @@ fn strengths_fit(p: Parameters, n: u32) -> bool
     2 * t <= n - 1
 }
 
-// The sum modulo n.
-pub fn sum_modulo(a: u32, b: u32, n: u32) -> u32
-    requires { ⌜ (a < n) × (b < n) × (n < 4096) ⌝ }
-    ensures { λ r. ⌜ (r ≡ (a + b) % n) × (r < n) ⌝ }
-{
-    let s = a + b;
-    if s < n { s } else { s - n }
-}
-
 // Some d × j is a multiple of n, j from 1 to last. Where no product comes to n there is none.
 fn clash_at(d: u32, n: u32, last: u32) -> bool
     requires { ⌜ (1 ≤ d) × (d < n) × (n < 4096) × (last ≤ 128) ⌝ }
@@ -105,7 +97,7 @@ fn clash_at(d: u32, n: u32, last: u32) -> bool
         if x == 0 {
             return true;
         }
-        x = sum_modulo(x, d, n);
+        x = element::modulo(n, x + d);
         j += 1;
     }
     false
@@ -132,8 +124,7 @@ fn clashes_at(p: Parameters, n: u32) -> bool
 pub fn test(p: Parameters) -> Tested
     ensures { λ r. ⌜ Tests p r ⌝ }
 {
-    let chosen = tables::choose(p.q);
-    let Chosen::Field(f) = chosen else {
+    let Made::Field(f) = Field::make(p.q) else {
         return Tested::Refused(1);
     };
     if !shape_fits(p) {

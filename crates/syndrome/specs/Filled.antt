@@ -12,7 +12,7 @@ use Rattle.field.specs.Elements.{times, times-num, syndrome, syndrome-num, synd
 use Rattle.field.specs.Eval.{eval, eval-sq}
 use Rattle.field.specs.Field.{pow, pow-add}
 use Rattle.field.specs.Fields.{Known, fieldOf}
-use Rattle.element.specs.Lent.{size-most}
+use Rattle.element.specs.Fields.{size-most}
 use Rattle.code.specs.Lists.{range}
 use Rattle.code.specs.Pages.{length-range}
 use Rattle.code.specs.Placement.{getD-map-range}

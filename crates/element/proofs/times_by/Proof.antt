@@ -5,23 +5,28 @@ use native.Mathlib.Nat.{pos-of-ne-zero, lt-of-lt-of-le}
 use native.Mathlib.Omega.{arith}
 use Rattle.field.specs.Elements.{times}
 use Rattle.element.specs.Exponents.{times-zero-l, times-zero-r}
-use Rattle.element.specs.Lent.{LogOf, Tables, size-most, power-room, log-room, exponent-lt, times-by}
+use Rattle.element.specs.declared.Field.{Field}
+use Rattle.element.specs.Fields.{size-most}
+use Rattle.element.specs.Lent.{LogOf, Tables, power-room, log-room, exponent-lt, times-by}
 use Rattle.element.proofs.times_by.Statement.{statement}
 use Rattle.element.proofs.times_by.Tie as tie
 
 returns : tie.Need-returns
-returns c = let s = c .before .before .before .args in sym (ap (λ (x : ℕ). times (s .q) x (s .b)) (c .if1 .taken) ∙ times-zero-l (s .q) (s .b))
+returns c = let s = c .before .before .before .args in sym (ap (λ (x : ℕ). times (s .f .q) x (s .b)) (c .if1 .taken) ∙ times-zero-l (s .f .q) (s .b))
 
 returns-2 : tie.Need-returns-2
-returns-2 c = let s = c .before .before .before .before .args in sym (ap (λ (x : ℕ). times (s .q) (s .a) x) (c .if2 .taken) ∙ times-zero-r (s .q) (s .a))
+returns-2 c = let s = c .before .before .before .before .args in sym (ap (λ (x : ℕ). times (s .f .q) (s .a) x) (c .if2 .taken) ∙ times-zero-r (s .f .q) (s .a))
 
 -- where neither operand is 0
 module _ (c : tie.Else2) where
   abbrev s : tie.Start
   s = c .before .before .before .before
 
+  abbrev f : Field
+  f = s .args .f
+
   abbrev q : ℕ
-  q = s .args .q
+  q = f .q
 
   abbrev p : List ℕ
   p = s .args .powers .now
@@ -29,17 +34,14 @@ module _ (c : tie.Else2) where
   abbrev l : List ℕ
   l = s .args .logs .now
 
-  abbrev tables : Tables q p l
+  abbrev tables : Tables f p l
   tables = s .pre .0
 
 log-requires : tie.Need-log-requires
-log-requires c κs = lt-of-lt-of-le (s c .pre .1) (log-room (q c) (p c) (l c) (tables c))
+log-requires c κs = lt-of-lt-of-le (s c .pre .1) (log-room (f c) (p c) (l c) (tables c))
 
 log-requires-2 : tie.Need-log-requires-2
-log-requires-2 c κs = let d = c .before in lt-of-lt-of-le (s d .pre .2) (log-room (q d) (p d) (l d) (tables d))
-
-order-requires : tie.Need-order-requires
-order-requires c κs = tables (c .before .before) .field
+log-requires-2 c κs = let d = c .before in lt-of-lt-of-le (s d .pre .2) (log-room (f d) (p d) (l d) (tables d))
 
 -- the logs
 module _ (c : tie.After-log2) where
@@ -53,31 +55,31 @@ module _ (c : tie.After-log2) where
   log-b = c .log2 .ensures .log (q d) (tables d .logs) (pos-of-ne-zero (d .if2 .left)) (s d .pre .2)
 
 add-modulo : tie.Need-add-modulo
-add-modulo c = let e = c .before in omega (arith, log-a e .below, log-b e .below, size-most (q (d e)) (tables (d e) .field))
+add-modulo c = omega (arith, log-a c .below, log-b c .below, size-most (q (d c)) (tables (d c) .field .known))
 
 modulo-requires : tie.Need-modulo-requires
-modulo-requires c κs = let e = c .before in omega (arith, log-a e .below, log-b e .below, c .order .ensures)
+modulo-requires c κs = omega (arith, log-a c .below, log-b c .below, tables (d c) .field .order)
 
 -- the exponent of the product
 module _ (c : tie.After-modulo) where
   abbrev b : tie.After-log2
-  b = c .before .before
+  b = c .before
 
   exponent : c .modulo .result ≡ (b .before .log .result + b .log2 .result) % (2 ^ q (d b) - 1)
-  exponent = c .modulo .ensures ∙ ap (λ (n : ℕ). (b .before .log .result + b .log2 .result) % n) (c .before .order .ensures)
+  exponent = c .modulo .ensures .0 ∙ ap (λ (n : ℕ). (b .before .log .result + b .log2 .result) % n) (tables (d b) .field .order)
 
   below : c .modulo .result < 2 ^ q (d b) - 1
-  below = exponent-lt (q (d b)) (tables (d b) .field) (c .modulo .result) (b .before .log .result + b .log2 .result) exponent
+  below = exponent-lt (q (d b)) (tables (d b) .field .known) (c .modulo .result) (b .before .log .result + b .log2 .result) exponent
 
 root-requires : tie.Need-root-requires
-root-requires c κs = let e = d (b c) in lt-of-lt-of-le (below c) (power-room (q e) (p e) (l e) (tables e))
+root-requires c κs = let e = d (b c) in lt-of-lt-of-le (below c) (power-room (f e) (p e) (l e) (tables e))
 
 returns-3 : tie.Need-returns-3
 returns-3 c =
     let m = c .before in
     let e = d (b m) in
     c .root .ensures .root (q e) (tables e .powers) (below m)
-    ∙ times-by (q e) (tables e .field) (s e .args .a) (s e .args .b) (b m .before .log .result) (b m .log2 .result) (m .modulo .result) (log-a (b m)) (log-b (b m)) (exponent m)
+    ∙ times-by (q e) (tables e .field .known) (s e .args .a) (s e .args .b) (b m .before .log .result) (b m .log2 .result) (m .modulo .result) (log-a (b m)) (log-b (b m)) (exponent m)
 
 pub times-by-spec : {M : Type 1} → statement M
 times-by-spec =
@@ -87,7 +89,6 @@ times-by-spec =
     returns-2
     log-requires
     log-requires-2
-    order-requires
     add-modulo
     modulo-requires
     root-requires

@@ -1,7 +1,6 @@
 use borrow.Author.Needs.{needs}
 use mathlib.Core.Bool.{not}
 use mathlib.Core.Path.{sym, ap, _∙_}
-use native.Mathlib.Omega.{arith}
 use Prim.Native.Nat.{_-_}
 use Rattle.code.specs.Layout.{wordsOf}
 use Rattle.judge.specs.Search.{Seeking, seek-start, seek-found, seek-next, seek-done}

@@ -1,16 +1,15 @@
 use borrow.Author.Needs.{needs}
-use mathlib.Core.Path.{ap, _∙_}
 use native.Mathlib.Omega.{arith}
 use Prim.Native.Nat.{_-_}
 use Rattle.polynomial.specs.Digits.{value}
-use Rattle.layout.specs.Sizes.{stored-high}
+use Rattle.layout.specs.Sizes.{length-high}
 use Rattle.levels.specs.Ready.{degree-low, degree-most, prepared-up}
 use Rattle.judge.specs.Judged.{passes-is}
 use Rattle.judge.proofs.passes.Statement.{statement}
 use Rattle.judge.proofs.passes.Tie as tie
 
-stored-of-requires : tie.Need-stored-of-requires
-stored-of-requires c κs = c .before .before .pre .0
+length-of-requires : tie.Need-length-of-requires
+length-of-requires c κs = c .before .before .pre .0
 
 slice-aggregate-remainder-of : tie.Need-slice-aggregate-remainder-of
 slice-aggregate-remainder-of c = search needs
@@ -28,7 +27,7 @@ remainder-of-requires c κs =
       omega arith,
       omega arith,
       omega (arith, s .pre .2, degree-most (s .args .p) (s .pre .0) (s .args .a) (s .pre .1), degree-low (s .args .p) (s .pre .0) (s .args .a) (s .pre .1)),
-      omega (arith, c .before .stored-of .ensures, stored-high (s .args .p) (s .pre .0)),
+      omega (arith, c .before .length-of .ensures, length-high (s .args .p) (s .pre .0)),
       prepared-up (s .args .p) (s .args .a) (s .args .w) (s .args .t .now) (s .pre .2) (s .pre .3),
     )
 
@@ -44,13 +43,13 @@ returns c =
     let s = r .before .before .before .before .before in
     let a = s .args in
     passes-is (a .p) (s .pre .0) (a .t .now) (a .a) (a .w) (value 8 (a .s .now)) (value 64 (r .remainder-of .last .0)) _ (s .pre .1) (s .pre .2) (s .pre .3) (s .pre .4)
-    (rw (r .before .before .stored-of .ensures) at (r .remainder-of .ensures)) (c .is-zero .ensures)
+    (rw (r .before .before .length-of .ensures) at (r .remainder-of .ensures)) (c .is-zero .ensures)
 
 pub passes-spec : {M : Type 1} → statement M
 passes-spec =
     tie.close
     (tie.spec
-    stored-of-requires
+    length-of-requires
     slice-aggregate-remainder-of
     sub-remainder-of
     remainder-of-requires

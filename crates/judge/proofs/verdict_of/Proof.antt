@@ -7,13 +7,13 @@ use lib.ListN.{length-take}
 use Rattle.code.specs.Answers.{named}
 use Rattle.code.specs.Judge.{answer-sub, answer-nested, answer-member}
 use Rattle.code.specs.Layout.{wordsOf}
-use Rattle.layout.specs.Sizes.{word-high}
+use Rattle.layout.specs.Sizes.{nested-high}
 use Rattle.judge.proofs.verdict_of.Statement.{statement}
 use Rattle.judge.proofs.verdict_of.Tie as tie
 
 -- the room for a nested word lies within the array
-fit : (c : tie.After-sub-word-bytes) → c .sub-word-bytes .result + 8 ≤ 520
-fit c = let s = c .before .before .before in omega (arith, c .sub-word-bytes .ensures, word-high (s .args .p) (s .pre .0))
+fit : (c : tie.After-nested-bytes) → c .nested-bytes .result + 8 ≤ 520
+fit c = let s = c .before .before .before in omega (arith, c .nested-bytes .ensures, nested-high (s .args .p) (s .pre .0))
 
 degree-at-requires : tie.Need-degree-at-requires
 degree-at-requires c κs = search needs
@@ -21,8 +21,8 @@ degree-at-requires c κs = search needs
 cast-w : tie.Need-cast-w
 cast-w c = search needs
 
-sub-word-bytes-requires : tie.Need-sub-word-bytes-requires
-sub-word-bytes-requires c κs = search needs
+nested-bytes-requires : tie.Need-nested-bytes-requires
+nested-bytes-requires c κs = search needs
 
 add-k : tie.Need-add-k
 add-k c = omega (arith, fit c)
@@ -63,14 +63,14 @@ array-borrow-prefix-room c =
 slice-aggregate-first-failing-nested : tie.Need-slice-aggregate-first-failing-nested
 slice-aggregate-first-failing-nested c =
     let k = c .before .before .before .before .before .before .before .before .before .before in
-    sym (length-take (k .sub-word-bytes .result + 8) _ ∙ Nat.min-eq-left (fit k))
+    sym (length-take (k .nested-bytes .result + 8) _ ∙ Nat.min-eq-left (fit k))
 
 first-failing-nested-requires : tie.Need-first-failing-nested-requires
 first-failing-nested-requires c κs =
     let t = c .before .before .before .before .before .before in
     let k = t .before .before .before .before in
     let s = k .before .before .before in
-    (s .pre .0, s .pre .1, s .pre .2, t .t .given, length-take (k .sub-word-bytes .result + 8) _ ∙ Nat.min-eq-left (fit k) ∙ ap (λ (j : ℕ). j + 8) (k .sub-word-bytes .ensures))
+    (s .pre .0, s .pre .1, s .pre .2, t .t .given, length-take (k .nested-bytes .result + 8) _ ∙ Nat.min-eq-left (fit k) ∙ ap (λ (j : ℕ). j + 8) (k .nested-bytes .ensures))
 
 cast-if2 : tie.Need-cast-if2
 cast-if2 c = search needs
@@ -99,7 +99,7 @@ verdict-of-spec =
     (tie.spec
     degree-at-requires
     cast-w
-    sub-word-bytes-requires
+    nested-bytes-requires
     add-k
     array-borrow-prefix-table
     slice-aggregate-t

@@ -1,16 +1,19 @@
 use borrow.Author.Needs.{needs}
-use Rattle.layout.specs.Sizes.{q-fits}
+use mathlib.Core.Path.{ap}
+use Prim.Native.Nat.{_/_}
+use Rattle.element.specs.declared.Field.{Field}
+use Rattle.code.specs.Accepted.{accepted}
 use Rattle.layout.proofs.sub_word_bytes.Statement.{statement}
 use Rattle.layout.proofs.sub_word_bytes.Tie as tie
 
-cast-two-to : tie.Need-cast-two-to
-cast-two-to c = search needs
+of-requires : tie.Need-of-requires
+of-requires c κs = accepted _ (c .pre) .known
 
-two-to-requires : tie.Need-two-to-requires
-two-to-requires c κs = q-fits _ (c .before .pre)
+cast-result : tie.Need-cast-result
+cast-result c = search needs
 
 returns : tie.Need-returns
-returns c = search needs
+returns c = ap (λ (f : Field). f .size / 8) (c .before .of .ensures)
 
 pub sub-word-bytes-spec : {M : Type 1} → statement M
-sub-word-bytes-spec = tie.close (tie.spec cast-two-to two-to-requires returns)
+sub-word-bytes-spec = tie.close (tie.spec of-requires cast-result returns)

@@ -1,10 +1,9 @@
 use borrow.Author.Needs.{needs}
 use mathlib.Core.Path.{_≡_, refl}
-use native.Mathlib.Nat as Nat
 use native.Mathlib.Omega.{arith}
 use Prim.Native.Nat.{_+_, _-_, _≤_}
 use lib.ListN.{length, length-set}
-use Rattle.levels.specs.Ready.{Counted, counted-next, counted-all, level-lt}
+use Rattle.levels.specs.Ready.{Counted, counted-start, counted-next, counted-all, level-lt}
 use Rattle.levels.proofs.degrees.Statement.{statement}
 use Rattle.levels.proofs.degrees.Tie as tie
 
@@ -18,7 +17,7 @@ cast-v : tie.Need-cast-v Inv-loop μ-loop
 cast-v c = search needs
 
 loop-holds : tie.Need-loop-holds Inv-loop μ-loop
-loop-holds c = (refl, omega arith, (λ a h. absurd (Nat.not-suc-le-zero h)))
+loop-holds c = (refl, omega arith, counted-start _)
 
 degree-at-requires : tie.Need-degree-at-requires Inv-loop μ-loop
 degree-at-requires c κs = let s = c .before .before .before in (s .pre .0, s .pre .1, c .loop-test .taken)
@@ -43,7 +42,7 @@ loop-again c =
     (simp length-set (l .loop .inv .0), omega arith, counted-next (s .args .p) (l .loop .a) (c .degree-at .result) (l .loop .w) (omega (arith, l .loop .inv .0, h)) (l .loop .inv .2) (c .degree-at .ensures))
 
 returns : tie.Need-returns Inv-loop μ-loop
-returns c = let l = c .before in let s = l .before .before in counted-all (s .args .p) (l .loop .a) (l .loop .w) (l .loop .inv .0) (c .loop-test .left) (l .loop .inv .2)
+returns c = let l = c .before in let s = l .before .before in counted-all (s .args .p) (l .loop .a) (l .loop .w) (l .loop .inv .0) (omega (arith, l .loop .inv .1, c .loop-test .left)) (l .loop .inv .2)
 
 pub degrees-spec : {M : Type 1} → statement M
 degrees-spec =

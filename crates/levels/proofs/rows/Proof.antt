@@ -1,7 +1,11 @@
 use borrow.Author.Needs.{needs}
-use Rattle.levels.specs.Levels.{factors-of, q-last}
+use Rattle.code.specs.Accepted.{accepted}
+use Rattle.levels.specs.Levels.{factors-of, last-field}
 use Rattle.levels.proofs.rows.Statement.{statement}
 use Rattle.levels.proofs.rows.Tie as tie
+
+of-requires : tie.Need-of-requires
+of-requires c κs = accepted _ (c .pre) .known
 
 factors4-requires : tie.Need-factors4-requires
 factors4-requires c κs = search needs
@@ -12,7 +16,8 @@ slice-aggregate-rows-by c = search needs
 rows-by-requires : tie.Need-rows-by-requires
 rows-by-requires c κs =
     let b = c .before .before in
-    (b .before .before .pre, factors-of _ _ 4 (b .if1 .taken) (c .before .factors4 .ensures))
+    let o = b .before .before in
+    (o .before .pre, factors-of _ _ 4 _ (o .of .ensures) (b .if1 .taken) (c .before .factors4 .ensures))
 
 returns : tie.Need-returns
 returns c = search needs
@@ -26,7 +31,8 @@ slice-aggregate-rows-by-2 c = search needs
 rows-by-requires-2 : tie.Need-rows-by-requires-2
 rows-by-requires-2 c κs =
     let b = c .before .before in
-    (b .before .before .before .before .pre, factors-of _ _ 8 (b .if2 .taken) (c .before .factors8 .ensures))
+    let o = b .before .before .before .before in
+    (o .before .pre, factors-of _ _ 8 _ (o .of .ensures) (b .if2 .taken) (c .before .factors8 .ensures))
 
 returns-2 : tie.Need-returns-2
 returns-2 c = search needs
@@ -40,8 +46,8 @@ slice-aggregate-rows-by-3 c = search needs
 rows-by-requires-3 : tie.Need-rows-by-requires-3
 rows-by-requires-3 c κs =
     let b = c .before .before in
-    let s = b .before .before .before .before in
-    (s .pre, factors-of _ _ 12 (q-last _ (s .pre) (b .before .before .if1 .left) (b .if2 .left)) (c .before .factors12 .ensures))
+    let o = b .before .before .before .before in
+    (o .before .pre, factors-of _ _ 12 _ (o .of .ensures) (last-field _ _ (o .of .ensures) (accepted _ (o .before .pre) .known) (b .before .before .if1 .left) (b .if2 .left)) (c .before .factors12 .ensures))
 
 returns-3 : tie.Need-returns-3
 returns-3 c = search needs
@@ -50,6 +56,7 @@ pub rows-spec : {M : Type 1} → statement M
 rows-spec =
     tie.close
     (tie.spec
+    of-requires
     factors4-requires
     slice-aggregate-rows-by
     rows-by-requires

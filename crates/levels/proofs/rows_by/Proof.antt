@@ -1,7 +1,8 @@
 use mathlib.Core.Path.{refl}
 use native.Mathlib.Omega.{arith}
 use borrow.Author.Needs.{needs}
-use Rattle.levels.specs.Levels.{v-pos, strength-rises, strength-high, strength-within, level-first, level-next, row-level, row-past, rows-are}
+use Rattle.code.specs.Accepted.{accepted}
+use Rattle.levels.specs.Levels.{v-pos, strength-high, strength-within, level-first, level-next, row-level, row-past, rows-are}
 use Rattle.levels.proofs.rows_by.Statement.{statement}
 use Rattle.levels.proofs.rows_by.Tie as tie
 
@@ -19,7 +20,7 @@ raised-requires c κs =
     let s = c .before .before .before in
     let A = s .pre .0 in
     let v = v-pos _ A in
-    let u = strength-rises _ A 0 v in
+    let u = accepted _ A .rises 0 v in
     (refl, omega arith, omega (arith, strength-high _ A 1 v), omega (arith, strength-within _ A _ (s .pre .1) 1 v))
 
 array-set-from-out : tie.Need-array-set-from-out
@@ -30,7 +31,7 @@ raised-requires-2 c κs =
     let s = c .before .before .before .before in
     let A = s .pre .0 in
     let v = v-pos _ A in
-    (c .raised .ensures .0, strength-rises _ A 0 v, strength-high _ A 1 v, strength-within _ A _ (s .pre .1) 1 v)
+    (c .raised .ensures .0, accepted _ A .rises 0 v, strength-high _ A 1 v, strength-within _ A _ (s .pre .1) 1 v)
 
 array-set-from-out-2 : tie.Need-array-set-from-out-2
 array-set-from-out-2 c = search needs
@@ -52,7 +53,7 @@ raised-requires-3 c κs =
     let r = c .before .before .before in
     let s = r .before .before .before .before .before in
     let v = c .before .if1 .left in
-    (r .raised2 .ensures .0, strength-rises _ (s .pre .0) 1 v, strength-high _ (s .pre .0) 2 v, strength-within _ (s .pre .0) _ (s .pre .1) 2 v)
+    (r .raised2 .ensures .0, accepted _ (s .pre .0) .rises 1 v, strength-high _ (s .pre .0) 2 v, strength-within _ (s .pre .0) _ (s .pre .1) 2 v)
 
 array-set-from-out-3 : tie.Need-array-set-from-out-3
 array-set-from-out-3 c = search needs
@@ -76,7 +77,7 @@ raised-requires-4 c κs =
     let z = c .before .before .before in
     let s = z .before .before .before .before .before .before .before .before .before in
     let v = c .before .if2 .left in
-    (z .raised3 .ensures .0, strength-rises _ (s .pre .0) 2 v, strength-high _ (s .pre .0) 3 v, strength-within _ (s .pre .0) _ (s .pre .1) 3 v)
+    (z .raised3 .ensures .0, accepted _ (s .pre .0) .rises 2 v, strength-high _ (s .pre .0) 3 v, strength-within _ (s .pre .0) _ (s .pre .1) 3 v)
 
 array-set-from-out-4 : tie.Need-array-set-from-out-4
 array-set-from-out-4 c = search needs

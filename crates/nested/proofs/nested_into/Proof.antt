@@ -7,7 +7,7 @@ use lib.ListN.{length}
 use Rattle.polynomial.specs.Digits.{value}
 use Rattle.code.specs.Accepted.{accepted}
 use Rattle.code.specs.Parameters.{nestedBytes}
-use Rattle.layout.specs.Sizes.{word-high}
+use Rattle.layout.specs.Sizes.{nested-high}
 use Rattle.nested.specs.Turned.{Turned, place-high, turned-first, turned-turn, turned-fold, turned-done}
 use Rattle.nested.proofs.nested_into.Statement.{statement}
 use Rattle.nested.proofs.nested_into.Tie as tie
@@ -18,8 +18,8 @@ Inv-loop acc₀ p page l n i₀ acc i = (length acc ≡ nestedBytes p + 8) × Tu
 abbrev μ-loop : tie.MeasureT-loop
 μ-loop acc₀ p page l n i₀ acc i = p .m - i
 
-stored-of-requires : tie.Need-stored-of-requires Inv-loop μ-loop
-stored-of-requires c κs = search needs
+length-of-requires : tie.Need-length-of-requires Inv-loop μ-loop
+length-of-requires c κs = search needs
 
 sub-word-requires : tie.Need-sub-word-requires Inv-loop μ-loop
 sub-word-requires c κs =
@@ -29,7 +29,7 @@ sub-word-requires c κs =
 copy-up-requires : tie.Need-copy-up-requires Inv-loop μ-loop
 copy-up-requires c κs =
     let s = c .before .before .before .before .before in
-    omega (arith, s .pre .3, word-high _ (s .pre .0))
+    omega (arith, s .pre .3, nested-high _ (s .pre .0))
 
 loop-holds : tie.Need-loop-holds Inv-loop μ-loop
 loop-holds c =
@@ -54,7 +54,7 @@ add-up-requires : tie.Need-add-up-requires Inv-loop μ-loop
 add-up-requires c κs =
     let l = c .before .before .before .before in
     let s = l .before .before .before .before .before .before .before .before .before in
-    omega (arith, l .loop .inv .0, word-high _ (s .pre .0))
+    omega (arith, l .loop .inv .0, nested-high _ (s .pre .0))
 
 add-i : tie.Need-add-i Inv-loop μ-loop
 add-i c = search needs
@@ -76,7 +76,7 @@ fold-cyclic-requires c κs =
     let l = c .before .before .before in
     let o = l .before .before .before .before .before .before in
     let s = o .before .before .before in
-    turned-fold _ (s .pre .0) _ _ (l .loop .acc) _ (l .loop .i) (o .stored-of .ensures) (l .loop .inv .0) (l .loop .inv .1)
+    turned-fold _ (s .pre .0) _ _ (l .loop .acc) _ (l .loop .i) (o .length-of .ensures) (l .loop .inv .0) (l .loop .inv .1)
 
 same-length : tie.Need-same-length Inv-loop μ-loop
 same-length c =
@@ -91,7 +91,7 @@ returns c =
     let l = k .before .before .before .before in
     let o = l .before .before .before .before .before .before in
     let s = o .before .before .before in
-    turned-done _ (s .pre .0) _ _ _ _ _ (l .loop .i) (o .stored-of .ensures) (k .before .before .if1 .left) (k .fold-cyclic .ensures) (l .loop .inv .1)
+    turned-done _ (s .pre .0) _ _ _ _ _ (l .loop .i) (o .length-of .ensures) (k .before .before .if1 .left) (k .fold-cyclic .ensures) (l .loop .inv .1)
 
 pub nested-into-spec : {M : Type 1} → statement M
 nested-into-spec =
@@ -99,7 +99,7 @@ nested-into-spec =
     (tie.spec
     Inv-loop
     μ-loop
-    stored-of-requires
+    length-of-requires
     sub-word-requires
     copy-up-requires
     loop-holds

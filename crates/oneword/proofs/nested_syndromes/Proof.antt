@@ -1,13 +1,14 @@
 use borrow.Author.Needs.{needs}
 use mathlib.Core.Path.{_≡_, sym, ap, _∙_}
-use Prim.Native.Nat.{_*_, _-_}
+use Prim.Native.Nat.{ℕ, _*_, _-_, _≤_}
 use native.Mathlib.Nat as Nat
 use native.Mathlib.Omega.{arith}
 use lib.ListN.{length}
 use Rattle.code.specs.Parameters.{strength}
 use Rattle.code.specs.Refusals.{nestedSyndromesRefusal}
-use Rattle.layout.specs.Sizes.{level-low}
+use Rattle.levels.specs.Ready.{degree-most}
 use Rattle.oneword.specs.Chain.{Unrefused, word-alike, word-zero, word-refused, word-done}
+use Rattle.oneword.specs.Level.{level-lt, level-made, many-few}
 use Rattle.oneword.specs.WordBytes.{nested-syndromes-made}
 use Rattle.oneword.proofs.nested_syndromes.Statement.{statement}
 use Rattle.oneword.proofs.nested_syndromes.Tie as tie
@@ -49,20 +50,48 @@ free c = let w = c .before in word-zero _ _ _ _ _ _ (λ k. w .before .before .be
 nested-of-requires : tie.Need-nested-of-requires
 nested-of-requires c κs = let u = free c in (u .accepted, u .page, u .index)
 
-slice-aggregate-syndromes-into : tie.Need-slice-aggregate-syndromes-into
-slice-aggregate-syndromes-into c = search needs
+-- the level, and the list's length by it
+module _ (c : tie.Else1) where
+  abbrev a : tie.Start
+  a = c .before .before .before .before .before .before .before
 
-syndromes-into-requires : tie.Need-syndromes-into-requires
-syndromes-into-requires c κs =
+  abbrev level : ℕ
+  level = c .before .before .before .before .level-of .result
+
+  level-is : level ≡ a .args .p .v - a .args .l
+  level-is = c .before .before .before .before .level-of .ensures
+
+  low : level ≤ a .args .p .v
+  low = omega (arith, level-is)
+
+  many : length (a .args .list .now) ≡ 2 * strength (a .args .p) level
+  many = free c .list ∙ Nat.one-mul _ ∙ ap (λ (b : ℕ). 2 * strength (a .args .p) b) (sym level-is)
+
+slice-aggregate-level-remainder : tie.Need-slice-aggregate-level-remainder
+slice-aggregate-level-remainder c = search needs
+
+slice-aggregate-level-remainder-2 : tie.Need-slice-aggregate-level-remainder-2
+slice-aggregate-level-remainder-2 c = search needs
+
+level-remainder-requires : tie.Need-level-remainder-requires
+level-remainder-requires c κs =
     let s = c .before .before in
     let i = s .before in
-    let u = free i in
-    let e = i .before .before .before .before .level-of .ensures in
-    let a = i .before .before .before .before .before .before .before .args in (
-      u .accepted,
-      rw e (level-low (a .p) (a .l)),
-      rw e (u .list ∙ Nat.one-mul _),
-      rw (s .nested-of .ensures .is) (s .nested-of .ensures .below),
+    (free i .accepted, low i, search needs, rw (s .nested-of .ensures .is) (s .nested-of .ensures .below))
+
+slice-aggregate-syndromes-from : tie.Need-slice-aggregate-syndromes-from
+slice-aggregate-syndromes-from c = search needs
+
+syndromes-from-requires : tie.Need-syndromes-from-requires
+syndromes-from-requires c κs =
+    let k = c .before .before .before in
+    let i = k .before .before .before .before in
+    let A = free i .accepted in
+    let w = k .level-remainder .ensures .0 in (
+      A,
+      omega (arith, w, degree-most _ A (level i) (low i)),
+      level-lt _ A (level i) (low i) _ _ _ w (k .level-remainder .ensures .1),
+      many-few _ A (level i) (low i) _ (many i),
     )
 
 same-length : tie.Need-same-length
@@ -71,10 +100,12 @@ same-length c = search needs
 returns-2 : tie.Need-returns-2
 returns-2 c =
     let r = c .before .before in
-    let s = r .before .before .before in
+    let k = r .before .before .before .before in
+    let s = k .before .before .before in
     let i = s .before in
-    let e = i .before .before .before .before .level-of .ensures in
-    word-done _ _ _ _ _ _ _ _ _ _ (chain (i .before)) (i .if1 .left) (nested-syndromes-made _ _ _ _ (s .nested-of .ensures) _ _ e (r .syndromes-into .ensures))
+    word-done _ _ _ _ _ _ _ _ _ _ (chain (i .before)) (i .if1 .left)
+    (nested-syndromes-made _ _ _ _ (s .nested-of .ensures) (level i) _ (level-is i)
+    (level-made _ (free i .accepted) (level i) (low i) _ _ _ _ (k .level-remainder .ensures .1) (many i) (r .syndromes-from .ensures)))
 
 pub nested-syndromes-spec : {M : Type 1} → statement M
 nested-syndromes-spec =
@@ -89,7 +120,10 @@ nested-syndromes-spec =
     word-refusal-requires
     returns
     nested-of-requires
-    slice-aggregate-syndromes-into
-    syndromes-into-requires
+    slice-aggregate-level-remainder
+    slice-aggregate-level-remainder-2
+    level-remainder-requires
+    slice-aggregate-syndromes-from
+    syndromes-from-requires
     same-length
     returns-2)

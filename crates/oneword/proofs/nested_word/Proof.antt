@@ -1,10 +1,10 @@
 use borrow.Author.Needs.{needs}
-use mathlib.Core.Path.{_≡_, sym, ap, _∙_}
+use mathlib.Core.Path.{_≡_, sym, _∙_}
 use native.Mathlib.Omega.{arith}
 use lib.ListN.{length}
 use Rattle.code.specs.Parameters.{nestedBytes}
 use Rattle.code.specs.Refusals.{nestedRefusal}
-use Rattle.layout.specs.Sizes.{word-high}
+use Rattle.layout.specs.Sizes.{nested-high}
 use Rattle.oneword.specs.Chain.{Unrefused, word-alike, word-zero, word-refused, word-done}
 use Rattle.oneword.specs.WordBytes.{bytes-exact, nested-made}
 use Rattle.oneword.proofs.nested_word.Statement.{statement}
@@ -36,7 +36,7 @@ slice-aggregate-copy-down : tie.Need-slice-aggregate-copy-down
 slice-aggregate-copy-down c = search needs
 
 copy-down-requires : tie.Need-copy-down-requires
-copy-down-requires c κs = let u = free (c .before .before .before) in (search needs, omega (arith, u .list, word-high _ (u .accepted)))
+copy-down-requires c κs = let u = free (c .before .before .before) in (search needs, omega (arith, u .list, nested-high _ (u .accepted)))
 
 same-length : tie.Need-same-length
 same-length c = search needs

@@ -7,7 +7,9 @@ use lib.ListN.{length}
 use Rattle.code.specs.Calls.{subWordOf}
 use Rattle.code.specs.Parameters.{strength}
 use Rattle.code.specs.Refusals.{syndromesRefusal}
+use Rattle.levels.specs.Ready.{degree-most}
 use Rattle.oneword.specs.Chain.{Unrefused, word-alike, word-zero, word-refused, word-done}
+use Rattle.oneword.specs.Level.{level-lt, level-made, many-few}
 use Rattle.oneword.specs.WordBytes.{WordIs, sub-word-is, syndromes-made}
 use Rattle.oneword.proofs.syndromes.Statement.{statement}
 use Rattle.oneword.proofs.syndromes.Tie as tie
@@ -43,8 +45,25 @@ sub-word-requires c κs = let u = free c in (u .accepted, u .page .exact, u .ind
 word : (c : tie.After-sub-word) → let a = c .before .before .before .before .before .before .before .args in WordIs (a .p) (subWordOf (a .p) (a .page .now) (a .i)) (c .sub-word .result .now)
 word c = let u = free (c .before) in sub-word-is _ (u .accepted) _ (u .page) _ (u .index) _ (c .sub-word .ensures)
 
-syndromes-into-requires : tie.Need-syndromes-into-requires
-syndromes-into-requires c κs = let s = c .before in let u = free (s .before) in (u .accepted, zero-le, u .list ∙ Nat.one-mul _, rw (word s .is) (word s .below))
+slice-aggregate-level-remainder : tie.Need-slice-aggregate-level-remainder
+slice-aggregate-level-remainder c = search needs
+
+level-remainder-requires : tie.Need-level-remainder-requires
+level-remainder-requires c κs = let s = c .before in let u = free (s .before) in (u .accepted, zero-le, search needs, rw (word s .is) (word s .below))
+
+slice-aggregate-syndromes-from : tie.Need-slice-aggregate-syndromes-from
+slice-aggregate-syndromes-from c = search needs
+
+syndromes-from-requires : tie.Need-syndromes-from-requires
+syndromes-from-requires c κs =
+    let k = c .before .before .before in
+    let u = free (k .before .before .before) in
+    let w = k .level-remainder .ensures .0 in (
+      u .accepted,
+      omega (arith, w, degree-most _ (u .accepted) 0 zero-le),
+      level-lt _ (u .accepted) 0 zero-le _ _ _ w (k .level-remainder .ensures .1),
+      many-few _ (u .accepted) 0 zero-le _ (u .list ∙ Nat.one-mul _),
+    )
 
 same-length : tie.Need-same-length
 same-length c = search needs
@@ -52,9 +71,12 @@ same-length c = search needs
 returns-2 : tie.Need-returns-2
 returns-2 c =
     let r = c .before .before in
-    let s = r .before .before in
+    let k = r .before .before .before .before in
+    let s = k .before .before in
     let i = s .before in
-    word-done _ _ _ _ _ _ _ _ _ _ (chain (i .before)) (i .if1 .left) (syndromes-made _ _ _ _ (word s) _ (r .syndromes-into .ensures))
+    let u = free i in
+    word-done _ _ _ _ _ _ _ _ _ _ (chain (i .before)) (i .if1 .left)
+    (syndromes-made _ _ _ _ (word s) _ (level-made _ (u .accepted) 0 zero-le _ _ _ _ (k .level-remainder .ensures .1) (u .list ∙ Nat.one-mul _) (r .syndromes-from .ensures)))
 
 pub syndromes-spec : {M : Type 1} → statement M
 syndromes-spec =
@@ -67,6 +89,9 @@ syndromes-spec =
     word-refusal-requires
     returns
     sub-word-requires
-    syndromes-into-requires
+    slice-aggregate-level-remainder
+    level-remainder-requires
+    slice-aggregate-syndromes-from
+    syndromes-from-requires
     same-length
     returns-2)

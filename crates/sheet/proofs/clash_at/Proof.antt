@@ -34,8 +34,11 @@ returns-2 c =
     let s = c .before .before .loop in
     search-found (hits (a .n) (a .d)) (a .last) (s .j) (s .inv .0) (c .before .loop-test .taken) (eq-eqb _ _ (sym (s .inv .1) ∙ c .if2 .taken))
 
-sum-modulo-requires : tie.Need-sum-modulo-requires Inv-loop μ-loop
-sum-modulo-requires c κs = search needs
+add-modulo : tie.Need-add-modulo Inv-loop μ-loop
+add-modulo c = search needs
+
+modulo-requires : tie.Need-modulo-requires Inv-loop μ-loop
+modulo-requires c κs = search needs
 
 add-j : tie.Need-add-j Inv-loop μ-loop
 add-j c = search needs
@@ -48,8 +51,8 @@ loop-again c =
     let a = c .before .before .before .before .before .args in
     let s = c .before .before .before .loop in (
       search-next (hits (a .n) (a .d)) (a .last) (s .j) (s .inv .0) (c .before .before .loop-test .taken) (ne-eqb _ _ (λ e. c .before .if2 .left (s .inv .1 ∙ e))),
-      next-multiple (a .d) (a .n) (s .j) (s .x) (c .sum-modulo .result) (s .inv .1) (c .sum-modulo .ensures .0),
-      c .sum-modulo .ensures .1,
+      next-multiple (a .d) (a .n) (s .j) (s .x) (c .modulo .result) (s .inv .1) (c .modulo .ensures .0),
+      c .modulo .ensures .1,
     )
 
 returns-3 : tie.Need-returns-3 Inv-loop μ-loop
@@ -58,4 +61,4 @@ returns-3 c = let a = c .before .before .before .args in let s = c .before .loop
 pub clash-at-spec : {M : Type 1} → statement M
 clash-at-spec =
     tie.close
-    (tie.spec Inv-loop μ-loop mul-if1 returns loop-holds returns-2 sum-modulo-requires add-j loop-less loop-again returns-3)
+    (tie.spec Inv-loop μ-loop mul-if1 returns loop-holds returns-2 add-modulo modulo-requires add-j loop-less loop-again returns-3)

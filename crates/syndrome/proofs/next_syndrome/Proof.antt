@@ -3,7 +3,7 @@ use mathlib.Core.Path.{_∙_}
 use native.Mathlib.Omega.{arith}
 use Prim.Native.Nat.{_/_}
 use Rattle.polynomial.specs.Digits.{value}
-use Rattle.element.specs.Lent.{size-most}
+use Rattle.element.specs.Fields.{size-most}
 use Rattle.syndrome.specs.Filled.{even-is, begun-lt}
 use Rattle.syndrome.proofs.next_syndrome.Statement.{statement}
 use Rattle.syndrome.proofs.next_syndrome.Tie as tie
@@ -12,7 +12,7 @@ add-syndrome-at : tie.Need-add-syndrome-at
 add-syndrome-at c = search needs
 
 cast-syndrome-at : tie.Need-cast-syndrome-at
-cast-syndrome-at c = let s = c .before .before .before .before .before in omega (arith, s .pre .3, size-most (s .args .q) (s .pre .0 .field))
+cast-syndrome-at c = let s = c .before .before .before .before .before in omega (arith, s .pre .3, size-most (s .args .f .q) (s .pre .0 .field .known))
 
 syndrome-at-requires : tie.Need-syndrome-at-requires
 syndrome-at-requires c κs = let s = c .before .before .before .before .before in (s .pre .0, s .pre .1, s .pre .2, s .pre .3)
@@ -33,14 +33,14 @@ times-by-requires : tie.Need-times-by-requires
 times-by-requires c κs =
     let s = c .before .before .before .before .before .before in
     let a = s .args in
-    let l = begun-lt (a .q) (s .pre .0 .field) (value 64 (a .r .now)) (a .i) (a .i / 2) (a .list .now) (s .pre .5) (omega (arith, c .before .if1 .left)) in
+    let l = begun-lt (a .f .q) (s .pre .0 .field .known) (value 64 (a .r .now)) (a .i) (a .i / 2) (a .list .now) (s .pre .5) (omega (arith, c .before .if1 .left)) in
     (s .pre .0, l, l)
 
 returns-2 : tie.Need-returns-2
 returns-2 c =
     let s = c .before .before .before .before .before .before .before in
     let a = s .args in
-    c .times-by .ensures ∙ even-is (a .q) (s .pre .0 .field) (value 64 (a .r .now)) (a .i) (a .list .now) (s .pre .5) (c .before .before .if1 .left)
+    c .times-by .ensures ∙ even-is (a .f .q) (s .pre .0 .field .known) (value 64 (a .r .now)) (a .i) (a .list .now) (s .pre .5) (c .before .before .if1 .left)
 
 pub next-syndrome-spec : {M : Type 1} → statement M
 next-syndrome-spec =

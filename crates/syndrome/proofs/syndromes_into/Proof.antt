@@ -13,10 +13,10 @@ use Rattle.syndrome.proofs.syndromes_into.Statement.{statement}
 use Rattle.syndrome.proofs.syndromes_into.Tie as tie
 
 abbrev Inv-loop : tie.InvT-loop
-Inv-loop list₀ powers logs q r w i₀ list i = (length list ≡ length list₀) × (i ≤ length list) × Begun q (value 64 r) i list
+Inv-loop list₀ powers logs f r w i₀ list i = (length list ≡ length list₀) × (i ≤ length list) × Begun (f .q) (value 64 r) i list
 
 abbrev μ-loop : tie.MeasureT-loop
-μ-loop list₀ powers logs q r w i₀ list i = length list - i
+μ-loop list₀ powers logs f r w i₀ list i = length list - i
 
 loop-holds : tie.Need-loop-holds Inv-loop μ-loop
 loop-holds c = (search needs, omega arith, (λ i h. absurd (Nat.not-suc-le-zero h)))
@@ -31,7 +31,7 @@ cast-list : tie.Need-cast-list Inv-loop μ-loop
 cast-list c =
     let l = c .before .before .before in
     let s = l .before .before .before .before .before in
-    omega (arith, c .next-syndrome .ensures, syndrome-small (s .args .q) (s .pre .0 .field) (value 64 (s .args .r .now)) (l .loop .i + 1))
+    omega (arith, c .next-syndrome .ensures, syndrome-small (s .args .f .q) (s .pre .0 .field .known) (value 64 (s .args .r .now)) (l .loop .i + 1))
 
 mul-list : tie.Need-mul-list Inv-loop μ-loop
 mul-list c = search needs
@@ -51,7 +51,7 @@ loop-again c =
     let s = l .before .before .before .before .before in (
       simp length-set (l .loop .inv .0),
       simp length-set (omega arith),
-      begun-next (s .args .q) (value 64 (s .args .r .now)) (l .loop .i) (c .next-syndrome .result) (l .loop .list) (c .before .before .loop-test .taken) (l .loop .inv .2) (c .next-syndrome .ensures),
+      begun-next (s .args .f .q) (value 64 (s .args .r .now)) (l .loop .i) (c .next-syndrome .result) (l .loop .list) (c .before .before .loop-test .taken) (l .loop .inv .2) (c .next-syndrome .ensures),
     )
 
 same-length : tie.Need-same-length Inv-loop μ-loop
@@ -61,8 +61,8 @@ returns : tie.Need-returns Inv-loop μ-loop
 returns c =
     let l = c .before in
     let s = l .before .before .before .before .before in
-    begun-all (s .args .q) (value 64 (s .args .r .now)) (l .loop .list) (λ i h. l .loop .inv .2 i (omega (arith, c .loop-test .left)))
-    ∙ ap (λ (k : ℕ). map (λ j. syndrome (s .args .q) (value 64 (s .args .r .now)) j) (range 1 k)) (l .loop .inv .0)
+    begun-all (s .args .f .q) (value 64 (s .args .r .now)) (l .loop .list) (λ i h. l .loop .inv .2 i (omega (arith, c .loop-test .left)))
+    ∙ ap (λ (k : ℕ). map (λ j. syndrome (s .args .f .q) (value 64 (s .args .r .now)) j) (range 1 k)) (l .loop .inv .0)
 
 pub syndromes-into-spec : {M : Type 1} → statement M
 syndromes-into-spec =

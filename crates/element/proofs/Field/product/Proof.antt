@@ -2,7 +2,7 @@ use mathlib.Core.Path.{_≡_, sym, _∙_}
 use native.Mathlib.Omega.{arith}
 use borrow.Author.Needs.{needs}
 use Rattle.element.specs.Exponents.{times-lt}
-use Rattle.element.specs.Lent.{Tables, tables-of, size-most}
+use Rattle.element.specs.Fields.{size-most}
 use Rattle.element.specs.Operations.{Clear, clear, refusal, gives-refused, gives-element}
 use Rattle.element.proofs.Field.product.Statement.{statement}
 use Rattle.element.proofs.Field.product.Tie as tie
@@ -13,49 +13,34 @@ refused-requires c κs = search needs
 returns : tie.Need-returns
 returns c = gives-refused _ _ _ (c .before .refused .ensures) (c .if1 .taken)
 
-powers-requires : tie.Need-powers-requires
-powers-requires c κs = search needs
-
-logs-requires : tie.Need-logs-requires
-logs-requires c κs = search needs
-
-slice-aggregate-times-by : tie.Need-slice-aggregate-times-by
-slice-aggregate-times-by c = search needs
-
-slice-aggregate-times-by-2 : tie.Need-slice-aggregate-times-by-2
-slice-aggregate-times-by-2 c = search needs
-
 -- where nothing is refused
-module _ (c : tie.After-logs) where
+module _ (c : tie.Else1) where
   abbrev s : tie.Start
-  s = c .before .before .before .before
+  s = c .before .before
 
   none : refusal (s .args .self) (s .args .a .0) (s .args .b .0) ≡ 0
-  none = sym (c .before .before .before .refused .ensures) ∙ c .before .before .if1 .left
+  none = sym (c .before .refused .ensures) ∙ c .if1 .left
 
   ok : Clear (s .args .self) (s .args .a .0) (s .args .b .0)
   ok = clear (s .args .self) (s .args .a .0) (s .args .b .0) none
 
-  tables : Tables (s .args .self .q) (c .before .powers .result) (c .logs .result)
-  tables = tables-of (s .args .self .q) (c .before .powers .result) (c .logs .result) (ok .known) (c .before .powers .ensures) (c .logs .ensures)
+cast-times-in : tie.Need-cast-times-in
+cast-times-in c = search needs
 
-cast-times-by : tie.Need-cast-times-by
-cast-times-by c = search needs
+cast-times-in-2 : tie.Need-cast-times-in-2
+cast-times-in-2 c = search needs
 
-cast-times-by-2 : tie.Need-cast-times-by-2
-cast-times-by-2 c = search needs
+times-in-requires : tie.Need-times-in-requires
+times-in-requires c κs = let d = c .before .before in (ok d .sized, ok d .left, ok d .right)
 
-times-by-requires : tie.Need-times-by-requires
-times-by-requires c κs = let d = c .before .before .before .before in (tables d, ok d .left, ok d .right)
-
-cast-t16 : tie.Need-cast-t16
-cast-t16 c =
-    let d = c .before .before .before .before .before in
+cast-t9 : tie.Need-cast-t9
+cast-t9 c =
+    let d = c .before .before .before in
     let a = s d .args in
-    omega (arith, c .times-by .ensures, times-lt (a .self .q) (ok d .known) (a .a .0) (a .b .0), size-most (a .self .q) (ok d .known))
+    omega (arith, c .times-in .ensures, times-lt (a .self .q) (ok d .sized .known) (a .a .0) (a .b .0), size-most (a .self .q) (ok d .sized .known))
 
 returns-2 : tie.Need-returns-2
-returns-2 c = gives-element _ _ _ (none (c .before .before .before .before .before)) (c .times-by .ensures)
+returns-2 c = gives-element _ _ _ (none (c .before .before .before)) (c .times-in .ensures)
 
 pub product-spec : {M : Type 1} → statement M
 product-spec =
@@ -63,12 +48,8 @@ product-spec =
     (tie.spec
     refused-requires
     returns
-    powers-requires
-    logs-requires
-    slice-aggregate-times-by
-    slice-aggregate-times-by-2
-    cast-times-by
-    cast-times-by-2
-    times-by-requires
-    cast-t16
+    cast-times-in
+    cast-times-in-2
+    times-in-requires
+    cast-t9
     returns-2)

@@ -5,7 +5,8 @@ use lib.Dec.{ltb}
 use borrow.Author.Needs.{needs}
 use borrow.Author.Tests.{lt-ltb, le-ltb}
 use Rattle.element.specs.declared.Field.{Field}
-use Rattle.element.specs.Operations.{isField, refusal-by, field-sized}
+use Rattle.element.specs.Fields.{isField, field-sized}
+use Rattle.element.specs.Operations.{refusal-by}
 use Rattle.element.proofs.Field.refused.Statement.{statement}
 use Rattle.element.proofs.Field.refused.Tie as tie
 

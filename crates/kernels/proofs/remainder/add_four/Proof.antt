@@ -3,7 +3,6 @@ use borrow.Author.Needs.{needs}
 use Prim.Native.Nat.{_+_, _*_, _/_, _%_}
 use native.Mathlib.Omega.{arith}
 use mathlib.Core.Path.{ap, _∙_}
-use Rattle.polynomial.specs.Digits.{value}
 use Rattle.polynomial.specs.Xor.{xor}
 use Rattle.kernels.specs.Table.{four-at, row-clear}
 use Rattle.kernels.proofs.remainder.add_four.Statement.{statement}

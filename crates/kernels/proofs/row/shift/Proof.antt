@@ -1,10 +1,9 @@
 -- The loop: i words are moved up, and c is carried on.
 use mathlib.Core.Path.{_≡_, _∙_}
-use Prim.Native.Nat.{_-_, _^_, _≤_}
+use Prim.Native.Nat.{_-_, _≤_}
 use native.Mathlib.Omega.{arith}
 use lib.ListN.{length, getD, length-set}
 use borrow.Author.Needs.{needs}
-use Rattle.polynomial.specs.Digits.{value}
 use Rattle.kernels.specs.Move.{Shifted, shift-done, shift-start, shift-turn}
 use Rattle.kernels.specs.Word.{word-up-lt}
 use Rattle.kernels.proofs.row.shift.Statement.{statement}

@@ -1,7 +1,7 @@
 use borrow.Author.Needs.{needs}
 use mathlib.Core.Path.{sym}
 use native.Mathlib.Omega.{arith}
-use Rattle.layout.specs.Sizes.{stored-high}
+use Rattle.layout.specs.Sizes.{length-high}
 use Rattle.levels.specs.Ready.{row-at, level-lt}
 use Rattle.oneword.specs.Level.{row-deg, row-most}
 use Rattle.oneword.specs.Row.{row-as}
@@ -23,8 +23,8 @@ mul-g c = search needs
 array-copy-out-g : tie.Need-array-copy-out-g
 array-copy-out-g c = let s = c .before .before .before .before in level-lt (s .args .p) (s .pre .0) (s .args .a) (s .pre .1)
 
-stored-of-requires : tie.Need-stored-of-requires
-stored-of-requires c κs = search needs
+length-of-requires : tie.Need-length-of-requires
+length-of-requires c κs = search needs
 
 slice-aggregate-remainder-by : tie.Need-slice-aggregate-remainder-by
 slice-aggregate-remainder-by c =
@@ -41,7 +41,7 @@ remainder-by-requires c κs =
       s .pre .2,
       row-deg _ (s .pre .0) _ (s .pre .1) _ r _ (d .degree-at .ensures),
       row-most _ (s .pre .0) _ (s .pre .1) _ r _ (d .degree-at .ensures),
-      omega (arith, c .before .before .stored-of .ensures, stored-high _ (s .pre .0)),
+      omega (arith, c .before .before .length-of .ensures, length-high _ (s .pre .0)),
     )
 
 same-length : tie.Need-same-length
@@ -55,7 +55,7 @@ returns c =
     let s = d .before .before .before .before in
     let r = row-at (s .args .p) (s .pre .0) _ (s .args .a) (d .before .rows .ensures) (s .pre .1) in (
       d .degree-at .ensures,
-      row-as _ _ _ _ _ _ _ _ (r .is) (d .degree-at .ensures) (n .stored-of .ensures) (s .pre .3) (b .remainder-by .ensures),
+      row-as _ _ _ _ _ _ _ _ (r .is) (d .degree-at .ensures) (n .length-of .ensures) (s .pre .3) (b .remainder-by .ensures),
     )
 
 pub level-remainder-spec : {M : Type 1} → statement M
@@ -67,7 +67,7 @@ level-remainder-spec =
     cast-w
     mul-g
     array-copy-out-g
-    stored-of-requires
+    length-of-requires
     slice-aggregate-remainder-by
     remainder-by-requires
     same-length

@@ -4,7 +4,7 @@ use native.Mathlib.Omega.{arith}
 use Rattle.polynomial.specs.Digits.{digits, value}
 use Rattle.polynomial.specs.Division.{deg, rem}
 use Rattle.code.specs.Code.{divisor}
-use Rattle.layout.specs.Sizes.{stored-high}
+use Rattle.layout.specs.Sizes.{length-high}
 use Rattle.oneword.specs.Row.{row-as}
 use Rattle.oneword.specs.Short.{short-deg, short-most, short-room}
 use Rattle.oneword.proofs.work.short_into.Statement.{statement}
@@ -16,8 +16,8 @@ slice-aggregate-divisor-row c = search needs
 divisor-row-requires : tie.Need-divisor-row-requires
 divisor-row-requires c κs = search needs
 
-stored-of-requires : tie.Need-stored-of-requires
-stored-of-requires c κs = search needs
+length-of-requires : tie.Need-length-of-requires
+length-of-requires c κs = search needs
 
 slice-aggregate-remainder-by : tie.Need-slice-aggregate-remainder-by
 slice-aggregate-remainder-by c = search needs
@@ -33,7 +33,7 @@ remainder-by-requires c κs =
       search needs,
       short-deg _ (s .pre .0) _ _ _ (d .divisor-row .ensures .1) (d .divisor-row .ensures .0),
       short-most _ (s .pre .0) _ _ _ (d .divisor-row .ensures .1) (d .divisor-row .ensures .0),
-      omega (arith, n .stored-of .ensures, stored-high _ (s .pre .0)),
+      omega (arith, n .length-of .ensures, length-high _ (s .pre .0)),
     )
 
 -- the remainder by the divisor
@@ -41,7 +41,7 @@ made : (c : tie.After-remainder-by) → let a = c .before .before .before .befor
 made c =
     let n = c .before .before .before in
     let d = n .before .before in
-    row-as _ _ _ _ _ _ _ _ (d .divisor-row .ensures .1) (d .divisor-row .ensures .0) (n .stored-of .ensures) (d .before .before .before .before .pre .2) (c .remainder-by .ensures)
+    row-as _ _ _ _ _ _ _ _ (d .divisor-row .ensures .1) (d .divisor-row .ensures .0) (n .length-of .ensures) (d .before .before .before .before .pre .2) (c .remainder-by .ensures)
 
 slice-aggregate-store : tie.Need-slice-aggregate-store
 slice-aggregate-store c = search needs
@@ -61,7 +61,7 @@ short-into-spec =
     (tie.spec
     slice-aggregate-divisor-row
     divisor-row-requires
-    stored-of-requires
+    length-of-requires
     slice-aggregate-remainder-by
     slice-aggregate-remainder-by-2
     remainder-by-requires
