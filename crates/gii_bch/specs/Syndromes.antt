@@ -16,13 +16,13 @@ use lib.ListN.{length, getD}
 use Rattle.code.specs.declared.Outcome.{Outcome}
 use Rattle.code.specs.declared.Parameters.{Parameters}
 use Rattle.code.specs.Accepted.{Rules, accepted, rising}
-use Rattle.code.specs.Calls.{Made, MadeC, asBytes, leaves, nestedSyndromeList, outcome, outcomeNumber, syndromeList}
+use Rattle.code.specs.Calls.{Made, MadeC, asBytes, leaves, nestedSyndromeList, outcomeNumber, syndromeList}
 use Rattle.code.specs.Lists.{_when_, _orElse_}
 use Rattle.code.specs.Parameters.{Accepted, strength}
 use Rattle.code.specs.Refusals.{judgeRefusal, wordRefusal}
 use Rattle.code.specs.Refused.{word-le}
-use Rattle.oneword.specs.Chain.{word-page, word-zero}
-use Rattle.refusal.specs.Judging.{sheet-zero}
+use Rattle.refusal.specs.Indexed.{word-page, word-zero}
+use Rattle.refusal.specs.Judging.{judge-zero}
 use Rattle.gii_bch.specs.List.{numbersIn, numbers-bytes, numbers-exact}
 
 abbrev pub wordCount : Bool → Parameters → ℕ
@@ -68,16 +68,12 @@ module _ (p : Parameters) (x : List ℕ) (i words e : ℕ) (E : Accepted p → M
     where
       go : (judgeRefusal p x ≡ 0) ⊎ (0 < judgeRefusal p x) → wordRefusal p x i words (numbersIn k) (1 * e) ≡ wordRefusal p x i words k (2 * e)
       go (inl z) =
-          let m = E (sheet-zero p x z) in
+          let m = E (judge-zero p x z .accepted) in
           ap (λ (n : ℕ). wordRefusal p x i words (numbersIn k) n) (Nat.one-mul e)
           ∙ ap (λ (b : Bool). judgeRefusal p x orElse 9 when leb words i orElse 10 when not b) (numbers-exact k e (m .low) (m .high))
       go (inr h) =
           let f : judgeRefusal p x ≡ 0 → ⊥ = λ z. Nat.lt-irrefl 0 (rw z at h) in
           sym (word-page p x i words (numbersIn k) (1 * e) (judgeRefusal p x) refl f) ∙ word-page p x i words k (2 * e) (judgeRefusal p x) refl f
-
-outcome-number : (r : ℕ) → outcomeNumber (outcome r) ≡ r
-outcome-number zero = refl
-outcome-number (suc r) = refl
 
 leaves-alike : (r : ℕ) (xs ys zs old : List ℕ) → xs ≡ leaves r ys zs → leaves r (asBytes xs) old ≡ leaves r (asBytes ys) old
 leaves-alike zero xs ys zs old e = ap asBytes e
@@ -104,7 +100,7 @@ module _ (nested : Bool) (p : Parameters) (x : List ℕ) (i : ℕ) (old xs ys : 
 
   pub list-made : (after : List ℕ) → after ≡ leaves n (asBytes ys) old → ListMadeC nested p x i old after n
   list-made after g = record {
-    answers = refusal ∙ sym (outcome-number (listRefusal 2 nested p x i (length old)));
+    answers = refusal;
     small = word-le p x i (wordCount nested p) (length old) (2 * e);
     buffer = g ∙ leaves-alike n ys (listOf nested p x i) xs old (m .buffer ∙ ap (λ (r : ℕ). leaves r (listOf nested p x i) xs) (sym (f ∙ m .number))) ∙ ap (λ (r : ℕ). leaves r (asBytes (listOf nested p x i)) old) refusal;
   }

@@ -1,5 +1,4 @@
 -- The calls on one word of a page.
-pub mod Chain
 pub mod WordBytes
 pub mod Row
 pub mod Quotient

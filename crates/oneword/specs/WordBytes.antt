@@ -1,22 +1,19 @@
 -- A word in bytes.
 --   WordIs p c s    the bytes s are the polynomial c, which is below x^n
 use mathlib.Core.Path.{_≡_, refl, sym, ap, ap₂, _∙_}
-use mathlib.Core.Bool.{cond}
 use mathlib.Core.List.{List, _++_}
 use Prim.Native.Nat.{ℕ, zero, suc, _+_, _-_, _*_, _/_, _%_, _^_, _≤_, _<_}
 use native.Mathlib.Nat as Nat
 use native.Mathlib.Omega.{arith}
-use lib.Dec.{leb}
 use lib.ListN.{length, take, drop, replicate, length-replicate}
 use lib.Pow.{pow-mono}
 use lib.Seq.{length-take-le}
-use borrow.Author.Tests.{le-leb}
 use Rattle.polynomial.specs.Digits.{digits, digits-value, value}
 use Rattle.polynomial.specs.Division.{deg, rem}
 use Rattle.polynomial.specs.Sums.{all-at}
 use Rattle.kernels.specs.Value.{Bounded, bounded-all, value-append, value-cons, value-nil}
 use Rattle.code.specs.declared.Parameters.{Parameters}
-use Rattle.code.specs.Accepted.{accepted, q-high}
+use Rattle.code.specs.Accepted.{accepted}
 use Rattle.code.specs.Buffers.{nested-lt}
 use Rattle.code.specs.Calls.{nestedOf, nestedSyndromeList, nestedWordBytes, remainderBytes, shortBytes, subWordOf, syndromeList}
 use Rattle.code.specs.Code.{divisor, remainder, shortRemainder, syndromes}
@@ -54,10 +51,6 @@ nested-is p A x l k s e = record {
   is = value-append 8 s (drop k (replicate 520 0)) ∙ ap (λ (y : ℕ). y * 2 ^ (8 * length s) + value 8 s) (zeros k 520) ∙ ap (λ (y : ℕ). y + value 8 s) (Nat.zero-mul (2 ^ (8 * length s))) ∙ Nat.zero-add (value 8 s) ∙ e;
   below = nested-lt p (accepted p A) l (wordsOf p x);
 }
-
--- its length, of accepted parameters
-pub bytes-exact : (p : Parameters) → Accepted p → cond (leb (p .q) 12) (2 ^ p .q / 8) 0 ≡ nestedBytes p
-bytes-exact p A = rw (le-leb (p .q) 12 (q-high (p .q) (accepted p A .known))) refl
 
 -- ---- what the calls leave
 module _ (p : Parameters) (x : List ℕ) (i : ℕ) (s : List ℕ) (W : WordIs p (subWordOf p x i) s) where

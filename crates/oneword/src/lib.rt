@@ -1,7 +1,5 @@
 // The calls on one word of a page. Each tests everything: the parameters, the page, the word's number, the length of the lent buffer.
 ghost use Rattle.code.specs.Calls.{RemainderMade, ShortMade, NestedMade, SyndromesMade, NestedSyndromesMade};
-use crate::chain::nested_bytes;
-use crate::chain::word_refusal;
 use crate::work::level_remainder;
 use crate::work::nested_of;
 use crate::work::remainder_into;
@@ -10,8 +8,8 @@ use crate::work::syndromes_from;
 use code::Outcome;
 use code::Parameters;
 use nested::sub_word;
+use refusal::word_refusal;
 
-pub mod chain; // the refusal of these calls
 mod divide; // remainders and quotients by any row
 mod work; // the calls' work
 
@@ -41,12 +39,16 @@ pub fn short_remainder(p: Parameters, page: &[u8], l: usize, out: &mut [u8]) -> 
     Outcome::Done
 }
 
-// Nested word l, in the bytes of a sub-word.
+// Nested word l, in its bytes.
 pub fn nested_word(p: Parameters, page: &[u8], l: usize, out: &mut [u8]) -> Outcome
     ensures { λ r. ⌜ NestedMade p (now (page .entry)) l (now (out .entry)) (now (out .exit)) r ⌝ }
 {
-    let exact = nested_bytes(p.q);
-    let k = word_refusal(p, page, l, p.v as usize, out.len(), exact);
+    let k = refusal::sheet_refusal(p);
+    if k != 0 {
+        return Outcome::Refused(k);
+    }
+    let exact = layout::nested_bytes(p);
+    let k = refusal::index_refusal(p, page, l, p.v as usize, out.len(), exact);
     if k != 0 {
         return Outcome::Refused(k);
     }

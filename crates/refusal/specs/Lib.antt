@@ -2,5 +2,6 @@
 pub mod Judging
 pub mod Reading
 pub mod Writing
+pub mod Indexed
 pub mod Tests
 pub mod Feeding

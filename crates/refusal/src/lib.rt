@@ -6,7 +6,7 @@ ghost use lib.Dec.{leb, ltb};
 ghost use lib.ListN.{length};
 ghost use Rattle.polynomial.specs.Digits.{value};
 ghost use Rattle.code.specs.Parameters.{Accepted, sheetRefusal};
-ghost use Rattle.code.specs.Refusals.{badWidth, judgeRefusal, openRefusal, readRefusal, writeRefusal};
+ghost use Rattle.code.specs.Refusals.{badWidth, judgeRefusal, openRefusal, readRefusal, wordRefusal, writeRefusal};
 ghost use Rattle.layout.specs.Sizes.{Degrees};
 ghost use Rattle.refusal.specs.Feeding.{numbersRefusal};
 use code::Parameters;
@@ -91,6 +91,37 @@ pub fn write_refusal(p: Parameters, w: &[u32], width: u32, blocks: &[u8], page: 
         return 0;
     }
     8
+}
+
+// ---- calls on one word
+
+// For accepted parameters: 7 and 8 as for judge, 9 where the word i is none of `many`, 10 where the lent list's length `out` is not exact, or 0.
+pub fn index_refusal(p: Parameters, page: &[u8], i: usize, many: usize, out: usize, exact: usize) -> u8
+    requires { ⌜ Accepted p ⌝ }
+    ensures { λ r. ⌜ r ≡ wordRefusal p (now (page .entry)) i many out exact ⌝ }
+{
+    let r = page_refusal(p, page);
+    if r != 0 {
+        return r;
+    }
+    if many <= i {
+        return 9;
+    }
+    if out != exact {
+        return 10;
+    }
+    0
+}
+
+// For any numbers: 1 to 4 before these.
+pub fn word_refusal(p: Parameters, page: &[u8], i: usize, many: usize, out: usize, exact: usize) -> u8
+    ensures { λ r. ⌜ r ≡ wordRefusal p (now (page .entry)) i many out exact ⌝ }
+{
+    let k = sheet_refusal(p);
+    if k != 0 {
+        return k;
+    }
+    index_refusal(p, page, i, many, out, exact)
 }
 
 // ---- registers

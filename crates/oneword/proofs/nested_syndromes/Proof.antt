@@ -7,7 +7,7 @@ use lib.ListN.{length}
 use Rattle.code.specs.Parameters.{strength}
 use Rattle.code.specs.Refusals.{nestedSyndromesRefusal}
 use Rattle.levels.specs.Ready.{degree-most}
-use Rattle.oneword.specs.Chain.{Unrefused, word-alike, word-zero, word-refused, word-done}
+use Rattle.refusal.specs.Indexed.{Unrefused, word-alike, word-zero, word-refused, word-done}
 use Rattle.oneword.specs.Level.{level-lt, level-made, many-few}
 use Rattle.oneword.specs.WordBytes.{nested-syndromes-made}
 use Rattle.oneword.proofs.nested_syndromes.Statement.{statement}

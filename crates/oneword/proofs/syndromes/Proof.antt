@@ -8,7 +8,7 @@ use Rattle.code.specs.Calls.{subWordOf}
 use Rattle.code.specs.Parameters.{strength}
 use Rattle.code.specs.Refusals.{syndromesRefusal}
 use Rattle.levels.specs.Ready.{degree-most}
-use Rattle.oneword.specs.Chain.{Unrefused, word-alike, word-zero, word-refused, word-done}
+use Rattle.refusal.specs.Indexed.{Unrefused, word-alike, word-zero, word-refused, word-done}
 use Rattle.oneword.specs.Level.{level-lt, level-made, many-few}
 use Rattle.oneword.specs.WordBytes.{WordIs, sub-word-is, syndromes-made}
 use Rattle.oneword.proofs.syndromes.Statement.{statement}

@@ -2,35 +2,30 @@
 --   Unrefused p x i many out exact    the page x is one of accepted parameters, i is below `many`, the list of `out` has its exact length
 use mathlib.Core.Path.{_≡_, refl, sym, ap, _∙_}
 use mathlib.Core.Logic.{_⊎_, inl, inr}
-use mathlib.Core.Bool.{Bool, true, false}
 use mathlib.Core.List.{List}
-use Prim.Native.Nat.{ℕ, suc, _^_, _≤_, _<_}
+use Prim.Native.Nat.{ℕ, _^_, _≤_, _<_}
 use native.Mathlib.Nat as Nat
-use lib.Dec.{eqb, leb, eqb→eq}
+use lib.Dec.{leb}
 use lib.ListN.{getD}
 use borrow.Author.Tests.{le-leb, lt-leb, leb-false, eq-eqb, ne-eqb}
 use Rattle.polynomial.specs.Sums.{at-all}
 use Rattle.code.specs.declared.Outcome.{Outcome}
 use Rattle.code.specs.declared.Parameters.{Parameters}
-use Rattle.code.specs.Chains.{none, or-first, or-none, or-second, or-zero}
 use Rattle.code.specs.Answers.{made-done, made-refused}
 use Rattle.code.specs.Calls.{Made}
+use Rattle.code.specs.Chains.{exact-of, or-first, or-none, or-second, when-none}
 use Rattle.code.specs.Layout.{IsPage}
 use Rattle.code.specs.Lists.{_when_, _orElse_}
-use Rattle.code.specs.Parameters.{Accepted}
+use Rattle.code.specs.Parameters.{Accepted, sheetRefusal}
 use Rattle.code.specs.Refusals.{judgeRefusal, wordRefusal, notExact}
 use Rattle.code.specs.Refused.{word-le}
-use Rattle.refusal.specs.Judging.{sheet-zero, page-exact, page-clear}
+use Rattle.refusal.specs.Judging.{judge-sheet, judge-zero}
 
 pub record Unrefused (p : Parameters) (x : List ℕ) (i many out exact : ℕ) : Type 0 where
   pub accepted : Accepted p
   pub page : IsPage p x
   pub index : i < many
   pub list : out ≡ exact
-
-when-none : (k : ℕ) (b : Bool) → (suc k when b) ≡ 0 → b ≡ false
-when-none k true e = absurd (Nat.suc-ne-zero k e)
-when-none k false e = refl
 
 module _ (p : Parameters) (x : List ℕ) (i many out exact : ℕ) where
   abbrev index-9 : ℕ
@@ -46,6 +41,9 @@ module _ (p : Parameters) (x : List ℕ) (i many out exact : ℕ) where
   -- ---- the links
   pub word-page : (r : ℕ) → r ≡ judgeRefusal p x → (r ≡ 0 → ⊥) → r ≡ wordRefusal p x i many out exact
   word-page r e h = e ∙ sym (word-eq ∙ or-first (judgeRefusal p x) (index-9 orElse list-10) (Nat.pos-of-ne-zero (λ z. h (e ∙ z))))
+
+  pub word-sheet : (k : ℕ) → k ≡ sheetRefusal p → (k ≡ 0 → ⊥) → k ≡ wordRefusal p x i many out exact
+  word-sheet k e h = word-page k (judge-sheet p x k e h) h
 
   module _ (e : judgeRefusal p x ≡ 0) where
     behind : wordRefusal p x i many out exact ≡ (index-9 orElse list-10)
@@ -65,11 +63,12 @@ module _ (p : Parameters) (x : List ℕ) (i many out exact : ℕ) where
   word-zero b e =
       let j = or-none (judgeRefusal p x) (index-9 orElse list-10) (sym word-eq ∙ e) in
       let k = or-none index-9 list-10 (j .1) in
+      let c = judge-zero p x (j .0) in
       record {
-        accepted = sheet-zero p x (j .0);
-        page = record { bytes = at-all (λ d. d < 256) x (λ k h. b k); exact = page-exact p x (j .0); clear = page-clear p x (j .0) };
+        accepted = c .accepted;
+        page = record { bytes = at-all (λ d. d < 256) x (λ k h. b k); exact = c .exact; clear = c .clear };
         index = leb-false many i (when-none 8 (leb many i) (k .0));
-        list = eqb→eq out exact (none 9 (eqb out exact) 0 (or-zero list-10 0 (k .1) refl) .0);
+        list = exact-of 9 out exact (k .1);
       }
 
   -- ---- the promises
@@ -84,7 +83,7 @@ pub word-alike : (p : Parameters) (x : List ℕ) (i many out exact exact′ : �
 word-alike p x i many out exact exact′ h = go (Nat.eq-zero-or-pos (judgeRefusal p x))
   where
     go : (judgeRefusal p x ≡ 0) ⊎ (0 < judgeRefusal p x) → wordRefusal p x i many out exact ≡ wordRefusal p x i many out exact′
-    go (inl z) = ap (wordRefusal p x i many out) (h (sheet-zero p x z))
+    go (inl z) = ap (wordRefusal p x i many out) (h (judge-zero p x z .accepted))
     go (inr l) =
         word-eq p x i many out exact ∙ or-first (judgeRefusal p x) (index-9 p x i many out exact orElse list-10 p x i many out exact) l
         ∙ sym (word-eq p x i many out exact′ ∙ or-first (judgeRefusal p x) (index-9 p x i many out exact′ orElse list-10 p x i many out exact′) l)
