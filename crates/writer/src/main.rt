@@ -134,10 +134,23 @@ fn page_written(input: &[u8], p: Parameters) -> Output
     refused(k)
 }
 
-// What the program writes for an input.
-fn written(input: &[u8]) -> Output
-    ensures { λ r. ⌜ Wrote (now (input .entry)) (r .count) (r .bytes) ⌝ }
+// ---- writing
+
+// The output owed for the `got` bytes that were read to the room's start is written. That it goes to standard output, whole, is tested and not proved: no contract
+// speaks of what a program writes.
+fn put(room: &[u8], got: usize, out: Output)
+    requires { ⌜ Answered (now room) got (out .count) (out .bytes) ⌝ }
 {
+    let count = out.count;
+    let bytes = out.bytes;
+    io::write_all(STDOUT_FILENO, &bytes[..count]);
+}
+
+// Byte 0 and the page, or the number of a refusal, for the `got` bytes that were read to the room's start: no byte that comes after a full room alters it.
+fn respond(room: &[u8], got: usize)
+    requires { ⌜ (4093 ≤ length (now room)) × (got ≤ length (now room)) ⌝ }
+{
+    let input = &room[..got];
     let p = sheet_given(input);
     let tested = sheet::test(p);
     let Tested::Accepted {
@@ -151,7 +164,8 @@ fn written(input: &[u8]) -> Output
     } = tested
     else {
         let k = tested_number(tested);
-        return refused(k);
+        put(room, got, refused(k));
+        return;
     };
     let accepted = Parameters {
         q: q,
@@ -162,22 +176,11 @@ fn written(input: &[u8]) -> Output
         t2: t2,
         t3: t3,
     };
-    page_written(input, accepted)
-}
-
-// What it writes when it has read `got` bytes to the room's start: no byte that comes after a full room alters it.
-fn answer(room: &[u8], got: usize) -> Output
-    requires { ⌜ (4093 ≤ length (now room)) × (got ≤ length (now room)) ⌝ }
-    ensures { λ r. ⌜ Answered (now (room .entry)) got (r .count) (r .bytes) ⌝ }
-{
-    written(&room[..got])
+    put(room, got, page_written(input, accepted));
 }
 
 fn main() {
     let mut room = [0u8; 4093];
     let got = io::read_full(0, &mut room);
-    let out = answer(&room, got);
-    let count = out.count;
-    let bytes = out.bytes;
-    io::write_all(STDOUT_FILENO, &bytes[..count]);
+    respond(&room, got);
 }
