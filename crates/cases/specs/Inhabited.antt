@@ -13,11 +13,11 @@ use Rattle.polynomial.specs.Multiple.{Multiple}
 use Rattle.polynomial.specs.Xor.{xor}
 use Rattle.field.specs.Field.{pow}
 use Rattle.code.specs.declared.Verdict.{Verdict}
-use Rattle.code.specs.Parameters.{Accepted, sheetRefusal}
+use Rattle.code.specs.Parameters.{Accepted, sheetRefusal, sheet}
 use Rattle.code.specs.Code.{gen, degree, remainder, nested, combine, N, newton, IsMember, distance}
 use Rattle.code.specs.Layout.{dataBytes, blocksClear, pageClear, wordsOf, Fits, IsPage, Bytes, differences}
 use Rattle.code.specs.Calls.{judgeAnswer}
-use Rattle.cases.specs.Sheets.{sheet, A, B}
+use Rattle.cases.specs.Sheets.{A, B}
 
 -- ---- accepted sheets
 -- the requirement's sheet A

@@ -3,11 +3,12 @@
 use mathlib.Core.Path.{_≡_, ap, _∙_}
 use mathlib.Core.Logic.{_≢_, _⊎_, inl, inr}
 use mathlib.Core.Bool.{Bool, true, false, not, _&&_, _||_, cond}
-use Prim.Native.Nat.{ℕ, zero, suc, _+_, _-_, _*_, _%_, _^_, _≤_, _<_}
+use Prim.Native.Nat.{ℕ, zero, suc, _+_, _-_, _*_, _%_, _≤_, _<_}
 use native.Mathlib.Nat as Nat
 use native.Mathlib.Decide.{le-ind}
 use native.Mathlib.Omega.{arith}
 use lib.Dec.{T, eqb, leb, ltb, eqb→eq, leb→le, ltb→lt, le→leb, lit≤}
+use Rattle.polynomial.specs.Division.{Deg}
 use Rattle.field.specs.Fields.{BinaryField, Known, fieldOf, fieldOf-exponent, fieldOf-length}
 use Rattle.field.specs.Irreducible.{both}
 use Rattle.field.specs.Powers.{n-pos, pow-mod, α≢0}
@@ -16,7 +17,7 @@ use Rattle.generator.specs.Next.{width-le}
 use Rattle.code.specs.declared.Parameters.{Parameters}
 use Rattle.generator.specs.Generator as G
 use Rattle.code.specs.Chains.{either, last, neither, none, nonzero}
-use Rattle.code.specs.Code.{degree}
+use Rattle.code.specs.Code.{degree, gen}
 use Rattle.code.specs.Lists.{_orElse_, _when_, any, range}
 use Rattle.code.specs.Parameters.{Accepted, clashes, fieldKnown, len, placeFits, shapeFits, sheetRefusal, strength, strengthsFit}
 use Rattle.code.specs.Steps.{degree-eq, gen-eq}
@@ -161,3 +162,6 @@ module _ (p : Parameters) (R : Rules p) where
     roots = λ a h f. rw (gen-eq p a, degree-eq p a) (G.generator-iff B (strength p a) f);
     no-clash = λ d j a b e h u. B .order (d * j % B .n) (rw n-is (R .clash d j a b e h)) (Nat.mod-lt (d * j) (n-pos B)) (pow-mod B (d * j) ∙ u);
   }
+
+  pub degree-of : (a : ℕ) → a ≤ p .v → Deg (gen p a) (degree p a)
+  degree-of = lawful .degrees

@@ -32,6 +32,10 @@ tested-values : (p : Parameters) (r : ℕ)
 tested-values p zero = refl
 tested-values p (suc r) = refl
 
+pub tested-eq : (p : Parameters) → tested p ≡ testedOf p (sheetRefusal p)
+unfolding tested
+tested-eq p = refl
+
 module _ (p : Parameters) where
   number-is : testedNumber (tested p) ≡ sheetRefusal p
   unfolding tested

@@ -21,7 +21,7 @@ use Rattle.field.specs.Field.{zero-add}
 use Rattle.field.specs.Fields.{fieldOf}
 use Rattle.generator.specs.Generator.{generator-divides}
 use Rattle.code.specs.declared.Parameters.{Parameters}
-use Rattle.code.specs.Accepted.{Rules, degree-high, lawful, rising}
+use Rattle.code.specs.Accepted.{Rules, degree-high, lawful, rising, degree-of}
 use Rattle.code.specs.Calls.{asBytes, generatorRow, generators, nestedOf, nestedWordBytes, remainderBytes, rowsBy, shortBytes, subWordOf}
 use Rattle.code.specs.Code.{degree, divisor, gen, nested, nestedSum, remainder, shortRemainder, syndromes}
 use Rattle.code.specs.Layout.{wordsOf}
@@ -40,11 +40,11 @@ short-eq : (p : Parameters) (l : ℕ) (cs : List ℕ) → shortRemainder p l cs 
 unfolding shortRemainder
 short-eq p l cs = refl
 
-rows-eq : (p : Parameters) → generators p ≡ rowsBy (sheetRefusal p) (map (generatorRow p) (range 0 4))
+pub rows-eq : (p : Parameters) → generators p ≡ rowsBy (sheetRefusal p) (map (generatorRow p) (range 0 4))
 unfolding generators
 rows-eq p = refl
 
-range-four : range 0 4 ≡ 0 ∷ 1 ∷ 2 ∷ 3 ∷ []
+pub range-four : range 0 4 ≡ 0 ∷ 1 ∷ 2 ∷ 3 ∷ []
 unfolding range
 range-four = refl
 
@@ -53,9 +53,6 @@ chosen true x y t = refl
 chosen false x y t = absurd t
 
 module _ (p : Parameters) (R : Rules p) where
-  D : (a : ℕ) → a ≤ p .v → Deg (gen p a) (degree p a)
-  D = lawful p R .degrees
-
   pub divides-up : (a b : ℕ) → a ≤ b → b ≤ p .v → remainder p a (gen p b) ≡ 0
   divides-up a b h l = rw (gen-eq p a, degree-eq p a, gen-eq p b) (generator-divides (fieldOf (p .q)) (strength p a) (strength p b) (rising p R a b h l))
 
@@ -69,7 +66,7 @@ module _ (p : Parameters) (R : Rules p) where
 
     pub divisor-times : clmul (divisor p l) (gen p 0) ≡ gen p (p .v - l)
     divisor-times =
-        rw (divisor-eq p l) (sym (quot-is (gen p 0) (degree p 0) (D 0 zero-le) (gen p top)
+        rw (divisor-eq p l) (sym (quot-is (gen p 0) (degree p 0) (degree-of p R 0 zero-le) (gen p top)
         ∙ rw (divides-up 0 top zero-le top-low) (xor-zero-r (clmul (quot (gen p 0) (degree p 0) (gen p top)) (gen p 0)))))
 
     divisor-pos : 0 < divisor p l
@@ -78,7 +75,7 @@ module _ (p : Parameters) (R : Rules p) where
         go : (divisor p l ≡ 0) ⊎ (0 < divisor p l) → 0 < divisor p l
         go (inl z) =
             let e : gen p top ≡ 0 = sym divisor-times ∙ ap (λ (y : ℕ). clmul y (gen p 0)) z ∙ clmul-zero-l (gen p 0) in
-            absurd (Nat.not-suc-le-zero {n = 0} (rw e at (deg-pos (gen p top) (degree p top) (D top top-low))))
+            absurd (Nat.not-suc-le-zero {n = 0} (rw e at (deg-pos (gen p top) (degree p top) (degree-of p R top top-low))))
         go (inr h) = h
 
     pub divisor-deg : Deg (divisor p l) (deg (divisor p l))
@@ -87,7 +84,7 @@ module _ (p : Parameters) (R : Rules p) where
     divisor-sum : deg (divisor p l) + degree p 0 ≡ degree p (p .v - l)
     divisor-sum =
         deg-unique (gen p top) (deg (divisor p l) + degree p 0) (degree p top)
-        (rw (← divisor-times) (deg-mul (deg (divisor p l)) (degree p 0) (divisor p l) (gen p 0) divisor-deg (D 0 zero-le))) (D top top-low)
+        (rw (← divisor-times) (deg-mul (deg (divisor p l)) (degree p 0) (divisor p l) (gen p 0) divisor-deg (degree-of p R 0 zero-le))) (degree-of p R top top-low)
 
     pub divisor-degree : deg (divisor p l) ≡ degree p (p .v - l) - degree p 0
     divisor-degree = omega (arith, divisor-sum)
@@ -108,7 +105,7 @@ module _ (p : Parameters) (R : Rules p) where
   pub remainder-back : (x : List ℕ) (i : ℕ) → value 8 (remainderBytes p x i) ≡ remainder p 0 (subWordOf p x i)
   unfolding remainderBytes
   remainder-back x i =
-      value-digits 8 96 (remainder p 0 (subWordOf p x i)) (Nat.lt-of-lt-of-le (rem-lt (gen p 0) (degree p 0) (D 0 zero-le) (subWordOf p x i)) (pow-mono (degree-high p R 0 zero-le)))
+      value-digits 8 96 (remainder p 0 (subWordOf p x i)) (Nat.lt-of-lt-of-le (rem-lt (gen p 0) (degree p 0) (degree-of p R 0 zero-le) (subWordOf p x i)) (pow-mono (degree-high p R 0 zero-le)))
 
   pub nested-lt : (l : ℕ) (cs : List ℕ) → nested p l cs < 2 ^ len p
   nested-lt l cs = rw (nested-eq p l cs) (rem-lt (2 ^ len p + 1) (len p) (unity-deg (len p) (lawful p R .pos)) (nestedSum p l cs))
@@ -120,7 +117,7 @@ module _ (p : Parameters) (R : Rules p) where
 
   -- a generator's row
   gen-lt : (a : ℕ) → a ≤ p .v → gen p a < 2 ^ (64 * 13)
-  gen-lt a h = Nat.lt-of-lt-of-le (lt-of-deg (degree p a) (D a h)) (pow-mono {j = 64 * 13} (Nat.le-trans (suc-le-suc (degree-high p R a h)) (lit≤ {m = 769} {n = 832} tt)))
+  gen-lt a h = Nat.lt-of-lt-of-le (lt-of-deg (degree p a) (degree-of p R a h)) (pow-mono {j = 64 * 13} (Nat.le-trans (suc-le-suc (degree-high p R a h)) (lit≤ {m = 769} {n = 832} tt)))
 
   four : (a : ℕ) → a ≤ 3 → getD (map (generatorRow p) (range 0 4)) a [] ≡ generatorRow p a
   four zero l = rw range-four refl

@@ -45,7 +45,7 @@ module _ (p : Parameters) (A : Accepted p) where
       → SumsC p a b page-a page-b page-sum r-a r-b r-sum
   sums-c K L M a b oa ob os pa pb ps ra rb rs wk wl wm h j ea eb es Wa Wb Ws =
       let s = demand3 p A .sums K L M a b oa ob os pa pb ps (outcome (refusal K a oa)) (outcome (refusal L b ob)) (outcome (refusal M (add a b) os))
-            wk wl wm h j ea eb es (written K a oa pa ra Wa) (written L b ob pb rb Wb) (written M (add a b) os ps rs Ws) in
+      wk wl wm h j ea eb es (written K a oa pa ra Wa) (written L b ob pb rb Wb) (written M (add a b) os ps rs Ws) in
       record {
         fits = s .fits;
         done-a = zero-of ra (refusal K a oa) (Wa .answers) (s .done-a);
@@ -74,7 +74,7 @@ module _ (p : Parameters) (A : Accepted p) where
   rewrites-c L x ob blocks op after j r o w h eb ep J O W =
       let k = refusal L blocks op in
       let s = demand3 p A .rewrites L x ob blocks op after (judgeAnswer p x) (readAnswer p x ob) (outcome k) w h eb ep
-            (judged p x (judgeAnswer p x) refl) (read p x ob (readAnswer p x ob) blocks refl (O .buffer)) (written L blocks op after o W) in
+      (judged p x (judgeAnswer p x) refl) (read p x ob (readAnswer p x ob) blocks refl (O .buffer)) (written L blocks op after o W) in
       record {
         done = zero-of o k (W .answers) (s .done);
         by-judge = through (judge-iff x j J) (s .by-judge);

@@ -54,7 +54,7 @@ join-bit (z ∷ ks) (x ∷ xs) e (suc i) k l =
     ∙ join-bit ks xs (Nat.suc-inj e) i k l
 
 -- ---- offsets and sizes
-offset-replicate : (m b i : ℕ) → i ≤ m → sum (take i (replicate m b)) ≡ i * b
+pub offset-replicate : (m b i : ℕ) → i ≤ m → sum (take i (replicate m b)) ≡ i * b
 unfolding sum
 offset-replicate m b zero h = sym (Nat.zero-mul b)
 offset-replicate zero b (suc i) h = absurd (Nat.not-suc-le-zero h)
@@ -93,6 +93,19 @@ encode-at p j (suc i) (d ∷ ds) h =
     rw (encode-cons p j d ds) (encode-at p (suc j) i ds (Nat.le-of-suc-le-suc h)
     ∙ ap (λ (k : ℕ). checked p (level p k) (getD ds i 0 * 2 ^ checkBits p k) (carried (level p k) k (drop (suc i) (encodeFrom p (suc j) ds)))) (Nat.suc-add j i ∙ sym (Nat.add-suc j i)))
 
+module _ (p : Parameters) where
+  pub page-size : (i : ℕ) → i < p .m → getD (wordSizes p) i 0 ≡ subWordBytes p
+  page-size i h = getD-replicate (p .m) i (subWordBytes p) 0 h
+
+  pub block-size : (i : ℕ) → i < p .m → getD (blockSizes p) i 0 ≡ (dataBits p i + 7) / 8
+  block-size i h =
+      rw (blockSizes-eq p) (getD-map (λ b. (b + 7) / 8) (blockBits p) i (rw (length-bits p) h)
+      ∙ ap (λ (b : ℕ). (b + 7) / 8) (rw (blockBits-eq p) (getD-map-range (dataBits p) 0 (p .m) i h) ∙ ap (dataBits p) (Nat.zero-add i)))
+
+  pub offset-eq : (i : ℕ) → blockOffset p i ≡ sum (take i (blockSizes p))
+  unfolding blockOffset
+  offset-eq i = refl
+
 module _ (p : Parameters) (R : Rules p) where
   word-room : (k : ℕ) → k < stored p → k < 8 * subWordBytes p
   word-room k h = Nat.lt-of-lt-of-le h (room (p .q) (R .known))
@@ -100,30 +113,18 @@ module _ (p : Parameters) (R : Rules p) where
   page-offset : (i : ℕ) → i < p .m → sum (take i (wordSizes p)) ≡ i * subWordBytes p
   page-offset i h = offset-replicate (p .m) (subWordBytes p) i (Nat.le-of-suc-le h)
 
-  page-size : (i : ℕ) → i < p .m → getD (wordSizes p) i 0 ≡ subWordBytes p
-  page-size i h = getD-replicate (p .m) i (subWordBytes p) 0 h
-
-  block-size : (i : ℕ) → i < p .m → getD (blockSizes p) i 0 ≡ (dataBits p i + 7) / 8
-  block-size i h =
-      rw (blockSizes-eq p) (getD-map (λ b. (b + 7) / 8) (blockBits p) i (rw (length-bits p) h)
-      ∙ ap (λ (b : ℕ). (b + 7) / 8) (rw (blockBits-eq p) (getD-map-range (dataBits p) 0 (p .m) i h) ∙ ap (dataBits p) (Nat.zero-add i)))
-
   block-room : (i r : ℕ) → i < p .m → r < dataBits p i → r < 8 * getD (blockSizes p) i 0
-  block-room i r h l = rw (block-size i h) (Nat.lt-of-lt-of-le l (whole (dataBits p i)))
-
-  offset-eq : (i : ℕ) → blockOffset p i ≡ sum (take i (blockSizes p))
-  unfolding blockOffset
-  offset-eq i = refl
+  block-room i r h l = rw (block-size p i h) (Nat.lt-of-lt-of-le l (whole (dataBits p i)))
 
   -- the coefficient of x^k of sub-word i is bit k mod 8 of byte i × 2^q / 8 + k div 8
   pub sub-word-bit : (x : List ℕ) → Bytes x → (i k : ℕ) → i < p .m → k < stored p → coefficient (getD (wordsOf p x) i 0) k ≡ coefficientOf p x i k
   sub-word-bit x h i k l b =
-      rw (wordsOf-eq p x) (split-bit (wordSizes p) x h i k (rw (page-size i l) (word-room k b))) ∙ ap (λ (o : ℕ). bitFrom x o k) (page-offset i l)
+      rw (wordsOf-eq p x) (split-bit (wordSizes p) x h i k (rw (page-size p i l) (word-room k b))) ∙ ap (λ (o : ℕ). bitFrom x o k) (page-offset i l)
 
   -- bit r of block i is that of its number
   pub block-bit : (x : List ℕ) → Bytes x → (i r : ℕ) → i < p .m → r < dataBits p i → coefficient (getD (blocksOf p x) i 0) r ≡ blockBit p x i r
   block-bit x h i r l b =
-      rw (blocksOf-eq p x) (split-bit (blockSizes p) x h i r (block-room i r l b)) ∙ ap (λ (o : ℕ). bitFrom x o r) (sym (offset-eq i))
+      rw (blocksOf-eq p x) (split-bit (blockSizes p) x h i r (block-room i r l b)) ∙ ap (λ (o : ℕ). bitFrom x o r) (sym (offset-eq p i))
 
   level-low : (i : ℕ) → level p i ≤ p .v
   level-low i = Nat.sub-le (p .v) i
@@ -161,7 +162,7 @@ module _ (p : Parameters) (R : Rules p) where
   pub read-bit : (x : List ℕ) → IsPage p x → (i r : ℕ) → i < p .m → r < dataBits p i → blockBit p (dataOf p x) i r ≡ coefficientOf p x i (checkBits p i + r)
   unfolding dataWords
   read-bit x h i r l b =
-      ap (λ (o : ℕ). bitFrom (dataOf p x) o r) (offset-eq i)
+      ap (λ (o : ℕ). bitFrom (dataOf p x) o r) (offset-eq p i)
       ∙ rw (dataOf-eq p x) (join-bit (blockSizes p) (dataWords p (wordsOf p x)) (length-data p (wordsOf p x) ∙ page-words p R x h .many ∙ sym (length-blocks p)) i r (block-room i r l b))
       ∙ ap (λ (d : ℕ). coefficient d r) (data-at p 0 i (wordsOf p x) ∙ ap (λ (k : ℕ). getD (wordsOf p x) i 0 / 2 ^ checkBits p k) (Nat.zero-add i))
       ∙ sym (high-coefficient (getD (wordsOf p x) i 0) (checkBits p i) r)

@@ -24,7 +24,7 @@ use Rattle.code.specs.declared.Verdict.{Verdict}
 use Rattle.code.specs.Register.{Register}
 use Rattle.generator.specs.Generator as G
 use Rattle.code.specs.Answers.{read-as-judge}
-use Rattle.code.specs.Accepted.{Rules, accepted, degree-le, lawful, n-is, q-high, width-below}
+use Rattle.code.specs.Accepted.{Rules, accepted, degree-le, lawful, n-is, q-high, width-below, degree-of}
 use Rattle.code.specs.Buffers.{bytes-at, divides-up, divisor-deg, divisor-degree, divisor-times, length-syndromes, nested-back, remainder-back, row-back, short-back, short-differ, short-lt, syndromes-at}
 use Rattle.code.specs.Calls.{Judged, ReadOut, Written, asBytes, empty, judgeAnswer, leaves, nestedOf, nestedSyndromeList, outcome, subWordOf, syndromeList}
 use Rattle.code.specs.Code.{IsMember, degree, distance, gen, least, level, nested, newton, remainder, syndromes, verdict}
@@ -79,9 +79,6 @@ module _ (p : Parameters) (A : Accepted p) where
   abbrev B : BinaryField
   B = fieldOf (p .q)
 
-  D : (a : ℕ) → a ≤ p .v → Deg (gen p a) (degree p a)
-  D = lawful p R .degrees
-
   -- ---- the generators
   silent : (a c : ℕ) → Vanishes (p .q) (strength p a) c → G.HasRoots B (strength p a) c
   silent a c h j i k = syndrome-iff (p .q) (R .known) c j .0 (h j i k)
@@ -101,8 +98,8 @@ module _ (p : Parameters) (A : Accepted p) where
   generators-are : (a : ℕ) → a ≤ p .v → GeneratorLaws p a
   generators-are a h = record {
     is = generator-of a;
-    alone = λ f d s. multiple-same (gen p a) (degree p a) f (D a h) (lawful p R .roots a h f .1 (silent a f s)) d;
-    of-degree = D a h;
+    alone = λ f d s. multiple-same (gen p a) (degree p a) f (degree-of p R a h) (lawful p R .roots a h f .1 (silent a f s)) d;
+    of-degree = degree-of p R a h;
     degree-bound = degree-le p R a;
     degree-below = width-below p R a h;
     multiples = λ c. ((λ M. silenced a c (lawful p R .roots a h c .0 (multiple-iff p R a h c .1 M))), (λ s. multiple-iff p R a h c .0 (lawful p R .roots a h c .1 (silent a c s))));
@@ -216,7 +213,7 @@ module _ (p : Parameters) (A : Accepted p) where
       no-less = power-order (p .q) (R .known);
     };
     generator-laws = generators-are;
-    remainder-laws = λ a h c. record { below = rem-lt (gen p a) (degree p a) (D a h) c; differs = rem-differ (gen p a) (degree p a) (D a h) c };
+    remainder-laws = λ a h c. record { below = rem-lt (gen p a) (degree p a) (degree-of p R a h) c; differs = rem-differ (gen p a) (degree p a) (degree-of p R a h) c };
     short-laws = λ l h cs. shorts-are l cs;
     syndrome-laws = λ c j. record { is-sum = syndrome-sum (p .q) (R .known) (len p) c j; below = syndrome-lt (p .q) (R .known) c j };
     register-laws = registers-are;

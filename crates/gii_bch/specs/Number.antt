@@ -33,8 +33,7 @@ number-by false false f m g v d e h k = omega arith
 
 number-low : (p : Parameters) → Accepted p → (cs : List ℕ) → failingNumber p cs < 128
 unfolding failingNumber
-number-low p A cs =
-    number-by (ltb (failing p cs) (p .m)) (ltb (failingNested p cs) (p .v)) (failing p cs) (p .m) (failingNested p cs) (p .v)
+number-low p A cs = number-by (ltb (failing p cs) (p .m)) (ltb (failingNested p cs) (p .v)) (failing p cs) (p .m) (failingNested p cs) (p .v)
     refl refl (accepted p A .m-high) (accepted p A .v-high)
 
 answer-low : (r n : ℕ) → r ≤ lastRefusal → (r ≡ 0 → n < 128) → (r orElse n) < 128

@@ -14,8 +14,8 @@ use Rattle.code.specs.Layout.{blockBits, blockOffset, blockSizes, blocksOf, dat
 use Rattle.code.specs.Lists.{join, sum}
 use Rattle.code.specs.Pages.{blockBits-eq, blockSizes-eq, blocksOf-eq, length-blocks, wordsOf-eq}
 use Rattle.code.specs.Parameters.{Accepted, subWordBytes}
-use Rattle.code.specs.Placement.{getD-map-range}
-use Rattle.layout.specs.Runs.{join-parts, split-at, sum-all, sum-le, sum-next, sum-none, sum-replicate}
+use Rattle.code.specs.Placement.{getD-map-range, block-size, offset-eq, offset-replicate, page-size}
+use Rattle.layout.specs.Runs.{join-parts, split-at, sum-all, sum-le, sum-next, sum-none}
 use Rattle.layout.specs.Sizes.{data-high}
 
 pub record Summed (p : Parameters) (i at j : ℕ) : Type 0 where
@@ -28,10 +28,7 @@ module _ (p : Parameters) where
   length-words = length-replicate (p .m) (subWordBytes p)
 
   word-begin : (i : ℕ) → i ≤ p .m → sum (take i (wordSizes p)) ≡ i * subWordBytes p
-  word-begin i h = sum-replicate (p .m) (subWordBytes p) i h
-
-  word-size-at : (i : ℕ) → i < p .m → getD (wordSizes p) i 0 ≡ subWordBytes p
-  word-size-at i h = getD-replicate (p .m) i (subWordBytes p) 0 h
+  word-begin i h = offset-replicate (p .m) (subWordBytes p) i h
 
   -- sub-word i ends before the page does
   pub word-room : (i : ℕ) → i < p .m → i * subWordBytes p + subWordBytes p ≤ pageBytes p
@@ -41,7 +38,7 @@ module _ (p : Parameters) where
   pub word-at : (x : List ℕ) (i : ℕ) → i < p .m → getD (wordsOf p x) i 0 ≡ value 8 (take (subWordBytes p) (drop (i * subWordBytes p) x))
   word-at x i h =
       rw (wordsOf-eq p x) (split-at (wordSizes p) x i (rw length-words h)
-      ∙ ap₂ (λ (k o : ℕ). value 8 (take k (drop o x))) (word-size-at i h) (word-begin i (Nat.le-of-suc-le h)))
+      ∙ ap₂ (λ (k o : ℕ). value 8 (take k (drop o x))) (page-size p i h) (word-begin i (Nat.le-of-suc-le h)))
 
   -- a page whose sub-words are the bytes of cs
   pub page-parts : (x cs : List ℕ) → length x ≡ pageBytes p → length cs ≡ p .m
@@ -50,18 +47,11 @@ module _ (p : Parameters) where
   page-parts x cs e l h =
       join-parts (wordSizes p) cs x (l ∙ sym length-words) (e ∙ sym (word-begin (p .m) (Nat.le-refl (p .m))) ∙ sum-all (wordSizes p) (p .m) length-words)
       (λ i b. let k : i < p .m = rw length-words at b in
-      rw (word-size-at i k, word-begin i (Nat.le-of-suc-le k)) (h i k))
+      rw (page-size p i k, word-begin i (Nat.le-of-suc-le k)) (h i k))
 
   -- ---- blocks
   pub bits-at : (i : ℕ) → i < p .m → getD (blockBits p) i 0 ≡ dataBits p i
   bits-at i h = rw (blockBits-eq p) (getD-map-range (dataBits p) 0 (p .m) i h ∙ ap (dataBits p) (Nat.zero-add i))
-
-  size-at : (i : ℕ) → i < p .m → getD (blockSizes p) i 0 ≡ (dataBits p i + 7) / 8
-  size-at i h = rw (blockSizes-eq p) (List·getD-map (λ b. (b + 7) / 8) (blockBits p) i 0 ∙ ap (λ (b : ℕ). (b + 7) / 8) (bits-at i h))
-
-  offset-eq : (i : ℕ) → blockOffset p i ≡ sum (take i (blockSizes p))
-  unfolding blockOffset
-  offset-eq i = refl
 
   bytes-eq : dataBytes p ≡ sum (blockSizes p)
   unfolding dataBytes
@@ -69,11 +59,11 @@ module _ (p : Parameters) where
 
   -- where block i begins
   pub offset-zero : blockOffset p 0 ≡ 0
-  offset-zero = offset-eq 0 ∙ sum-none (blockSizes p)
+  offset-zero = offset-eq p 0 ∙ sum-none (blockSizes p)
 
   pub offset-next : (i : ℕ) → i < p .m → blockOffset p (i + 1) ≡ blockOffset p i + (dataBits p i + 7) / 8
   offset-next i h =
-      rw (add-one i) (offset-eq (suc i) ∙ sum-next (blockSizes p) i (rw (length-blocks p) h) ∙ ap₂ _+_ (sym (offset-eq i)) (size-at i h))
+      rw (add-one i) (offset-eq p (suc i) ∙ sum-next (blockSizes p) i (rw (length-blocks p) h) ∙ ap₂ _+_ (sym (offset-eq p i)) (block-size p i h))
 
   -- the same by a loop over the blocks before it
   pub summed-start : (i : ℕ) → Summed p i 0 0
@@ -86,10 +76,10 @@ module _ (p : Parameters) where
   summed-done i at j s h = s .begins ∙ ap (blockOffset p) (Nat.le-antisymm (s .high) h)
 
   pub offset-all : blockOffset p (p .m) ≡ dataBytes p
-  offset-all = offset-eq (p .m) ∙ sum-all (blockSizes p) (p .m) (length-blocks p) ∙ sym bytes-eq
+  offset-all = offset-eq p (p .m) ∙ sum-all (blockSizes p) (p .m) (length-blocks p) ∙ sym bytes-eq
 
   offset-le : (i : ℕ) → blockOffset p i ≤ dataBytes p
-  offset-le i = rw (offset-eq i, bytes-eq) (sum-le (blockSizes p) i)
+  offset-le i = rw (offset-eq p i, bytes-eq) (sum-le (blockSizes p) i)
 
   -- block i ends before the blocks do
   pub block-room : (i : ℕ) → i < p .m → blockOffset p i + (dataBits p i + 7) / 8 ≤ dataBytes p
@@ -99,7 +89,7 @@ module _ (p : Parameters) where
   pub block-at : (x : List ℕ) (i : ℕ) → i < p .m → getD (blocksOf p x) i 0 ≡ value 8 (take ((dataBits p i + 7) / 8) (drop (blockOffset p i) x))
   block-at x i h =
       rw (blocksOf-eq p x) (split-at (blockSizes p) x i (rw (length-blocks p) h)
-      ∙ ap₂ (λ (k o : ℕ). value 8 (take k (drop o x))) (size-at i h) (sym (offset-eq i)))
+      ∙ ap₂ (λ (k o : ℕ). value 8 (take k (drop o x))) (block-size p i h) (sym (offset-eq p i)))
 
   -- blocks that are the bytes of ds
   pub blocks-parts : (x ds : List ℕ) → length x ≡ dataBytes p → length ds ≡ p .m
@@ -108,7 +98,7 @@ module _ (p : Parameters) where
   blocks-parts x ds e l h =
       join-parts (blockSizes p) ds x (l ∙ sym (length-blocks p)) (e ∙ bytes-eq)
       (λ i b. let k : i < p .m = rw (length-blocks p) at b in
-      rw (size-at i k, ← offset-eq i) (h i k))
+      rw (block-size p i k, ← offset-eq p i) (h i k))
 
   -- ---- at most 4,096 bytes
   module _ (A : Accepted p) where

@@ -37,13 +37,6 @@ sum-le [] (suc i) = zero-le
 sum-le (k ∷ ks) zero = zero-le
 sum-le (k ∷ ks) (suc i) = Nat.add-le-add (Nat.le-refl k) (sum-le ks i)
 
--- runs of one size
-pub sum-replicate : (m b i : ℕ) → i ≤ m → sum (take i (replicate m b)) ≡ i * b
-sum-replicate m b zero h = sum-none (replicate m b) ∙ sym (Nat.zero-mul b)
-sum-replicate m b (suc i) h =
-    sum-next (replicate m b) i (rw (length-replicate m b) h)
-    ∙ ap₂ _+_ (sum-replicate m b i (Nat.le-of-suc-le h)) (getD-replicate m i b 0 h) ∙ sym (Nat.suc-mul i b)
-
 -- ---- runs cut out and put together
 pub split-at : (ks bs : List ℕ) (i : ℕ) → i < length ks → getD (split ks bs) i 0 ≡ value 8 (take (getD ks i 0) (drop (sum (take i ks)) bs))
 unfolding split sum

@@ -9,6 +9,8 @@ use borrow.Author.Tests.{le-leb, lt-leb}
 use Rattle.polynomial.specs.Digits.{digits, length-digits}
 use Rattle.field.specs.Fields.{Known, fieldOf}
 use Rattle.generator.specs.Next.{generator-zero}
+use Rattle.code.specs.Answers.{tested-eq}
+use Rattle.code.specs.Buffers.{range-four, rows-eq}
 use Rattle.code.specs.declared.Parameters.{Parameters}
 use Rattle.code.specs.declared.Tested.{Tested}
 use Rattle.code.specs.Accepted.{Rules, accepted, rising}
@@ -23,18 +25,6 @@ use Rattle.element.specs.Fields.{fieldAt, known-last}
 use Rattle.levels.specs.Rows.{row, row-zero, Raised}
 
 -- ---- the defining equations
-range-four : range 0 4 ≡ 0 ∷ 1 ∷ 2 ∷ 3 ∷ []
-unfolding range
-range-four = refl
-
-generators-eq : (p : Parameters) → generators p ≡ rowsBy (sheetRefusal p) (map (generatorRow p) (range 0 4))
-unfolding generators
-generators-eq p = refl
-
-tested-eq : (p : Parameters) → tested p ≡ testedOf p (sheetRefusal p)
-unfolding tested
-tested-eq p = refl
-
 -- the row of 1, as it is made
 row-one : 1 ∷ replicate 12 0 ≡ row 1
 unfolding digits
@@ -69,7 +59,7 @@ module _ (p : Parameters) (A : Accepted p) where
   row-past a h = sym row-zero ∙ simp (lt-leb a (p .v) h)
 
   pub rows-are : (r0 r1 r2 r3 : List ℕ) → r0 ≡ generatorRow p 0 → r1 ≡ generatorRow p 1 → r2 ≡ generatorRow p 2 → r3 ≡ generatorRow p 3 → r0 ∷ r1 ∷ r2 ∷ r3 ∷ [] ≡ generators p
-  rows-are r0 r1 r2 r3 e0 e1 e2 e3 = rw (e0, e1, e2, e3) (sym (generators-eq p ∙ rw (A, range-four) refl))
+  rows-are r0 r1 r2 r3 e0 e1 e2 e3 = rw (e0, e1, e2, e3) (sym (rows-eq p ∙ rw (A, range-four) refl))
 
 -- ---- the table of the field of q
 pub factors-of : (t : List ℕ) (q k : ℕ) (f : Field) → f ≡ fieldAt q → f .q ≡ k → Factors k t → Factors q t
@@ -80,7 +70,7 @@ last-field q f w k a b = let e : f .q ≡ q = ap (λ (f : Field). f .q) w in kno
 
 -- ---- any parameters, by what their test answers
 pub rows-refused : (p : Parameters) (k : ℕ) → Tests p (Tested.Refused k) → replicate 4 (replicate 13 0) ≡ generators p
-rows-refused p k t = sym (generators-eq p ∙ go (sheetRefusal p) (t .answers ∙ tested-eq p))
+rows-refused p k t = sym (rows-eq p ∙ go (sheetRefusal p) (t .answers ∙ tested-eq p))
   where
     go : (r : ℕ) → Tested.Refused k ≡ testedOf p r → rowsBy r (map (generatorRow p) (range 0 4)) ≡ replicate 4 (replicate 13 0)
     go zero e = let z : _≡_ {A = ℕ} 0 1 = cc in absurd (omega arith)
@@ -88,7 +78,7 @@ rows-refused p k t = sym (generators-eq p ∙ go (sheetRefusal p) (t .answers �
 
 -- ---- each row has 13 words
 pub row-length : (p : Parameters) (a : ℕ) → a < 4 → length (getD (generators p) a []) ≡ 13
-row-length p a h = ap (λ (l : List (List ℕ)). length (getD l a [])) (generators-eq p) ∙ go (sheetRefusal p) a h
+row-length p a h = ap (λ (l : List (List ℕ)). length (getD l a [])) (rows-eq p) ∙ go (sheetRefusal p) a h
   where
     go : (r a : ℕ) → a < 4 → length (getD (rowsBy r (map (generatorRow p) (range 0 4))) a []) ≡ 13
     go zero zero h = rw range-four (length-digits 64 13 _)

@@ -18,7 +18,7 @@ use Rattle.kernels.specs.Move.{align-deg}
 use Rattle.kernels.specs.Row.{D, D-is}
 use Rattle.kernels.specs.Table.{Table, MovedUp, moved-up, RemainderBy}
 use Rattle.code.specs.declared.Parameters.{Parameters}
-use Rattle.code.specs.Accepted.{Rules, accepted, lawful, degree-high}
+use Rattle.code.specs.Accepted.{Rules, accepted, lawful, degree-high, degree-of}
 use Rattle.code.specs.Buffers.{row-back, row-length}
 use Rattle.code.specs.Calls.{generators}
 use Rattle.code.specs.Code.{gen, degree, remainder}
@@ -50,41 +50,35 @@ module _ (p : Parameters) (A : Accepted p) where
   pub level-lt : (a : ℕ) → a ≤ p .v → a < 4
   level-lt a h = omega (arith, R .v-high)
 
-  pub degree-of : (a : ℕ) → a ≤ p .v → Deg (gen p a) (degree p a)
-  degree-of a h = lawful p R .degrees a h
-
-  pub degree-most : (a : ℕ) → a ≤ p .v → degree p a ≤ 768
-  degree-most a h = degree-high p R a h
-
   -- every level has a root
   pub degree-low : (a : ℕ) → a ≤ p .v → 1 ≤ degree p a
   degree-low a h = let e : p .v - (p .v - a) ≡ a = omega arith in rw e at (check-low p A (p .v - a))
 
   pub gen-pos : (a : ℕ) → a ≤ p .v → 0 < gen p a
-  gen-pos a h = deg-pos (gen p a) (degree p a) (degree-of a h)
+  gen-pos a h = deg-pos (gen p a) (degree p a) (degree-of p R a h)
 
   pub deg-gen : (a : ℕ) → a ≤ p .v → deg (gen p a) ≡ degree p a
-  deg-gen a h = deg-unique (gen p a) (deg (gen p a)) (degree p a) (deg-is (gen p a) (gen-pos a h)) (degree-of a h)
+  deg-gen a h = deg-unique (gen p a) (deg (gen p a)) (degree p a) (deg-is (gen p a) (gen-pos a h)) (degree-of p R a h)
 
   pub row-deg : (g : List ℕ) (a : ℕ) → a ≤ p .v → RowOf p a g → deg (value 64 g) ≡ degree p a
   row-deg g a h r = ap deg (r .is) ∙ deg-gen a h
 
   -- a row's bound, for moving it up
   pub row-lt : (a : ℕ) → a ≤ p .v → gen p a < 2 ^ (degree p a + 1)
-  row-lt a h = rw add-one (lt-of-deg (degree p a) (degree-of a h))
+  row-lt a h = rw add-one (lt-of-deg (degree p a) (degree-of p R a h))
 
   pub prepared : (g r t : List ℕ) (a w : ℕ) → a ≤ p .v → w ≡ degree p a → RowOf p a g → value 64 r ≡ value 64 g * 2 ^ (768 - w) → length t ≡ 3072 → Table (value 64 r) t → Prepared p a t
   prepared g r t a w h e G f l T = record { words = l; table = rw (f ∙ ap (λ (y : ℕ). y * 2 ^ (768 - w)) (G .is) ∙ ap (λ (k : ℕ). gen p a * 2 ^ (768 - k)) e) at T }
 
   pub aligned-deg : (g r : List ℕ) (a w : ℕ) → a ≤ p .v → w ≡ degree p a → RowOf p a g → value 64 r ≡ value 64 g * 2 ^ (768 - w) → Deg (value 64 r) D
   aligned-deg g r a w h e G f =
-      rw (f ∙ ap (λ (y : ℕ). y * 2 ^ (768 - w)) (G .is) ∙ ap (λ (k : ℕ). gen p a * 2 ^ (768 - k)) e) (align-deg (gen p a) (degree p a) (degree-of a h) (degree-most a h))
+      rw (f ∙ ap (λ (y : ℕ). y * 2 ^ (768 - w)) (G .is) ∙ ap (λ (k : ℕ). gen p a * 2 ^ (768 - k)) e) (align-deg (gen p a) (degree p a) (degree-of p R a h) (degree-high p R a h))
 
   -- remainders by the table
   pub table-remainder : (a w f r : ℕ) (t : List ℕ) → a ≤ p .v → w ≡ degree p a → Prepared p a t → RemainderBy t (768 - w) f r → r ≡ remainder p a f
   table-remainder a w f r t h e P Q =
-      let k : degree p a + (768 - w) ≡ D = omega (arith, degree-most a h, D-is) in
-      Q .rest (gen p a) (degree p a) (degree-of a h) k (rw e (P .table))
+      let k : degree p a + (768 - w) ≡ D = omega (arith, degree-high p R a h, D-is) in
+      Q .rest (gen p a) (degree p a) (degree-of p R a h) k (rw e (P .table))
 
 -- ---- the degrees, one by one
 pub record Counted (p : Parameters) (k : ℕ) (w : List ℕ) : Type 0 where

@@ -14,7 +14,7 @@ use Rattle.field.specs.Fields.{fieldOf}
 use Rattle.generator.specs.Generator.{generator-roots}
 use Rattle.kernels.specs.Row.{D}
 use Rattle.code.specs.declared.Parameters.{Parameters}
-use Rattle.code.specs.Accepted.{Rules, accepted, rising}
+use Rattle.code.specs.Accepted.{Rules, accepted, rising, degree-of, degree-high}
 use Rattle.code.specs.Buffers.{length-syndromes, syndromes-at}
 use Rattle.code.specs.Code.{gen, degree, remainder, syndromes}
 use Rattle.code.specs.Lists.{range}
@@ -22,7 +22,7 @@ use Rattle.code.specs.Parameters.{Accepted, strength}
 use Rattle.code.specs.Steps.{gen-eq}
 use Rattle.element.specs.declared.Field.{Field}
 use Rattle.element.specs.Fields.{fieldAt, size-least}
-use Rattle.levels.specs.Ready.{RowOf, degree-of, degree-most}
+use Rattle.levels.specs.Ready.{RowOf}
 use Rattle.oneword.specs.Row.{remainder-room}
 
 module _ (p : Parameters) (A : Accepted p) (a : ℕ) (h : a ≤ p .v) where
@@ -32,17 +32,17 @@ module _ (p : Parameters) (A : Accepted p) (a : ℕ) (h : a ≤ p .v) where
   -- ---- the row of the generator
   module _ (g : List ℕ) (G : RowOf p a g) (w : ℕ) (e : w ≡ degree p a) where
     pub row-deg : Deg (value 64 g) w
-    row-deg = rw (G .is, e) (degree-of p A a h)
+    row-deg = rw (G .is, e) (degree-of p R a h)
 
     pub row-most : w ≤ 768
-    row-most = rw e (degree-most p A a h)
+    row-most = rw e (degree-high p R a h)
 
   -- ---- what the remainder takes
   pub level-lt : (c r w : ℕ) → w ≡ degree p a → r ≡ remainder p a c → r < 2 ^ w
-  level-lt c r w e f = rw (e, f) (rem-lt (gen p a) (degree p a) (degree-of p A a h) c)
+  level-lt c r w e f = rw (e, f) (rem-lt (gen p a) (degree p a) (degree-of p R a h) c)
 
   pub level-room : (c r : ℕ) → r ≡ remainder p a c → r < 2 ^ D
-  level-room c r = remainder-room (gen p a) (degree p a) (degree-of p A a h) c r (degree-most p A a h)
+  level-room c r = remainder-room (gen p a) (degree p a) (degree-of p R a h) c r (degree-high p R a h)
 
   -- ---- its syndromes: α^j is a root of the generator for j from 1 to 2 t_a
   level-syndrome : (c j : ℕ) → 0 < j → j ≤ 2 * strength p a → syndrome (p .q) (remainder p a c) j ≡ syndrome (p .q) c j
@@ -50,7 +50,7 @@ module _ (p : Parameters) (A : Accepted p) (a : ℕ) (h : a ≤ p .v) where
       let F = fieldOf (p .q) .field in
       let x = pow F (fieldOf (p .q) .α) j in
       let z : eval F (gen p a) x ≡ F .𝟘 = rw (gen-eq p a) (generator-roots (fieldOf (p .q)) (strength p a) j l b) in
-      sym (syndrome-num (p .q) (R .known) (remainder p a c) j) ∙ ap (fieldOf (p .q) .num) (eval-rem F (gen p a) (degree p a) (degree-of p A a h) c x z) ∙ syndrome-num (p .q) (R .known) c j
+      sym (syndrome-num (p .q) (R .known) (remainder p a c) j) ∙ ap (fieldOf (p .q) .num) (eval-rem F (gen p a) (degree p a) (degree-of p R a h) c x z) ∙ syndrome-num (p .q) (R .known) c j
 
   abbrev many : ℕ
   many = 2 * strength p a

@@ -9,11 +9,11 @@ use Rattle.polynomial.specs.Division.{Deg, deg, quot, rem}
 use Rattle.polynomial.specs.Multiple.{multiple-deg}
 use Rattle.kernels.specs.Row.{D}
 use Rattle.code.specs.declared.Parameters.{Parameters}
-use Rattle.code.specs.Accepted.{Rules, accepted}
+use Rattle.code.specs.Accepted.{Rules, accepted, degree-of, degree-high}
 use Rattle.code.specs.Buffers.{divides-up, divisor-deg, divisor-degree}
 use Rattle.code.specs.Code.{gen, degree, divisor}
 use Rattle.code.specs.Parameters.{Accepted}
-use Rattle.levels.specs.Ready.{RowOf, degree-of, degree-most}
+use Rattle.levels.specs.Ready.{RowOf}
 use Rattle.oneword.specs.Row.{remainder-room}
 
 module _ (p : Parameters) (A : Accepted p) (l : ℕ) where
@@ -30,7 +30,7 @@ module _ (p : Parameters) (A : Accepted p) (l : ℕ) where
 
     -- g_0 has no higher degree
     pub degree-rises : w ≤ u
-    degree-rises = rw (eu, ew) (multiple-deg (gen p 0) (degree p 0) (gen p a) (degree-of p A 0 zero-le) (divides-up p R 0 a zero-le low) (degree p a) (degree-of p A a low))
+    degree-rises = rw (eu, ew) (multiple-deg (gen p 0) (degree p 0) (gen p a) (degree-of p R 0 zero-le) (divides-up p R 0 a zero-le low) (degree p a) (degree-of p R a low))
 
     pub divisor-width : u - w ≡ deg (divisor p l)
     divisor-width = ap₂ _-_ (eu ∙ ap (degree p) k) ew ∙ sym (divisor-degree p R l)
@@ -45,7 +45,7 @@ module _ (p : Parameters) (A : Accepted p) (l : ℕ) where
     short-deg = rw (e, k) (divisor-deg p R l)
 
     pub short-most : w ≤ 768
-    short-most = omega (arith, k, divisor-degree p R l, degree-most p A (p .v - l) top-low)
+    short-most = omega (arith, k, divisor-degree p R l, degree-high p R (p .v - l) top-low)
 
   pub short-room : (c r : ℕ) → r ≡ rem (divisor p l) (deg (divisor p l)) c → r < 2 ^ D
   short-room c r = remainder-room (divisor p l) (deg (divisor p l)) (divisor-deg p R l) c r (short-most (divisor p l) (deg (divisor p l)) refl refl)

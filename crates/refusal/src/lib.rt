@@ -96,7 +96,14 @@ pub fn write_refusal(p: Parameters, w: &[u32], width: u32, blocks: &[u8], page: 
 // ---- calls on one word
 
 // For accepted parameters: 7 and 8 as for judge, 9 where the word i is none of `many`, 10 where the lent list's length `out` is not exact, or 0.
-pub fn index_refusal(p: Parameters, page: &[u8], i: usize, many: usize, out: usize, exact: usize) -> u8
+pub fn index_refusal(
+    p: Parameters,
+    page: &[u8],
+    i: usize,
+    many: usize,
+    out: usize,
+    exact: usize,
+) -> u8
     requires { ⌜ Accepted p ⌝ }
     ensures { λ r. ⌜ r ≡ wordRefusal p (now (page .entry)) i many out exact ⌝ }
 {
@@ -114,7 +121,14 @@ pub fn index_refusal(p: Parameters, page: &[u8], i: usize, many: usize, out: usi
 }
 
 // For any numbers: 1 to 4 before these.
-pub fn word_refusal(p: Parameters, page: &[u8], i: usize, many: usize, out: usize, exact: usize) -> u8
+pub fn word_refusal(
+    p: Parameters,
+    page: &[u8],
+    i: usize,
+    many: usize,
+    out: usize,
+    exact: usize,
+) -> u8
     ensures { λ r. ⌜ r ≡ wordRefusal p (now (page .entry)) i many out exact ⌝ }
 {
     let k = sheet_refusal(p);

@@ -14,10 +14,11 @@ use Rattle.kernels.specs.Shift.{xor-shl}
 use Rattle.kernels.specs.Sum.{Copied}
 use Rattle.kernels.specs.Table.{Reduced, lowered}
 use Rattle.kernels.specs.Value.{Bounded, bounded-all}
+use Rattle.code.specs.Accepted.{accepted, degree-high}
 use Rattle.code.specs.declared.Parameters.{Parameters}
 use Rattle.code.specs.Code.{degree, remainder}
 use Rattle.code.specs.Parameters.{Accepted}
-use Rattle.levels.specs.Ready.{Prepared, degree-low, degree-most, table-remainder}
+use Rattle.levels.specs.Ready.{Prepared, degree-low, table-remainder}
 
 -- the k lower words of a number
 take-digits : (w k : ℕ) (l : List ℕ) → Bounded w l → k ≤ length l → take k l ≡ digits w k (value w l)
@@ -43,7 +44,7 @@ module _ (p : Parameters) (A : Accepted p) (a w : ℕ) (h : a ≤ p .v) (e : w �
   place-lt = omega (arith, degree-low p A a h)
 
   pub degree-fits : w ≤ 768
-  degree-fits = rw e (degree-most p A a h)
+  degree-fits = rw e (degree-high p (accepted p A) a h)
 
   pub aligned-lt : (f v : ℕ) → f < 2 ^ w → v ≡ f * 2 ^ (768 - w) → v < 2 ^ D
   aligned-lt f v l i =

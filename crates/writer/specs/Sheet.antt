@@ -8,7 +8,7 @@ use lib.ListN.{length, replicate}
 use Rattle.code.specs.declared.Parameters.{Parameters}
 use Rattle.code.specs.declared.Tested.{Tested}
 use Rattle.code.specs.Chains.{or-first, or-none}
-use Rattle.code.specs.Answers.{sheet-pos}
+use Rattle.code.specs.Answers.{sheet-pos, tested-eq}
 use Rattle.code.specs.Layout.{blocksClear, dataBytes, pageBytes}
 use Rattle.code.specs.Lists.{_orElse_, _when_}
 use Rattle.code.specs.Parameters.{Accepted, Tests, sheetRefusal, tested, testedNumber, testedOf}
@@ -44,10 +44,6 @@ sheet-refused input p t n k count bytes e s r f a b =
     (g ∙ sym (write-sheet p (lead input 3) (blocksGiven input) (pageBytes p) (rw (← g) h)) ∙ ap (λ (q : Parameters). writeRefusal q (lead input 3) (blocksGiven input) (pageBytes q)) e) h a b
 
 -- ---- the test's answer is the sheet
-tested-eq : (p : Parameters) → tested p ≡ testedOf p (sheetRefusal p)
-unfolding tested
-tested-eq p = refl
-
 accepted-by : (p : Parameters) (r q m v t0 t1 t2 t3 : ℕ) → r ≡ 0 → Tested.Accepted q m v t0 t1 t2 t3 ≡ testedOf p r
     → _≡_ {A = Parameters} (record { q = q; m = m; v = v; t0 = t0; t1 = t1; t2 = t2; t3 = t3 }) p
 accepted-by p zero q m v t0 t1 t2 t3 z e =

@@ -5,6 +5,7 @@ use native.Mathlib.Omega.{arith}
 use Prim.Native.Nat.{ℕ, _+_, _-_, _*_, _/_, _^_, _≤_, _<_}
 use lib.ListN.{length, take, drop}
 use Rattle.polynomial.specs.Digits.{length-digits, value}
+use Rattle.code.specs.Accepted.{accepted, degree-high}
 use Rattle.code.specs.Code.{level}
 use Rattle.code.specs.Layout.{dataBits}
 use Rattle.code.specs.Parameters.{subWordBytes}
@@ -12,7 +13,6 @@ use Rattle.layout.specs.Parts.{block-room, bytes-high}
 use Rattle.layout.specs.Replaced.{put-is, middle-bytes, part-length}
 use Rattle.layout.specs.Sizes.{level-low, word-high}
 use Rattle.layout.specs.SubWords.{part-room, part-small}
-use Rattle.levels.specs.Ready.{degree-most}
 use Rattle.encode.specs.Encoding.{block-lt, block-part, check-fits, check-room, data-fits, word-made}
 use Rattle.encode.proofs.write_word.Statement.{statement}
 use Rattle.encode.proofs.write_word.Tie as tie
@@ -122,7 +122,7 @@ put-word-requires c κs =
     let a = s .args in
     let g = o .before .before .before in
     let l = part-length (a .page .now) ((a .i) * (k .sub-word-bytes .result)) (k .sub-word-bytes .result) (room k) ∙ k .sub-word-bytes .ensures in (
-      omega (arith, b .check-bits .ensures, degree-most (a .p) (s .pre .0 .accepts) (level (a .p) (a .i)) (level-low (a .p) (a .i))),
+      omega (arith, b .check-bits .ensures, degree-high (a .p) (accepted (a .p) (s .pre .0 .accepts)) (level (a .p) (a .i)) (level-low (a .p) (a .i))),
       check-room (a .p) (s .pre .0 .accepts) (a .i) (b .check-bits .result) _ (b .check-bits .ensures) l,
       omega (arith, l, word-high (a .p) (s .pre .0 .accepts)),
       k .before .r2 .given,

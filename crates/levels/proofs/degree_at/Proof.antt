@@ -1,7 +1,8 @@
 use borrow.Author.Needs.{needs}
 use mathlib.Core.Path.{sym, _∙_}
 use native.Mathlib.Omega.{arith}
-use Rattle.levels.specs.Ready.{row-at, row-deg, level-lt, gen-pos, degree-most}
+use Rattle.code.specs.Accepted.{accepted, degree-high}
+use Rattle.levels.specs.Ready.{row-at, row-deg, level-lt, gen-pos}
 use Rattle.levels.proofs.degree_at.Statement.{statement}
 use Rattle.levels.proofs.degree_at.Tie as tie
 
@@ -24,7 +25,7 @@ cast-result : tie.Need-cast-result
 cast-result c =
     let s = c .before .before .before in
     let r = row-at (s .args .p) (s .pre .0) _ (s .args .a) (s .pre .1) (s .pre .2) in
-    omega (arith, c .degree-of .ensures, row-deg (s .args .p) (s .pre .0) _ (s .args .a) (s .pre .2) r, degree-most (s .args .p) (s .pre .0) (s .args .a) (s .pre .2))
+    omega (arith, c .degree-of .ensures, row-deg (s .args .p) (s .pre .0) _ (s .args .a) (s .pre .2) r, degree-high (s .args .p) (accepted (s .args .p) (s .pre .0)) (s .args .a) (s .pre .2))
 
 returns : tie.Need-returns
 returns c =

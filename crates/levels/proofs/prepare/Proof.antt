@@ -1,6 +1,7 @@
 use borrow.Author.Needs.{needs}
 use mathlib.Core.Path.{sym}
-use Rattle.levels.specs.Ready.{row-at, row-lt, level-lt, degree-most, prepared, aligned-deg}
+use Rattle.code.specs.Accepted.{accepted, degree-high}
+use Rattle.levels.specs.Ready.{row-at, row-lt, level-lt, prepared, aligned-deg}
 use Rattle.levels.proofs.prepare.Statement.{statement}
 use Rattle.levels.proofs.prepare.Tie as tie
 
@@ -20,7 +21,7 @@ align-requires : tie.Need-align-requires
 align-requires c κs =
     let s = c .before .before .before .before in
     let r = row-at (s .args .p) (s .pre .0) _ (s .args .a) (s .pre .1) (s .pre .2) in
-    (search needs, rw (s .pre .3) (degree-most (s .args .p) (s .pre .0) (s .args .a) (s .pre .2)), rw (r .is, s .pre .3) (row-lt (s .args .p) (s .pre .0) (s .args .a) (s .pre .2)))
+    (search needs, rw (s .pre .3) (degree-high (s .args .p) (accepted (s .args .p) (s .pre .0)) (s .args .a) (s .pre .2)), rw (r .is, s .pre .3) (row-lt (s .args .p) (s .pre .0) (s .args .a) (s .pre .2)))
 
 slice-aggregate-build : tie.Need-slice-aggregate-build
 slice-aggregate-build c = search needs

@@ -4,9 +4,9 @@ use Prim.Native.Nat.{ℕ, _*_, _-_, _≤_}
 use native.Mathlib.Nat as Nat
 use native.Mathlib.Omega.{arith}
 use lib.ListN.{length}
+use Rattle.code.specs.Accepted.{accepted, degree-high}
 use Rattle.code.specs.Parameters.{strength}
 use Rattle.code.specs.Refusals.{nestedSyndromesRefusal}
-use Rattle.levels.specs.Ready.{degree-most}
 use Rattle.refusal.specs.Indexed.{Unrefused, word-alike, word-zero, word-refused, word-done}
 use Rattle.oneword.specs.Level.{level-lt, level-made, many-few}
 use Rattle.oneword.specs.WordBytes.{nested-syndromes-made}
@@ -89,7 +89,7 @@ syndromes-from-requires c κs =
     let A = free i .accepted in
     let w = k .level-remainder .ensures .0 in (
       A,
-      omega (arith, w, degree-most _ A (level i) (low i)),
+      omega (arith, w, degree-high _ (accepted _ A) (level i) (low i)),
       level-lt _ A (level i) (low i) _ _ _ w (k .level-remainder .ensures .1),
       many-few _ A (level i) (low i) _ (many i),
     )

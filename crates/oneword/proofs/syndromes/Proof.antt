@@ -5,9 +5,9 @@ use native.Mathlib.Nat as Nat
 use native.Mathlib.Omega.{arith}
 use lib.ListN.{length}
 use Rattle.code.specs.Calls.{subWordOf}
+use Rattle.code.specs.Accepted.{accepted, degree-high}
 use Rattle.code.specs.Parameters.{strength}
 use Rattle.code.specs.Refusals.{syndromesRefusal}
-use Rattle.levels.specs.Ready.{degree-most}
 use Rattle.refusal.specs.Indexed.{Unrefused, word-alike, word-zero, word-refused, word-done}
 use Rattle.oneword.specs.Level.{level-lt, level-made, many-few}
 use Rattle.oneword.specs.WordBytes.{WordIs, sub-word-is, syndromes-made}
@@ -60,7 +60,7 @@ syndromes-from-requires c κs =
     let u = free (k .before .before .before) in
     let w = k .level-remainder .ensures .0 in (
       u .accepted,
-      omega (arith, w, degree-most _ (u .accepted) 0 zero-le),
+      omega (arith, w, degree-high _ (accepted _ (u .accepted)) 0 zero-le),
       level-lt _ (u .accepted) 0 zero-le _ _ _ w (k .level-remainder .ensures .1),
       many-few _ (u .accepted) 0 zero-le _ (u .list ∙ Nat.one-mul _),
     )

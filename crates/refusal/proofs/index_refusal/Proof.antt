@@ -14,12 +14,12 @@ returns-2 : tie.Need-returns-2
 returns-2 c = let d = c .before in word-index _ _ _ _ _ _ (sym (d .before .page-refusal .ensures) ∙ d .if1 .left) (c .if2 .taken)
 
 returns-3 : tie.Need-returns-3
-returns-3 c = 
+returns-3 c =
     let d = c .before .before in
     word-length _ _ _ _ _ _ (sym (d .before .page-refusal .ensures) ∙ d .if1 .left) (c .before .if2 .left) (c .if3 .taken)
 
 returns-4 : tie.Need-returns-4
-returns-4 c = 
+returns-4 c =
     let d = c .before .before in
     word-none _ _ _ _ _ _ (sym (d .before .page-refusal .ensures) ∙ d .if1 .left) (c .before .if2 .left) (c .if3 .left)
 

@@ -8,7 +8,7 @@ page-bytes-requires : tie.Need-page-bytes-requires
 page-bytes-requires c κs = search needs
 
 returns : tie.Need-returns
-returns c = 
+returns c =
     let d = c .before in
     let s = d .before .before in
     judge-length (s .args .p) (s .args .page .now) (s .pre) (λ e. c .if1 .taken (e ∙ sym (d .page-bytes .ensures)))
@@ -17,13 +17,13 @@ page-clear-requires : tie.Need-page-clear-requires
 page-clear-requires c κs = let d = c .before in (d .before .before .pre, c .if1 .left ∙ d .page-bytes .ensures)
 
 returns-2 : tie.Need-returns-2
-returns-2 c = 
+returns-2 c =
     let e = c .before .before in
     let s = e .before .before .before in
     judge-clear (s .args .p) (s .args .page .now) (s .pre) (e .if1 .left ∙ e .before .page-bytes .ensures) (sym (c .if2 .taken) ∙ c .before .page-clear .ensures)
 
 returns-3 : tie.Need-returns-3
-returns-3 c = 
+returns-3 c =
     let e = c .before .before in
     let s = e .before .before .before in
     judge-stray (s .args .p) (s .args .page .now) (s .pre) (e .if1 .left ∙ e .before .page-bytes .ensures) (sym (c .if2 .left) ∙ c .before .page-clear .ensures)

@@ -8,7 +8,7 @@ data-bytes-requires : tie.Need-data-bytes-requires
 data-bytes-requires c κs = search needs
 
 returns : tie.Need-returns
-returns c = 
+returns c =
     let d = c .before in
     let s = d .before .before .before in
     read-length (s .args .p) (s .args .page .now) (s .args .blocks) (s .pre .0) (λ e. c .if1 .taken (e ∙ sym (d .data-bytes .ensures)))
@@ -17,7 +17,7 @@ page-refusal-requires : tie.Need-page-refusal-requires
 page-refusal-requires c κs = search needs
 
 returns-2 : tie.Need-returns-2
-returns-2 c = 
+returns-2 c =
     let d = c .before .before in
     let s = d .before .before .before in
     c .page-refusal .ensures ∙ read-rest (s .args .p) (s .args .page .now) (s .args .blocks) (s .pre .0) (c .before .if1 .left ∙ d .data-bytes .ensures)

@@ -9,7 +9,7 @@ width-good-requires : tie.Need-width-good-requires
 width-good-requires c κs = search needs
 
 returns : tie.Need-returns
-returns c = 
+returns c =
     let k = c .before in
     let s = k .before .before .before in
     let a = s .args in
@@ -19,7 +19,7 @@ data-bytes-requires : tie.Need-data-bytes-requires
 data-bytes-requires c κs = search needs
 
 returns-2 : tie.Need-returns-2
-returns-2 c = 
+returns-2 c =
     let e = c .before .before in
     let s = e .before .before .before .before in
     let a = s .args in
@@ -29,7 +29,7 @@ page-bytes-requires : tie.Need-page-bytes-requires
 page-bytes-requires c κs = search needs
 
 returns-3 : tie.Need-returns-3
-returns-3 c = 
+returns-3 c =
     let f = c .before .before in
     let e = f .before .before in
     let s = e .before .before .before .before in
@@ -37,13 +37,13 @@ returns-3 c =
     write-page (a .p) (a .width) (a .blocks .now) (a .page) (s .pre .0) (sym (not-false _ (e .if1 .left)) ∙ e .before .width-good .ensures) (f .if2 .left ∙ f .before .data-bytes .ensures) (λ z. c .if3 .taken (z ∙ sym (c .before .page-bytes .ensures)))
 
 blocks-clear-requires : tie.Need-blocks-clear-requires
-blocks-clear-requires c κs = 
+blocks-clear-requires c κs =
     let f = c .before .before in
     let s = f .before .before .before .before .before .before in
     (s .pre .0, s .pre .1, f .if2 .left ∙ f .before .data-bytes .ensures)
 
 returns-4 : tie.Need-returns-4
-returns-4 c = 
+returns-4 c =
     let g = c .before .before in
     let f = g .before .before in
     let e = f .before .before in
@@ -52,7 +52,7 @@ returns-4 c =
     write-clear (a .p) (a .width) (a .blocks .now) (a .page) (s .pre .0) (sym (not-false _ (e .if1 .left)) ∙ e .before .width-good .ensures) (f .if2 .left ∙ f .before .data-bytes .ensures) (g .if3 .left ∙ g .before .page-bytes .ensures) (sym (c .if4 .taken) ∙ c .before .blocks-clear .ensures)
 
 returns-5 : tie.Need-returns-5
-returns-5 c = 
+returns-5 c =
     let g = c .before .before in
     let f = g .before .before in
     let e = f .before .before in
