@@ -7,7 +7,8 @@ use lib.ListN.{length}
 use Rattle.polynomial.specs.Digits.{value}
 use Rattle.kernels.specs.Value.{value-lt}
 use Rattle.code.specs.Code.{remainder}
-use Rattle.levels.specs.Ready.{degree-low, degree-most, prepared-up, table-remainder}
+use Rattle.code.specs.Accepted.{accepted, degree-high}
+use Rattle.levels.specs.Ready.{degree-low, prepared-up, table-remainder}
 use Rattle.encode.proofs.check_of.Statement.{statement}
 use Rattle.encode.proofs.check_of.Tie as tie
 
@@ -17,7 +18,7 @@ mul-remainder-of c = search needs
 sub-remainder-of : tie.Need-sub-remainder-of
 sub-remainder-of c =
     let s = c .before .before .before .before in
-    omega (arith, s .pre .2, degree-most (s .args .p) (s .pre .0) (s .args .a) (s .pre .1))
+    omega (arith, s .pre .2, degree-high (s .args .p) (accepted (s .args .p) (s .pre .0)) (s .args .a) (s .pre .1))
 
 remainder-of-requires : tie.Need-remainder-of-requires
 remainder-of-requires c κs =

@@ -3,7 +3,8 @@ use native.Mathlib.Omega.{arith}
 use Prim.Native.Nat.{_-_}
 use Rattle.polynomial.specs.Digits.{value}
 use Rattle.layout.specs.Sizes.{length-high}
-use Rattle.levels.specs.Ready.{degree-low, degree-most, prepared-up}
+use Rattle.code.specs.Accepted.{accepted, degree-high}
+use Rattle.levels.specs.Ready.{degree-low, prepared-up}
 use Rattle.judge.specs.Judged.{passes-is}
 use Rattle.judge.proofs.passes.Statement.{statement}
 use Rattle.judge.proofs.passes.Tie as tie
@@ -17,7 +18,7 @@ slice-aggregate-remainder-of c = search needs
 sub-remainder-of : tie.Need-sub-remainder-of
 sub-remainder-of c =
     let s = c .before .before .before .before in
-    omega (arith, s .pre .2, degree-most (s .args .p) (s .pre .0) (s .args .a) (s .pre .1))
+    omega (arith, s .pre .2, degree-high (s .args .p) (accepted (s .args .p) (s .pre .0)) (s .args .a) (s .pre .1))
 
 remainder-of-requires : tie.Need-remainder-of-requires
 remainder-of-requires c κs =
@@ -26,7 +27,7 @@ remainder-of-requires c κs =
       s .pre .3 .words,
       omega arith,
       omega arith,
-      omega (arith, s .pre .2, degree-most (s .args .p) (s .pre .0) (s .args .a) (s .pre .1), degree-low (s .args .p) (s .pre .0) (s .args .a) (s .pre .1)),
+      omega (arith, s .pre .2, degree-high (s .args .p) (accepted (s .args .p) (s .pre .0)) (s .args .a) (s .pre .1), degree-low (s .args .p) (s .pre .0) (s .args .a) (s .pre .1)),
       omega (arith, c .before .length-of .ensures, length-high (s .args .p) (s .pre .0)),
       prepared-up (s .args .p) (s .args .a) (s .args .w) (s .args .t .now) (s .pre .2) (s .pre .3),
     )
