@@ -5,7 +5,7 @@ use native.Mathlib.Nat as Nat
 use native.Mathlib.Omega.{arith}
 use lib.Bits as Bits
 use lib.Bits.{bitXor}
-use lib.Pow.{pow-pos, pow-add, shl-shr, shr-shr, field, mod-pow-add}
+use lib.Pow.{pow-pos, pow-add, shr-shr, field, mod-pow-add}
 use Rattle.polynomial.specs.Division.{xor-shr}
 use Rattle.polynomial.specs.Xor.{xor, xor-is, xor-assoc}
 use Rattle.generator.specs.Exponents.{mod-mul-l}

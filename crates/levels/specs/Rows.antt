@@ -18,8 +18,7 @@ use lib.ListN.{length, getD, take, drop, set, replicate, length-set, length-appe
 use lib.Pow.{shr-lt}
 use lib.Seq.{take-suc, take-suc-set, take-at, drop-at, drop-set-lt, drop-drop, getD-drop}
 use Rattle.polynomial.specs.Clmul.{clmul}
-use Rattle.polynomial.specs.Digits.{value, digits, digits-at, digits-value, length-digits}
-use Rattle.polynomial.specs.Sums.{All}
+use Rattle.polynomial.specs.Digits.{digits, digits-at, length-digits}
 use Rattle.polynomial.specs.Xor.{xor}
 use Rattle.field.specs.Fields.{Known, fieldOf}
 use Rattle.generator.specs.Generator.{generator}

@@ -8,56 +8,48 @@ use Rattle.gate_trial.proofs.generator_rows.Statement.{statement}
 use Rattle.gate_trial.proofs.generator_rows.Tie as tie
 
 abbrev Inv-loop : tie.InvT-loop
-Inv-loop refusal rows k₀ k = k ≤ 4
+Inv-loop rows k₀ k = k ≤ 4
 
 abbrev μ-loop : tie.MeasureT-loop
-μ-loop refusal rows k₀ k = 4 - k
+μ-loop rows k₀ k = 4 - k
 
--- src/main.rt:102:16
-generators-of-requires : tie.Need-generators-of-requires Inv-loop μ-loop
-generators-of-requires c κs = search needs
+sheet-number-requires : tie.Need-sheet-number-requires Inv-loop μ-loop
+sheet-number-requires c κs = search needs
 
--- src/main.rt:103:5
 put-requires : tie.Need-put-requires Inv-loop μ-loop
 put-requires c κs = search needs
 
--- src/main.rt:105:5
+generators-of-requires : tie.Need-generators-of-requires Inv-loop μ-loop
+generators-of-requires c κs = search needs
+
 loop-holds : tie.Need-loop-holds Inv-loop μ-loop
 loop-holds c = search needs
 
--- src/main.rt:106:17
 mul-r : tie.Need-mul-r Inv-loop μ-loop
 mul-r c = search needs
 
--- src/main.rt:106:17
 array-copy-out-r : tie.Need-array-copy-out-r Inv-loop μ-loop
 array-copy-out-r c = search needs
 
--- src/main.rt:107:21
 slice-aggregate-put-numbers : tie.Need-slice-aggregate-put-numbers Inv-loop μ-loop
 slice-aggregate-put-numbers c =
     let n = c .before .before in
     let l = n .before in
-    let g = l .before .before in
-    sym (ap (λ (r : List (List ℕ)). length (getD r (l .loop .k) [])) (g .generators-of .ensures .0) ∙ row-length (g .before .before .args .p) (l .loop .k) (n .loop-test .taken))
+    let g = l .before in
+    sym (ap (λ (r : List (List ℕ)). length (getD r (l .loop .k) [])) (g .generators-of .ensures) ∙ row-length (g .before .before .before .args .p) (l .loop .k) (n .loop-test .taken))
 
--- src/main.rt:107:9
 put-numbers-requires : tie.Need-put-numbers-requires Inv-loop μ-loop
 put-numbers-requires c κs = search needs
 
--- src/main.rt:108:9
 add-k : tie.Need-add-k Inv-loop μ-loop
 add-k c = search needs
 
--- src/main.rt:105:5
 loop-less : tie.Need-loop-less Inv-loop μ-loop
 loop-less c = search needs
 
--- src/main.rt:105:5
 loop-again : tie.Need-loop-again Inv-loop μ-loop
 loop-again c = search needs
 
--- src/main.rt:100:1
 returns : tie.Need-returns Inv-loop μ-loop
 returns c = search needs
 
@@ -67,8 +59,9 @@ generator-rows-spec =
     (tie.spec
     Inv-loop
     μ-loop
-    generators-of-requires
+    sheet-number-requires
     put-requires
+    generators-of-requires
     loop-holds
     mul-r
     array-copy-out-r

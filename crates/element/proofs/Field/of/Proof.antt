@@ -1,4 +1,4 @@
-use mathlib.Core.Path.{sym, ap, _∙_}
+use mathlib.Core.Path.{sym, ap}
 use borrow.Author.Needs.{needs}
 use Rattle.field.specs.Fields.{fieldPolynomial}
 use Rattle.element.specs.Fields.{fieldAt, known-last}
