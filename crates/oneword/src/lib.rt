@@ -41,7 +41,7 @@ pub fn short_remainder(p: Parameters, page: &[u8], l: usize, out: &mut [u8]) -> 
     Outcome::Done
 }
 
-// Nested word l, in the bytes of a sub-word.
+// Nested word l, in its bytes.
 pub fn nested_word(p: Parameters, page: &[u8], l: usize, out: &mut [u8]) -> Outcome
     ensures { λ r. ⌜ NestedMade p (now (page .entry)) l (now (out .entry)) (now (out .exit)) r ⌝ }
 {
