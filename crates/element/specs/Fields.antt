@@ -1,7 +1,7 @@
 -- The table from q to its field.
 --   known q           q is 4, 8 or 12
 --   fieldAt q         the table's entry: field polynomial, size 2^q and order 2^q - 1
---   fieldRefusal q    document 01's refusal of q: 1 where no field has it, else 0
+--   fieldRefusal q    the requirement's refusal of q: 1 where no field has it, else 0
 --   made q            what making the field of q answers; madeNumber and madeValues are the number and the values of an answer
 --   MadeOf q r        what making promises of its answer r
 --   isField f         the numbers of f are those of a field of the table

@@ -2,7 +2,7 @@
 --   zeroOf q, oneOf q, alphaOf q    zero, one and α of the field of q, as numbers
 --   refusal f a b                   the refusal on the operands a and b: 1 where f is no field, 8 where one has a bit at or above q, else 0
 --   computed r x                    the answer by the refusal r: the element x where there is none
---   computedNumber, computedValues    document 01's number of an answer, and its values
+--   computedNumber, computedValues    the requirement's number of an answer, and its values
 --   Gives refusal x r               what the calls promise of their answer r
 use mathlib.Core.Path.{_≡_, refl, sym, _∙_}
 use mathlib.Core.Bool.{Bool, true, false, _&&_, cond}
