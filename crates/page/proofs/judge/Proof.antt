@@ -13,7 +13,7 @@ judge-refusal-requires : tie.Need-judge-refusal-requires
 judge-refusal-requires c κs = search needs
 
 returns : tie.Need-returns
-returns c = 
+returns c =
     let k = c .before in
     let a = k .before .before .args in
     judged-refused (a .p) (a .page .now) (k .judge-refusal .result) (k .judge-refusal .ensures) (c .if1 .taken)
@@ -25,7 +25,7 @@ verdict-of-requires : tie.Need-verdict-of-requires
 verdict-of-requires c κs = let e = c .before in (clear e .accepted, c .rows .ensures, clear e .exact, clear e .clear)
 
 returns-2 : tie.Need-returns-2
-returns-2 c = 
+returns-2 c =
     let e = c .before .before in
     let k = e .before in
     let a = k .before .before .args in

@@ -24,7 +24,7 @@ read-refusal-requires : tie.Need-read-refusal-requires
 read-refusal-requires c κs = search needs
 
 returns : tie.Need-returns
-returns c = 
+returns c =
     let k = c .before in
     let a = k .before .before .before .before .before .before .args in
     read-refused (a .p) (a .page .now) (a .blocks .now) (k .read-refusal .result) (k .read-refusal .ensures) (c .if1 .taken)
@@ -33,7 +33,7 @@ slice-aggregate-take-blocks : tie.Need-slice-aggregate-take-blocks
 slice-aggregate-take-blocks c = search needs
 
 take-blocks-requires : tie.Need-take-blocks-requires
-take-blocks-requires c κs = 
+take-blocks-requires c κs =
     let e = c .before .before in
     let d = e .before .before .before in
     let s = d .before .before .before .before in
@@ -42,7 +42,7 @@ take-blocks-requires c κs =
     (s .pre, d .degrees .ensures, x .exact, x .clear, read-blocks (a .p) (a .page .now) (length (a .blocks .now)) (s .pre) (passed e))
 
 verdict-of-requires : tie.Need-verdict-of-requires
-verdict-of-requires c κs = 
+verdict-of-requires c κs =
     let e = c .before .before .before .before .before in
     let r = e .before .before .before .before in
     let s = r .before .before .before in
@@ -54,7 +54,7 @@ same-length : tie.Need-same-length
 same-length c = search needs
 
 returns-2 : tie.Need-returns-2
-returns-2 c = 
+returns-2 c =
     let k = c .before .before .before in
     let e = k .before .before .before in
     let a = e .before .before .before .before .before .before .before .args in

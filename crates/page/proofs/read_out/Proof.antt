@@ -10,7 +10,7 @@ sheet-refusal-requires : tie.Need-sheet-refusal-requires
 sheet-refusal-requires c κs = search needs
 
 returns : tie.Need-returns
-returns c = 
+returns c =
     let k = c .before in
     let a = k .before .before .before .args in
     read-refused (a .p) (a .page .now) (a .blocks .now) (k .sheet-refusal .result)

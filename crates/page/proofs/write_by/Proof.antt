@@ -24,7 +24,7 @@ write-refusal-requires : tie.Need-write-refusal-requires
 write-refusal-requires c κs = search needs
 
 returns : tie.Need-returns
-returns c = 
+returns c =
     let k = c .before in
     let a = k .before .before .before .before .before .before .args in
     written-refused (a .p) (a .width) (a .blocks .now) (a .page .now) (k .write-refusal .result) (k .write-refusal .ensures) (c .if1 .taken)
@@ -33,7 +33,7 @@ slice-aggregate-encode : tie.Need-slice-aggregate-encode
 slice-aggregate-encode c = search needs
 
 encode-requires : tie.Need-encode-requires
-encode-requires c κs = 
+encode-requires c κs =
     let e = c .before .before in
     let d = e .before .before .before in
     let s = d .before .before .before .before in
@@ -45,7 +45,7 @@ same-length : tie.Need-same-length
 same-length c = search needs
 
 returns-2 : tie.Need-returns-2
-returns-2 c = 
+returns-2 c =
     let k = c .before .before in
     let e = k .before .before .before in
     let a = e .before .before .before .before .before .before .before .args in
