@@ -1,7 +1,9 @@
 -- Sub-word i as encoding makes it, and the page with it in its place.
---   Ready p w blocks    accepted parameters, the degrees of their generators, blocks that fit
---   wordOf p b x i      sub-word i from its block and the later sub-words of the page x
---   written p x i c     the page x with c as sub-word i
+--   Ready p w blocks                           accepted parameters, the degrees of their generators, blocks that fit
+--   Writing p w blocks page width acc          the same, a page to write, coefficients a step, room for the sum of a rule
+--   Making p rows w blocks page width t acc    the same, the generators' rows, room for a table
+--   wordOf p b x i                             sub-word i from its block and the later sub-words of the page x
+--   written p x i c                            the page x with c as sub-word i
 use mathlib.Core.Path.{_≡_, sym, ap, ap₂, _∙_}
 use mathlib.Core.List.{List, [], _∷_}
 use Prim.Native.Nat.{ℕ, zero, suc, _+_, _-_, _*_, _/_, _^_, _≤_, _<_}
@@ -16,16 +18,16 @@ use Rattle.polynomial.specs.Sums.{at-all}
 use Rattle.polynomial.specs.Xor.{xor, xor-is}
 use Rattle.code.specs.declared.Parameters.{Parameters}
 use Rattle.code.specs.Accepted.{accepted, lawful}
+use Rattle.code.specs.Calls.{generators}
 use Rattle.code.specs.Code.{carried, checkBits, checked, gen, level, remainder}
 use Rattle.code.specs.Encode.{Sized}
-use Rattle.code.specs.Layout.{Fits, blockOffset, blocksClear, blocksOf, dataBits, dataBytes, wordsOf}
+use Rattle.code.specs.Layout.{Fits, blockOffset, blocksClear, blocksOf, dataBits, dataBytes, pageBytes, wordsOf}
 use Rattle.code.specs.Pages.{blocks-blocks}
 use Rattle.code.specs.Parameters.{Accepted, subWordBytes}
 use Rattle.code.specs.Steps.{checked-eq}
 use Rattle.layout.specs.Parts.{block-at}
 use Rattle.layout.specs.Replaced.{replaced}
-use Rattle.layout.specs.Sizes.{Degrees, check-below, level-low}
-use Rattle.nested.specs.Bounds.{bits-all}
+use Rattle.layout.specs.Sizes.{Degrees, bits-all, check-below, level-low}
 use Rattle.encode.specs.Rule.{placed-room}
 
 pub record Ready (p : Parameters) (w blocks : List ℕ) : Type 0 where
@@ -34,8 +36,21 @@ pub record Ready (p : Parameters) (w blocks : List ℕ) : Type 0 where
   pub exact : length blocks ≡ dataBytes p
   pub clear : T (blocksClear p blocks)
 
+pub record Writing (p : Parameters) (w blocks page : List ℕ) (width : ℕ) (acc : List ℕ) : Type 0 where
+  pub ready : Ready p w blocks
+  pub exact : length page ≡ pageBytes p
+  pub low : 1 ≤ width
+  pub high : width ≤ 64
+  pub room : length acc ≡ subWordBytes p + 8
+
+pub record Making (p : Parameters) (rows : List (List ℕ)) (w blocks page : List ℕ) (width : ℕ) (t acc : List ℕ) : Type 0 where
+  pub writing : Writing p w blocks page width acc
+  pub rowed : rows ≡ generators p
+  pub table : length t ≡ 3072
+
 abbrev pub wordOf : Parameters → List ℕ → List ℕ → ℕ → ℕ
-wordOf p blocks page i = checked p (level p i) (getD (blocksOf p blocks) i 0 * 2 ^ checkBits p i) (carried (level p i) i (drop (suc i) (wordsOf p page)))
+wordOf p blocks page i =
+    checked p (level p i) (getD (blocksOf p blocks) i 0 * 2 ^ checkBits p i) (carried (level p i) i (drop (suc i) (wordsOf p page)))
 
 abbrev pub written : Parameters → List ℕ → ℕ → ℕ → List ℕ
 written p page i c = replaced page (i * subWordBytes p) (digits 8 (subWordBytes p) c)
@@ -60,24 +75,30 @@ pub block-part : (p : Parameters) (blocks : List ℕ) (i at size : ℕ) → i < 
     → value 8 (take (at + size - at) (drop at blocks)) ≡ getD (blocksOf p blocks) i 0
 block-part p blocks i at size h e f =
     let s : at + size - at ≡ size = omega arith in
-    ap (λ (k : ℕ). value 8 (take k (drop at blocks))) s ∙ ap₂ (λ (k o : ℕ). value 8 (take k (drop o blocks))) f e ∙ sym (block-at p blocks i h)
+    ap (λ (k : ℕ). value 8 (take k (drop at blocks))) s ∙ ap₂ (λ (k o : ℕ). value 8 (take k (drop o blocks))) f e
+    ∙ sym (block-at p blocks i h)
 
 -- ---- data above, check bits below
 module _ (p : Parameters) (A : Accepted p) (i : ℕ) where
   pub check-lt : (f : ℕ) → remainder p (level p i) f < 2 ^ checkBits p i
   check-lt f = rem-lt (gen p (level p i)) (checkBits p i) (lawful p (accepted p A) .degrees (level p i) (level-low p i)) f
 
-  sum-checked : (d f : ℕ) → d * 2 ^ checkBits p i + remainder p (level p i) (xor (d * 2 ^ checkBits p i) f) ≡ checked p (level p i) (d * 2 ^ checkBits p i) f
+  sum-checked : (d f : ℕ)
+      → d * 2 ^ checkBits p i + remainder p (level p i) (xor (d * 2 ^ checkBits p i) f) ≡ checked p (level p i) (d * 2 ^ checkBits p i) f
   sum-checked d f =
       let r = remainder p (level p i) (xor (d * 2 ^ checkBits p i) f) in
-      sym (checked-eq p (level p i) (d * 2 ^ checkBits p i) f ∙ sym (xor-is (d * 2 ^ checkBits p i) r) ∙ xor-shifted d (checkBits p i) r (check-lt (xor (d * 2 ^ checkBits p i) f)))
+      sym (checked-eq p (level p i) (d * 2 ^ checkBits p i) f ∙ sym (xor-is (d * 2 ^ checkBits p i) r)
+      ∙ xor-shifted d (checkBits p i) r (check-lt (xor (d * 2 ^ checkBits p i) f)))
 
   -- the part that came back, from the numbers of its making: the rule's sum z, its remainder r
-  pub word-made : (blocks page y : List ℕ) (s z r a bits k : ℕ) → ((j : ℕ) → getD y j 0 < 2 ^ 8) → length y ≡ k → k ≡ subWordBytes p → bits ≡ checkBits p i → a ≡ level p i
-      → s ≡ getD (blocksOf p blocks) i 0 → z ≡ xor (s * 2 ^ checkBits p i) (carried (level p i) i (drop (suc i) (wordsOf p page))) → r ≡ remainder p a z → value 8 y ≡ s * 2 ^ bits + r
+  pub word-made : (blocks page y : List ℕ) (s z r a bits k : ℕ) → ((j : ℕ) → getD y j 0 < 2 ^ 8) → length y ≡ k → k ≡ subWordBytes p
+      → bits ≡ checkBits p i → a ≡ level p i
+      → s ≡ getD (blocksOf p blocks) i 0 → z ≡ xor (s * 2 ^ checkBits p i) (carried (level p i) i (drop (suc i) (wordsOf p page)))
+      → r ≡ remainder p a z → value 8 y ≡ s * 2 ^ bits + r
       → y ≡ digits 8 (subWordBytes p) (wordOf p blocks page i)
   word-made blocks page y s z r a bits k b l e f g d u v h =
-      let m : r ≡ remainder p (level p i) (xor (s * 2 ^ checkBits p i) (carried (level p i) i (drop (suc i) (wordsOf p page)))) = v ∙ ap₂ (remainder p) g u in
+      let f₀ = carried (level p i) i (drop (suc i) (wordsOf p page)) in
+      let m : r ≡ remainder p (level p i) (xor (s * 2 ^ checkBits p i) f₀) = v ∙ ap₂ (remainder p) g u in
       sym (digits-value 8 y (at-all (λ x. x < 2 ^ 8) y (λ j q. b j))) ∙ ap₂ (digits 8) (l ∙ e)
       (h ∙ ap₂ (λ (j x : ℕ). s * 2 ^ j + x) f m ∙ sum-checked s (carried (level p i) i (drop (suc i) (wordsOf p page)))
       ∙ ap (λ (x : ℕ). checked p (level p i) (x * 2 ^ checkBits p i) (carried (level p i) i (drop (suc i) (wordsOf p page)))) d)

@@ -18,21 +18,24 @@ use Rattle.code.specs.Layout.{Fits, blocksOf, pageBytes, pageOf, wordsOf}
 use Rattle.code.specs.Pages.{IsWords, blocks-blocks, encode-words, pageOf-eq}
 use Rattle.code.specs.Parameters.{Accepted, len, subWordBytes}
 use Rattle.code.specs.Placement.{encode-at}
-use Rattle.layout.specs.Parts.{page-parts, word-at, word-room}
+use Rattle.layout.specs.Parts.{page-parts, word-at, word-room, words-many}
 use Rattle.layout.specs.Replaced.{replaced, replaced-after, replaced-length, replaced-part}
-use Rattle.nested.specs.Bounds.{bits-all, words-many}
+use Rattle.layout.specs.Sizes.{bits-all}
 use Rattle.encode.specs.Encoding.{wordOf, written}
 
 pub record Encoded (p : Parameters) (blocks : List ℕ) (i : ℕ) (x : List ℕ) : Type 0 where
   pub exact : length x ≡ pageBytes p
-  pub each : (j : ℕ) → i ≤ j → j < p .m → take (subWordBytes p) (drop (j * subWordBytes p) x) ≡ digits 8 (subWordBytes p) (getD (encode p (blocksOf p blocks)) j 0)
+  pub each : (j : ℕ) → i ≤ j → j < p .m
+      → take (subWordBytes p) (drop (j * subWordBytes p) x) ≡ digits 8 (subWordBytes p) (getD (encode p (blocksOf p blocks)) j 0)
 
 -- lists of one length that agree from place k on
-drop-same : (k : ℕ) (xs ys : List ℕ) → length xs ≡ length ys → ((j : ℕ) → k ≤ j → j < length xs → getD xs j 0 ≡ getD ys j 0) → drop k xs ≡ drop k ys
+drop-same : (k : ℕ) (xs ys : List ℕ) → length xs ≡ length ys → ((j : ℕ) → k ≤ j → j < length xs → getD xs j 0 ≡ getD ys j 0)
+    → drop k xs ≡ drop k ys
 drop-same zero [] [] e h = refl
 drop-same zero [] (y ∷ ys) e h = absurd (Nat.suc-ne-zero (length ys) (sym e))
 drop-same zero (x ∷ xs) [] e h = absurd (Nat.suc-ne-zero (length xs) e)
-drop-same zero (x ∷ xs) (y ∷ ys) e h = ap₂ _∷_ (h 0 zero-le (suc-le-suc zero-le)) (drop-same zero xs ys (Nat.suc-inj e) (λ j l m. h (suc j) zero-le (suc-le-suc m)))
+drop-same zero (x ∷ xs) (y ∷ ys) e h =
+    ap₂ _∷_ (h 0 zero-le (suc-le-suc zero-le)) (drop-same zero xs ys (Nat.suc-inj e) (λ j l m. h (suc j) zero-le (suc-le-suc m)))
 drop-same (suc k) [] [] e h = refl
 drop-same (suc k) [] (y ∷ ys) e h = absurd (Nat.suc-ne-zero (length ys) (sym e))
 drop-same (suc k) (x ∷ xs) [] e h = absurd (Nat.suc-ne-zero (length xs) e)
@@ -56,7 +59,9 @@ module _ (p : Parameters) (A : Accepted p) (blocks : List ℕ) (F : Fits p block
   words = encode-words p R (blocksOf p blocks) (blocks-blocks p R blocks F)
 
   word-small : (j : ℕ) → j < p .m → getD cs j 0 < 2 ^ (8 * subWordBytes p)
-  word-small j h = Nat.lt-of-lt-of-le (all-at (λ c. c < 2 ^ len p) cs (words .below) j (omega (arith, words .many))) (pow-mono (omega (arith, bits-all p A)))
+  word-small j h =
+      Nat.lt-of-lt-of-le (all-at (λ c. c < 2 ^ len p) cs (words .below) j (omega (arith, words .many)))
+      (pow-mono (omega (arith, bits-all p A)))
 
   -- the later sub-words, as numbers
   later : (x : List ℕ) (i : ℕ) → Encoded p blocks i x → drop i (wordsOf p x) ≡ drop i cs
@@ -67,11 +72,12 @@ module _ (p : Parameters) (A : Accepted p) (blocks : List ℕ) (F : Fits p block
 
   word-is : (x : List ℕ) (i : ℕ) → i < p .m → Encoded p blocks (suc i) x → wordOf p blocks x i ≡ getD cs i 0
   word-is x i h e =
-      let f : (k : ℕ) → ℕ = λ k. checked p (level p k) (getD (blocksOf p blocks) i 0 * 2 ^ checkBits p k) (carried (level p k) k (drop (suc i) cs)) in
-      ap (λ (l : List ℕ). checked p (level p i) (getD (blocksOf p blocks) i 0 * 2 ^ checkBits p i) (carried (level p i) i l)) (later x (suc i) e)
-      ∙ sym (ap (λ (l : List ℕ). getD l i 0) (encode-eq p (blocksOf p blocks)) ∙ encode-at p 0 i (blocksOf p blocks) (rw (blocks-blocks p R blocks F .many) h)
-      ∙ ap (λ (l : List ℕ). checked p (level p (0 + i)) (getD (blocksOf p blocks) i 0 * 2 ^ checkBits p (0 + i)) (carried (level p (0 + i)) (0 + i) (drop (suc i) l))) (sym (encode-eq p (blocksOf p blocks)))
-      ∙ ap f (Nat.zero-add i))
+      let d = getD (blocksOf p blocks) i 0 in
+      let f : ℕ → List ℕ → ℕ = λ k l. checked p (level p k) (d * 2 ^ checkBits p k) (carried (level p k) k l) in
+      let g = encode-eq p (blocksOf p blocks) in
+      ap (f i) (later x (suc i) e)
+      ∙ sym (ap (λ (l : List ℕ). getD l i 0) g ∙ encode-at p 0 i (blocksOf p blocks) (rw (blocks-blocks p R blocks F .many) h)
+      ∙ ap (λ (l : List ℕ). f (0 + i) (drop (suc i) l)) (sym g) ∙ ap (λ (k : ℕ). f k (drop (suc i) cs)) (Nat.zero-add i))
 
   pub encoded-next : (x : List ℕ) (i : ℕ) → i < p .m → Encoded p blocks (suc i) x → Encoded p blocks i (written p x i (wordOf p blocks x i))
   encoded-next x i h e =
@@ -93,8 +99,11 @@ module _ (p : Parameters) (A : Accepted p) (blocks : List ℕ) (F : Fits p block
       room = rw (size, e .exact) (word-room p i h)
 
       go : (j : ℕ) → j < p .m → (i ≡ j) ⊎ (i < j) → take k (drop (j * k) (replaced x (i * k) y)) ≡ digits 8 k (getD cs j 0)
-      go j m (inl f) = rw (← f) (ap (λ (n : ℕ). take n (drop (i * k) (replaced x (i * k) y))) (sym size) ∙ replaced-part x (i * k) y room ∙ ap (digits 8 k) (word-is x i h e))
-      go j m (inr l) = ap (take k) (replaced-after x (i * k) y room (j * k) (rw (size, ← Nat.suc-mul i k) (Nat.mul-le-mul-right k l))) ∙ e .each j l m
+      go j m (inl f) =
+          rw (← f) (ap (λ (n : ℕ). take n (drop (i * k) (replaced x (i * k) y))) (sym size) ∙ replaced-part x (i * k) y room
+          ∙ ap (digits 8 k) (word-is x i h e))
+      go j m (inr l) =
+          ap (take k) (replaced-after x (i * k) y room (j * k) (rw (size, ← Nat.suc-mul i k) (Nat.mul-le-mul-right k l))) ∙ e .each j l m
 
   pub encoded-all : (x : List ℕ) (i : ℕ) → i ≡ 0 → Encoded p blocks i x → x ≡ pageOf p blocks
   encoded-all x i z e = page-parts p x cs (e .exact) (words .many) (λ j h. e .each j (rw z zero-le) h) ∙ sym (pageOf-eq p blocks)
@@ -106,11 +115,13 @@ pub record Going (p : Parameters) (blocks : List ℕ) (least most i : ℕ) (x ac
   pub high : i ≤ most
   pub room : length acc ≡ subWordBytes p + 8
 
-pub going-done : (p : Parameters) (blocks : List ℕ) (least most i : ℕ) (x acc : List ℕ) → Going p blocks least most i x acc → i ≤ least → Encoded p blocks least x
+pub going-done : (p : Parameters) (blocks : List ℕ) (least most i : ℕ) (x acc : List ℕ) → Going p blocks least most i x acc → i ≤ least
+    → Encoded p blocks least x
 going-done p blocks least most i x acc g h = rw (Nat.le-antisymm h (g .low)) at (g .page)
 
 pub going-next : (p : Parameters) (A : Accepted p) (blocks : List ℕ) (F : Fits p blocks) (least most i : ℕ) (x y acc acc′ : List ℕ)
-    → Going p blocks least most i x acc → least < i → most ≤ p .m → y ≡ written p x (i - 1) (wordOf p blocks x (i - 1)) → length acc′ ≡ length acc → Going p blocks least most (i - 1) y acc′
+    → Going p blocks least most i x acc → least < i → most ≤ p .m → y ≡ written p x (i - 1) (wordOf p blocks x (i - 1))
+    → length acc′ ≡ length acc → Going p blocks least most (i - 1) y acc′
 going-next p A blocks F least most i x y acc acc′ g h m e l =
     let s : suc (i - 1) ≡ i = omega arith in
     let b : i - 1 < p .m = omega (arith, g .high) in

@@ -1,41 +1,119 @@
-// Sub-words from their blocks: data above, check bits below.
+// Sub-words from their blocks: data above, check bits below; what later sub-words add to the rule of an earlier one.
 ghost use mathlib.Core.Path.{_≡_};
-ghost use Prim.Native.Nat.{ℕ, suc, _+_, _*_, _^_, _≤_, _<_};
+ghost use Prim.Native.Nat.{ℕ, suc, _+_, _*_, _%_, _^_, _≤_, _<_};
 ghost use lib.ListN.{length, drop};
 ghost use Rattle.polynomial.specs.Digits.{value};
 ghost use Rattle.polynomial.specs.Xor.{xor};
-ghost use Rattle.code.specs.Code.{carried, checkBits, degree, level, remainder};
+ghost use Rattle.code.specs.Code.{N, carried, checkBits, combine, degree, level, remainder};
 ghost use Rattle.code.specs.Calls.{generators};
 ghost use Rattle.code.specs.Layout.{dataBits, pageBytes, pageOf, wordsOf};
 ghost use Rattle.code.specs.Parameters.{Accepted, subWordBytes};
 ghost use Rattle.levels.specs.Ready.{Prepared};
+ghost use Rattle.encode.specs.Horner.{Over, Sums};
 ghost use Rattle.encode.specs.Page.{Encoded};
-ghost use Rattle.encode.specs.Encoding.{Ready, wordOf, written};
+ghost use Rattle.encode.specs.Encoding.{Ready, Writing, Making, wordOf, written};
 use code::Parameters;
+
+// ---- what later sub-words add
+
+// b and c are raised over a: of sums up to i = 1 only b, at i = 0 neither.
+fn raise_over(a: &[u8], b: &mut [u8], c: &mut [u8], i: usize)
+    requires { ⌜ (length (now a) % 8 ≡ 0) × (length (now b) ≡ length (now a)) × (length (now c) ≡ length (now a)) ⌝ }
+    ensures { λ x. ⌜ Over i (8 * length (now (a .entry))) (value 8 (now (a .entry))) (value 8 (now (b .entry))) (value 8 (now (c .entry)))
+        (value 8 (now (b .exit))) (value 8 (now (c .exit))) ⌝ }
+{
+    if i == 0 {
+        return;
+    }
+    kernels::bytes::raise(b, a, 1);
+    if i == 1 {
+        return;
+    }
+    kernels::bytes::raise(c, b, 2);
+}
+
+// The sub-words after i, the last first, are taken into sums by Horner's rule; a, b and c are 0 before.
+fn take_later(a: &mut [u8], b: &mut [u8], c: &mut [u8], p: Parameters, page: &[u8], i: usize)
+    requires { ⌜ Accepted p × (length (now page) ≡ pageBytes p) × (i < p .v) × (length (now a) % 8 ≡ 0) × (length (now a) < 8192)
+        × (length (now b) ≡ length (now a)) × (length (now c) ≡ length (now a))
+        × (value 8 (now a) ≡ 0) × (value 8 (now b) ≡ 0) × (value 8 (now c) ≡ 0) ⌝ }
+    ensures { λ x. ⌜ Sums i (8 * length (now (a .entry))) (drop (suc i) (wordsOf p (now (page .entry))))
+        (value 8 (now (a .exit))) (value 8 (now (b .exit))) (value 8 (now (c .exit))) ⌝ }
+{
+    let mut k = p.m as usize;
+    while i + 1 < k {
+        k -= 1;
+        let x = layout::sub_word(p, page, k);
+        kernels::bytes::add_up(a, x, 0);
+        raise_over(a, b, c, i);
+    }
+}
+
+// The sums that were taken are added into acc, each at its power of x.
+fn add_sums(acc: &mut [u8], p: Parameters, page: &[u8], i: usize, a: &[u8], b: &[u8], c: &[u8])
+    requires { ⌜ Accepted p × (length (now page) ≡ pageBytes p) × (i < p .v)
+        × (length (now acc) ≡ subWordBytes p + 8) × (length (now acc) ≤ length (now a))
+        × Sums i (8 * length (now a)) (drop (suc i) (wordsOf p (now page))) (value 8 (now a)) (value 8 (now b)) (value 8 (now c)) ⌝ }
+    ensures { λ x. ⌜ value 8 (now (acc .exit)) ≡ xor (value 8 (now (acc .entry)))
+        (combine (λ k. N k i) (suc i) (drop (suc i) (wordsOf p (now (page .entry))))) ⌝ }
+{
+    kernels::bytes::add_up(acc, a, 0);
+    if i == 0 {
+        return;
+    }
+    kernels::bytes::add_up(acc, b, 1);
+    if i == 1 {
+        return;
+    }
+    kernels::bytes::add_up(acc, c, 2);
+}
+
+// What the sub-words after i add to the rule of sub-word i is added into acc: N(k, i) × sub-word k, k above i.
+fn add_carried(acc: &mut [u8], p: Parameters, page: &[u8], i: usize)
+    requires { ⌜ Accepted p × (length (now page) ≡ pageBytes p) × (i < p .v) × (length (now acc) ≡ subWordBytes p + 8) ⌝ }
+    ensures { λ x. ⌜ value 8 (now (acc .exit)) ≡ xor (value 8 (now (acc .entry)))
+        (combine (λ k. N k i) (suc i) (drop (suc i) (wordsOf p (now (page .entry))))) ⌝ }
+{
+    let mut r0 = [0u8; 520];
+    let mut r1 = [0u8; 520];
+    let mut r2 = [0u8; 520];
+    let n = (layout::sub_word_bytes(p) + 15) / 8 * 8;
+    let a = &mut r0[..n];
+    let b = &mut r1[..n];
+    let c = &mut r2[..n];
+    take_later(a, b, c, p, page, i);
+    add_sums(acc, p, page, i, a, b, c);
+}
+
+// ---- one sub-word
 
 // Block i's data s in their places, and what the later sub-words add to the rule of sub-word i.
 fn ruled_into(acc: &mut [u8], p: Parameters, page: &[u8], i: usize, s: &[u8], bits: usize)
-    requires { ⌜ Accepted p × (length (now page) ≡ pageBytes p) × (i < p .m) × (bits ≡ checkBits p i) × (length (now acc) ≡ subWordBytes p + 8) × (value 8 (now s) < 2 ^ dataBits p i) ⌝ }
-    ensures { λ x. ⌜ value 8 (now (acc .exit)) ≡ xor (value 8 (now (s .entry)) * 2 ^ checkBits p i) (carried (level p i) i (drop (suc i) (wordsOf p (now (page .entry))))) ⌝ }
+    requires { ⌜ Accepted p × (length (now page) ≡ pageBytes p) × (i < p .m) × (bits ≡ checkBits p i)
+        × (length (now acc) ≡ subWordBytes p + 8) × (value 8 (now s) < 2 ^ dataBits p i) ⌝ }
+    ensures { λ x. ⌜ value 8 (now (acc .exit)) ≡ xor (value 8 (now (s .entry)) * 2 ^ checkBits p i)
+        (carried (level p i) i (drop (suc i) (wordsOf p (now (page .entry))))) ⌝ }
 {
     kernels::bytes::copy_up(acc, s, bits);
     if p.v as usize <= i {
         return;
     }
-    nested::add_carried(acc, p, page, i);
+    add_carried(acc, p, page, i);
 }
 
 // The remainder of acc by level a's generator, of degree w, whose table is t, `width` coefficients a step.
 fn check_of(r: &mut [u64], t: &[u64], acc: &[u8], p: Parameters, a: usize, w: usize, width: usize)
-    requires { ⌜ Accepted p × (a ≤ p .v) × (w ≡ degree p a) × Prepared p a (now t) × (length (now r) ≡ 13) × (length (now acc) < 1000) × (1 ≤ width) × (width ≤ 64) ⌝ }
+    requires { ⌜ Accepted p × (a ≤ p .v) × (w ≡ degree p a) × Prepared p a (now t) × (length (now r) ≡ 13) × (length (now acc) < 1000)
+        × (1 ≤ width) × (width ≤ 64) ⌝ }
     ensures { λ x. ⌜ value 64 (now (r .exit)) ≡ remainder p a (value 8 (now (acc .entry))) ⌝ }
 {
     kernels::remainder::remainder_of(r, t, acc, 8 * acc.len(), width, 768 - w);
 }
 
 // The data s moved up over their check bits r.
-fn put_word(part: &mut [u8], s: &[u8], bits: usize, r: &[u64])
-    requires { ⌜ (bits ≤ 768) × (bits ≤ 8 * length (now part)) × (length (now part) < 1000) × (length (now r) ≡ 13) × (value 64 (now r) < 2 ^ bits) × (value 8 (now s) * 2 ^ bits < 2 ^ (8 * length (now part))) ⌝ }
+fn put_sub_word(part: &mut [u8], s: &[u8], bits: usize, r: &[u64])
+    requires { ⌜ (bits ≤ 768) × (bits ≤ 8 * length (now part)) × (length (now part) < 1000) × (length (now r) ≡ 13)
+        × (value 64 (now r) < 2 ^ bits) × (value 8 (now s) * 2 ^ bits < 2 ^ (8 * length (now part))) ⌝ }
     ensures { λ x. ⌜ value 8 (now (part .exit)) ≡ value 8 (now (s .entry)) * 2 ^ bits + value 64 (now (r .entry)) ⌝ }
 {
     kernels::bytes::copy_up(part, s, bits);
@@ -53,7 +131,7 @@ fn write_word(
     t: &[u64],
     acc: &mut [u8],
 )
-    requires { ⌜ Ready p (now w) (now blocks) × (length (now page) ≡ pageBytes p) × (i < p .m) × (1 ≤ width) × (width ≤ 64) × Prepared p (level p i) (now t) × (length (now acc) ≡ subWordBytes p + 8) ⌝ }
+    requires { ⌜ Writing p (now w) (now blocks) (now page) width (now acc) × (i < p .m) × Prepared p (level p i) (now t) ⌝ }
     ensures { λ x. ⌜ now (page .exit) ≡ written p (now (page .entry)) i (wordOf p (now (blocks .entry)) (now (page .entry)) i) ⌝ }
 {
     let at = layout::block_offset(p, w, i);
@@ -68,7 +146,7 @@ fn write_word(
     let k = layout::sub_word_bytes(p);
     let start = i * k;
     let end = start + k;
-    put_word(&mut page[start..end], s, bits, &r);
+    put_sub_word(&mut page[start..end], s, bits, &r);
 }
 
 // The same with the table of the level made in t.
@@ -83,7 +161,7 @@ fn write_afresh(
     t: &mut [u64],
     acc: &mut [u8],
 )
-    requires { ⌜ Ready p (now w) (now blocks) × (rows ≡ generators p) × (length (now page) ≡ pageBytes p) × (i < p .m) × (1 ≤ width) × (width ≤ 64) × (length (now t) ≡ 3072) × (length (now acc) ≡ subWordBytes p + 8) ⌝ }
+    requires { ⌜ Making p rows (now w) (now blocks) (now page) width (now t) (now acc) × (i < p .m) ⌝ }
     ensures { λ x. ⌜ now (page .exit) ≡ written p (now (page .entry)) i (wordOf p (now (blocks .entry)) (now (page .entry)) i) ⌝ }
 {
     let a = layout::level_of(p, i);
@@ -91,6 +169,8 @@ fn write_afresh(
     levels::prepare(t, p, rows, a, bits);
     write_word(p, w, blocks, page, i, width, t, acc);
 }
+
+// ---- the page
 
 // Sub-words m - 1 down to v: level 0.
 fn write_later(
@@ -103,7 +183,7 @@ fn write_later(
     t: &mut [u64],
     acc: &mut [u8],
 )
-    requires { ⌜ Ready p (now w) (now blocks) × (rows ≡ generators p) × (length (now page) ≡ pageBytes p) × (1 ≤ width) × (width ≤ 64) × (length (now t) ≡ 3072) × (length (now acc) ≡ subWordBytes p + 8) ⌝ }
+    requires { ⌜ Making p rows (now w) (now blocks) (now page) width (now t) (now acc) ⌝ }
     ensures { λ x. ⌜ Encoded p (now (blocks .entry)) (p .v) (now (page .exit)) ⌝ }
 {
     let v = p.v as usize;
@@ -127,7 +207,7 @@ fn write_earlier(
     t: &mut [u64],
     acc: &mut [u8],
 )
-    requires { ⌜ Ready p (now w) (now blocks) × (rows ≡ generators p) × Encoded p (now blocks) (p .v) (now page) × (1 ≤ width) × (width ≤ 64) × (length (now t) ≡ 3072) × (length (now acc) ≡ subWordBytes p + 8) ⌝ }
+    requires { ⌜ Making p rows (now w) (now blocks) (now page) width (now t) (now acc) × Encoded p (now blocks) (p .v) (now page) ⌝ }
     ensures { λ x. ⌜ now (page .exit) ≡ pageOf p (now (blocks .entry)) ⌝ }
 {
     let mut i = p.v as usize;
@@ -137,8 +217,8 @@ fn write_earlier(
     }
 }
 
-// The page of the blocks, `width` coefficients a step. The array has one word more than the table: so the table stands at a multiple of 16 bytes in the frame of
-// the C call, where two words are read at a time, and no read crosses a line of the cache.
+// The page of the blocks, `width` coefficients a step. The array has one word more than the table: so the table stands at a multiple of
+// 16 bytes in the frame of the C call, where two words are read at a time, and no read crosses a line of the cache.
 pub fn encode(
     p: Parameters,
     rows: [[u64; 13]; 4],

@@ -1,17 +1,35 @@
 -- The words of a page as the program meets them, and judge's two searches over them.
+--   Judging p page t w               accepted parameters, a clear page of them, the table t of g_0, w the degree of g_0
+--   JudgingNested p page rows t acc  accepted parameters, a page of them, the generators' rows; room for a table and a nested word
 use mathlib.Core.Path.{_≡_, refl, ap, _∙_}
 use mathlib.Core.Bool.{Bool, not}
 use mathlib.Core.List.{List}
-use Prim.Native.Nat.{ℕ, _-_, _%_, _^_, _≤_, _<_}
+use Prim.Native.Nat.{ℕ, _+_, _-_, _%_, _^_, _≤_, _<_}
 use native.Mathlib.Nat as Nat
-use lib.Dec.{eqb}
-use lib.ListN.{getD}
+use lib.Dec.{T, eqb}
+use lib.ListN.{length, getD}
 use Rattle.kernels.specs.Table.{RemainderBy}
 use Rattle.code.specs.declared.Parameters.{Parameters}
+use Rattle.code.specs.Calls.{generators}
 use Rattle.code.specs.Code.{degree, remainder, nested, failing, failingNested}
-use Rattle.code.specs.Parameters.{Accepted, len}
+use Rattle.code.specs.Layout.{pageBytes, pageClear}
+use Rattle.code.specs.Parameters.{Accepted, len, nestedBytes}
 use Rattle.levels.specs.Ready.{Prepared, table-remainder}
 use Rattle.judge.specs.Search.{firstFrom}
+
+pub record Judging (p : Parameters) (page t : List ℕ) (w : ℕ) : Type 0 where
+  pub accepts : Accepted p
+  pub width : w ≡ degree p 0
+  pub table : Prepared p 0 t
+  pub exact : length page ≡ pageBytes p
+  pub clear : T (pageClear p page)
+
+pub record JudgingNested (p : Parameters) (page : List ℕ) (rows : List (List ℕ)) (t acc : List ℕ) : Type 0 where
+  pub accepts : Accepted p
+  pub rowed : rows ≡ generators p
+  pub exact : length page ≡ pageBytes p
+  pub table : length t ≡ 3072
+  pub room : length acc ≡ nestedBytes p + 8
 
 -- the tests of judge
 abbrev pub failsAt : Parameters → List ℕ → ℕ → Bool
@@ -29,5 +47,7 @@ unfolding failingNested firstFrom
 failingNested-eq p cs = refl
 
 module _ (p : Parameters) (A : Accepted p) where
-  pub passes-is : (t : List ℕ) (a w f r : ℕ) (z : Bool) → a ≤ p .v → w ≡ degree p a → Prepared p a t → f < 2 ^ len p → RemainderBy t (768 - w) (f % 2 ^ len p) r → z ≡ eqb r 0 → z ≡ eqb (remainder p a f) 0
-  passes-is t a w f r z h e P l Q s = s ∙ ap (λ (y : ℕ). eqb y 0) (table-remainder p A a w (f % 2 ^ len p) r t h e P Q ∙ ap (remainder p a) (Nat.mod-eq-of-lt l))
+  pub passes-is : (t : List ℕ) (a w f r : ℕ) (z : Bool) → a ≤ p .v → w ≡ degree p a → Prepared p a t → f < 2 ^ len p
+      → RemainderBy t (768 - w) (f % 2 ^ len p) r → z ≡ eqb r 0 → z ≡ eqb (remainder p a f) 0
+  passes-is t a w f r z h e P l Q s =
+      s ∙ ap (λ (y : ℕ). eqb y 0) (table-remainder p A a w (f % 2 ^ len p) r t h e P Q ∙ ap (remainder p a) (Nat.mod-eq-of-lt l))

@@ -1,14 +1,15 @@
 // Which word of a page fails: the lowest sub-word that is no multiple of g_0 or, if all are, the lowest nested word that fails.
 ghost use mathlib.Core.Path.{_≡_};
-ghost use Prim.Native.Nat.{_+_, _-_, _<_, _≤_, _^_};
+ghost use Prim.Native.Nat.{_-_, _<_, _≤_, _^_};
 ghost use lib.Dec.{T, eqb};
 ghost use lib.ListN.{length, getD};
 ghost use Rattle.polynomial.specs.Digits.{value};
 ghost use Rattle.code.specs.Calls.{Named, generators};
 ghost use Rattle.code.specs.Code.{degree, remainder, nested, failing, failingNested};
 ghost use Rattle.code.specs.Layout.{pageBytes, pageClear, wordsOf};
-ghost use Rattle.code.specs.Parameters.{Accepted, len, nestedBytes};
+ghost use Rattle.code.specs.Parameters.{Accepted, len};
 ghost use Rattle.levels.specs.Ready.{Prepared};
+ghost use Rattle.judge.specs.Judged.{Judging, JudgingNested};
 use code::Parameters;
 use code::Verdict;
 
@@ -25,19 +26,16 @@ pub fn passes(t: &[u64], s: &[u8], p: Parameters, a: usize, w: usize) -> bool
 
 // Is sub-word i a multiple of g_0, whose table is t?
 fn sub_word_passes(p: Parameters, page: &[u8], i: usize, t: &[u64], w: usize) -> bool
-    requires { ⌜ Accepted p × (w ≡ degree p 0) × Prepared p 0 (now t) × (length (now page) ≡ pageBytes p) × T (pageClear p (now page)) × (i < p .m) ⌝ }
+    requires { ⌜ Judging p (now page) (now t) w × (i < p .m) ⌝ }
     ensures { λ r. ⌜ r ≡ eqb (remainder p 0 (getD (wordsOf p (now (page .entry))) i 0)) 0 ⌝ }
 {
-    let k = layout::sub_word_bytes(p);
-    let start = i * k;
-    let end = start + k;
-    let s = &page[start..end];
+    let s = layout::sub_word(p, page, i);
     passes(t, s, p, 0, w)
 }
 
 // The lowest sub-word that is no multiple of g_0; m if there is none.
 fn first_failing(p: Parameters, page: &[u8], t: &[u64], w: usize) -> usize
-    requires { ⌜ Accepted p × (w ≡ degree p 0) × Prepared p 0 (now t) × (length (now page) ≡ pageBytes p) × T (pageClear p (now page)) ⌝ }
+    requires { ⌜ Judging p (now page) (now t) w ⌝ }
     ensures { λ r. ⌜ r ≡ failing p (wordsOf p (now (page .entry))) ⌝ }
 {
     let m = p.m as usize;
@@ -60,7 +58,7 @@ fn nested_passes(
     t: &mut [u64],
     acc: &mut [u8],
 ) -> bool
-    requires { ⌜ Accepted p × (rows ≡ generators p) × (length (now page) ≡ pageBytes p) × (l < p .v) × (length (now t) ≡ 3072) × (length (now acc) ≡ nestedBytes p + 8) ⌝ }
+    requires { ⌜ JudgingNested p (now page) rows (now t) (now acc) × (l < p .v) ⌝ }
     ensures { λ r. ⌜ r ≡ eqb (remainder p (p .v - l) (nested p l (wordsOf p (now (page .entry))))) 0 ⌝ }
 {
     let a = p.v as usize - l;
@@ -78,7 +76,7 @@ fn first_failing_nested(
     t: &mut [u64],
     acc: &mut [u8],
 ) -> usize
-    requires { ⌜ Accepted p × (rows ≡ generators p) × (length (now page) ≡ pageBytes p) × (length (now t) ≡ 3072) × (length (now acc) ≡ nestedBytes p + 8) ⌝ }
+    requires { ⌜ JudgingNested p (now page) rows (now t) (now acc) ⌝ }
     ensures { λ r. ⌜ r ≡ failingNested p (wordsOf p (now (page .entry))) ⌝ }
 {
     let v = p.v as usize;
@@ -92,8 +90,8 @@ fn first_failing_nested(
     v
 }
 
-// Judge's answer on a page, by the generators' rows. The array has one word more than the table: so the table stands at a multiple of 16 bytes in the frame of
-// the C call, where two words are read at a time, and no read crosses a line of the cache.
+// Judge's answer on a page, by the generators' rows. The array has one word more than the table: so the table stands at a multiple of
+// 16 bytes in the frame of the C call, where two words are read at a time, and no read crosses a line of the cache.
 pub fn verdict_of(p: Parameters, rows: [[u64; 13]; 4], page: &[u8]) -> Verdict
     requires { ⌜ Accepted p × (rows ≡ generators p) × (length (now page) ≡ pageBytes p) × T (pageClear p (now page)) ⌝ }
     ensures { λ r. ⌜ Named p (wordsOf p (now (page .entry))) r ⌝ }

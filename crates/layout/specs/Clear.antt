@@ -13,11 +13,11 @@ use lib.ListN.{length, getD, drop, replicate, length-replicate, getD-replicate, 
 use lib.Seq.{drop-cons}
 use Rattle.code.specs.declared.Parameters.{Parameters}
 use Rattle.code.specs.Bytes.{length-split}
-use Rattle.code.specs.Layout.{blockBits, blockOffset, blockSizes, blocksClear, blocksOf, dataBits, dataBytes, pageBytes, pageClear, wordSizes, wordsOf}
+use Rattle.code.specs.Layout.{blockBits, blockOffset, blockSizes, blocksClear, blocksOf, dataBits, dataBytes, pageBytes, pageClear, wordsOf}
 use Rattle.code.specs.Lists.{within}
-use Rattle.code.specs.Pages.{blocksOf-eq, length-bits, length-blocks, wordsOf-eq}
+use Rattle.code.specs.Pages.{blocksOf-eq, length-bits, length-blocks}
 use Rattle.code.specs.Parameters.{Accepted, stored, subWordBytes}
-use Rattle.layout.specs.Parts.{bits-at, block-at, length-words, block-room, offset-next, offset-zero, word-at, word-room}
+use Rattle.layout.specs.Parts.{bits-at, block-at, block-room, offset-next, offset-zero, word-at, word-room, words-many}
 use Rattle.layout.specs.Runs.{runClear}
 use Rattle.layout.specs.Sizes.{data-high, data-low, stored-high, stored-low, stored-bytes}
 
@@ -64,8 +64,8 @@ module _ (p : Parameters) (x : List ℕ) where
   length-word-bits : length (wordBits p) ≡ p .m
   length-word-bits = length-replicate (p .m) (stored p)
 
-  words-many : length (wordsOf p x) ≡ length (wordBits p)
-  words-many = rw (wordsOf-eq p x) (length-split (wordSizes p) x ∙ length-words p ∙ sym length-word-bits)
+  each-word : length (wordsOf p x) ≡ length (wordBits p)
+  each-word = words-many p x ∙ sym length-word-bits
 
   pub words-start : WordsClear p x 0
   words-start = clear-start (wordBits p) (wordsOf p x)
@@ -82,10 +82,10 @@ module _ (p : Parameters) (x : List ℕ) where
     word-test = rw (e, f) (sym (ap₂ (λ (y k : ℕ). ltb y (2 ^ k)) (word-at p x i h) (getD-replicate (p .m) i (stored p) 0 h)))
 
     pub words-turn : WordsClear p x i → runClear x (i * b) b n ≡ true → WordsClear p x (i + 1)
-    words-turn s t = clear-turn (wordBits p) (wordsOf p x) words-many i s (rw length-word-bits h) (sym word-test ∙ t)
+    words-turn s t = clear-turn (wordBits p) (wordsOf p x) each-word i s (rw length-word-bits h) (sym word-test ∙ t)
 
     pub words-found : WordsClear p x i → runClear x (i * b) b n ≡ false → false ≡ pageClear p x
-    words-found s t = clear-found (wordBits p) (wordsOf p x) words-many i s (rw length-word-bits h) (sym word-test ∙ t) ∙ sym page-eq
+    words-found s t = clear-found (wordBits p) (wordsOf p x) each-word i s (rw length-word-bits h) (sym word-test ∙ t) ∙ sym page-eq
 
 -- ---- the unused bits of blocks
 pub record BlocksClear (p : Parameters) (x : List ℕ) (at i : ℕ) : Type 0 where
@@ -121,4 +121,5 @@ module _ (p : Parameters) (x : List ℕ) where
     }
 
     pub blocks-found : runClear x at k b ≡ false → false ≡ blocksClear p x
-    blocks-found t = clear-found (blockBits p) (blocksOf p x) blocks-many i (s .clear) (rw (length-bits p) h) (sym block-test ∙ t) ∙ sym blocks-eq
+    blocks-found t =
+        clear-found (blockBits p) (blocksOf p x) blocks-many i (s .clear) (rw (length-bits p) h) (sym block-test ∙ t) ∙ sym blocks-eq

@@ -10,6 +10,7 @@ use lib.ListN.{length, getD, take, drop, length-replicate, getD-replicate, List�
 use Rattle.polynomial.specs.Digits.{digits, value}
 use Rattle.code.specs.declared.Parameters.{Parameters}
 use Rattle.code.specs.Accepted.{accepted}
+use Rattle.code.specs.Bytes.{length-split}
 use Rattle.code.specs.Layout.{blockBits, blockOffset, blockSizes, blocksOf, dataBits, dataBytes, pageBytes, wordSizes, wordsOf}
 use Rattle.code.specs.Lists.{join, sum}
 use Rattle.code.specs.Pages.{blockBits-eq, blockSizes-eq, blocksOf-eq, length-blocks, wordsOf-eq}
@@ -30,6 +31,9 @@ module _ (p : Parameters) where
   word-begin : (i : ℕ) → i ≤ p .m → sum (take i (wordSizes p)) ≡ i * subWordBytes p
   word-begin i h = offset-replicate (p .m) (subWordBytes p) i h
 
+  pub words-many : (x : List ℕ) → length (wordsOf p x) ≡ p .m
+  words-many x = rw (wordsOf-eq p x) (length-split (wordSizes p) x ∙ length-words)
+
   -- sub-word i ends before the page does
   pub word-room : (i : ℕ) → i < p .m → i * subWordBytes p + subWordBytes p ≤ pageBytes p
   word-room i h = rw (← Nat.suc-mul i (subWordBytes p)) (Nat.mul-le-mul-right (subWordBytes p) h)
@@ -45,7 +49,8 @@ module _ (p : Parameters) where
       → ((i : ℕ) → i < p .m → take (subWordBytes p) (drop (i * subWordBytes p) x) ≡ digits 8 (subWordBytes p) (getD cs i 0))
       → x ≡ join (wordSizes p) cs
   page-parts x cs e l h =
-      join-parts (wordSizes p) cs x (l ∙ sym length-words) (e ∙ sym (word-begin (p .m) (Nat.le-refl (p .m))) ∙ sum-all (wordSizes p) (p .m) length-words)
+      join-parts (wordSizes p) cs x (l ∙ sym length-words)
+      (e ∙ sym (word-begin (p .m) (Nat.le-refl (p .m))) ∙ sum-all (wordSizes p) (p .m) length-words)
       (λ i b. let k : i < p .m = rw length-words at b in
       rw (page-size p i k, word-begin i (Nat.le-of-suc-le k)) (h i k))
 
@@ -86,7 +91,8 @@ module _ (p : Parameters) where
   block-room i h = rw (← offset-next i h) (offset-le (i + 1))
 
   -- the number of block i
-  pub block-at : (x : List ℕ) (i : ℕ) → i < p .m → getD (blocksOf p x) i 0 ≡ value 8 (take ((dataBits p i + 7) / 8) (drop (blockOffset p i) x))
+  pub block-at : (x : List ℕ) (i : ℕ) → i < p .m
+      → getD (blocksOf p x) i 0 ≡ value 8 (take ((dataBits p i + 7) / 8) (drop (blockOffset p i) x))
   block-at x i h =
       rw (blocksOf-eq p x) (split-at (blockSizes p) x i (rw (length-blocks p) h)
       ∙ ap₂ (λ (k o : ℕ). value 8 (take k (drop o x))) (block-size p i h) (sym (offset-eq p i)))

@@ -18,11 +18,15 @@ module _ (x : List ℕ) (a : ℕ) (y : List ℕ) (room : a + length y ≤ length
 
   pub replaced-length : length (replaced x a y) ≡ length x
   replaced-length =
-      length-append (take a x) (y ++ drop (length y) (drop a x)) ∙ ap₂ _+_ front-length (length-append y (drop (length y) (drop a x)) ∙ ap (λ (k : ℕ). length y + k) (length-drop (length y) (drop a x) ∙ ap (λ (k : ℕ). k - length y) (length-drop a x)))
+      length-append (take a x) (y ++ drop (length y) (drop a x))
+      ∙ ap₂ _+_ front-length (length-append y (drop (length y) (drop a x))
+      ∙ ap (λ (k : ℕ). length y + k) (length-drop (length y) (drop a x) ∙ ap (λ (k : ℕ). k - length y) (length-drop a x)))
       ∙ omega arith
 
   pub replaced-part : take (length y) (drop a (replaced x a y)) ≡ y
-  replaced-part = ap (take (length y)) (drop-at (take a x) (y ++ drop (length y) (drop a x)) a front-length) ∙ take-at y (drop (length y) (drop a x)) (length y) refl
+  replaced-part =
+      ap (take (length y)) (drop-at (take a x) (y ++ drop (length y) (drop a x)) a front-length)
+      ∙ take-at y (drop (length y) (drop a x)) (length y) refl
 
   -- what lies before is kept
   fore : (b l : ℕ) (rest : List ℕ) → b + l ≤ a → take l (drop b (take a x ++ rest)) ≡ take l (drop b (take a x))
@@ -32,7 +36,8 @@ module _ (x : List ℕ) (a : ℕ) (y : List ℕ) (room : a + length y ≤ length
 
   pub replaced-before : (b l : ℕ) → b + l ≤ a → take l (drop b (replaced x a y)) ≡ take l (drop b x)
   replaced-before b l h =
-      fore b l (y ++ drop (length y) (drop a x)) h ∙ sym (fore b l (drop a x) h) ∙ ap (λ (z : List ℕ). take l (drop b z)) (take-append-drop a x)
+      fore b l (y ++ drop (length y) (drop a x)) h ∙ sym (fore b l (drop a x) h)
+      ∙ ap (λ (z : List ℕ). take l (drop b z)) (take-append-drop a x)
 
   -- and what lies behind
   pub replaced-after : (b : ℕ) → a + length y ≤ b → drop b (replaced x a y) ≡ drop b x
@@ -40,14 +45,17 @@ module _ (x : List ℕ) (a : ℕ) (y : List ℕ) (room : a + length y ≤ length
       let c = b - a - length y in
       let e : b ≡ length (take a x) + (length y + c) = omega (arith, front-length) in
       let f : a + (length y + c) ≡ b = omega arith in
-      ap (λ (k : ℕ). drop k (replaced x a y)) e ∙ drop-append-add (take a x) (y ++ drop (length y) (drop a x)) (length y + c) ∙ drop-append-add y (drop (length y) (drop a x)) c
+      ap (λ (k : ℕ). drop k (replaced x a y)) e ∙ drop-append-add (take a x) (y ++ drop (length y) (drop a x)) (length y + c)
+      ∙ drop-append-add y (drop (length y) (drop a x)) c
       ∙ drop-drop c (length y) (drop a x) ∙ drop-drop (length y + c) a x ∙ ap (λ (k : ℕ). drop k x) f
 
 -- ---- as the prover states it: the part lent from a on, of size k, came back as y
-pub put-is : (x y z : List ℕ) (at size o : ℕ) → at ≡ o → y ≡ z → length z ≡ size → take at x ++ (y ++ drop (at + size - at) (drop at x)) ≡ replaced x o z
+pub put-is : (x y z : List ℕ) (at size o : ℕ) → at ≡ o → y ≡ z → length z ≡ size
+    → take at x ++ (y ++ drop (at + size - at) (drop at x)) ≡ replaced x o z
 put-is x y z at size o e f l =
     let s : at + size - at ≡ length z = omega arith in
-    ap₂ (λ (i : ℕ) (w : List ℕ). take i x ++ (w ++ drop (at + size - at) (drop i x))) e f ∙ ap (λ (k : ℕ). take o x ++ (z ++ drop k (drop o x))) s
+    ap₂ (λ (i : ℕ) (w : List ℕ). take i x ++ (w ++ drop (at + size - at) (drop i x))) e f
+    ∙ ap (λ (k : ℕ). take o x ++ (z ++ drop k (drop o x))) s
 
 pub middle-bytes : (x y t : List ℕ) → ((i : ℕ) → getD (x ++ (y ++ t)) i 0 < 2 ^ 8) → (j : ℕ) → getD y j 0 < 2 ^ 8
 middle-bytes x y t h j = go (decLt j (length y))

@@ -28,7 +28,8 @@ pub sum-next : (ks : List ℕ) (i : ℕ) → i < length ks → sum (take (suc i)
 unfolding sum
 sum-next [] i h = absurd (Nat.not-suc-le-zero h)
 sum-next (k ∷ ks) zero h = Nat.add-comm k 0
-sum-next (k ∷ ks) (suc i) h = ap (λ (y : ℕ). k + y) (sum-next ks i (Nat.le-of-suc-le-suc h)) ∙ sym (Nat.add-assoc k (sum (take i ks)) (getD ks i 0))
+sum-next (k ∷ ks) (suc i) h =
+    ap (λ (y : ℕ). k + y) (sum-next ks i (Nat.le-of-suc-le-suc h)) ∙ sym (Nat.add-assoc k (sum (take i ks)) (getD ks i 0))
 
 pub sum-le : (ks : List ℕ) (i : ℕ) → sum (take i ks) ≤ sum ks
 unfolding sum
@@ -43,7 +44,8 @@ unfolding split sum
 split-at [] bs i h = absurd (Nat.not-suc-le-zero h)
 split-at (k ∷ ks) bs zero h = refl
 split-at (k ∷ ks) bs (suc i) h =
-    split-at ks (drop k bs) i (Nat.le-of-suc-le-suc h) ∙ ap (λ (l : List ℕ). value 8 (take (getD ks i 0) l)) (drop-drop (sum (take i ks)) k bs)
+    split-at ks (drop k bs) i (Nat.le-of-suc-le-suc h)
+    ∙ ap (λ (l : List ℕ). value 8 (take (getD ks i 0) l)) (drop-drop (sum (take i ks)) k bs)
 
 empty : (x : List ℕ) → length x ≡ 0 → x ≡ []
 empty [] e = refl
@@ -56,7 +58,8 @@ unfolding join sum
 join-parts [] cs x e l h = empty x l
 join-parts (k ∷ ks) [] x e l h = absurd (Nat.suc-ne-zero (length ks) (sym e))
 join-parts (k ∷ ks) (c ∷ cs) x e l h =
-    sym (take-append-drop k x) ∙ ap₂ _++_ (h 0 (suc-le-suc zero-le)) (join-parts ks cs (drop k x) (Nat.suc-inj e) (length-drop k x ∙ omega arith)
+    sym (take-append-drop k x) ∙ ap₂ _++_ (h 0 (suc-le-suc zero-le))
+    (join-parts ks cs (drop k x) (Nat.suc-inj e) (length-drop k x ∙ omega arith)
     (λ i b. ap (take (getD ks i 0)) (drop-drop (sum (take i ks)) k x) ∙ h (suc i) (suc-le-suc b)))
 
 -- ---- a number is below 2^b exactly when the last byte of its run is below the bits that are left for it
@@ -72,7 +75,8 @@ same-test a b c d f g = by (ltb a b) (ltb c d) refl refl
 lower-byte : (a x b : ℕ) → x < 256 → ltb (a * 2 ^ 8 + x) (2 ^ (b + 8)) ≡ ltb a (2 ^ b)
 lower-byte a x b h = rw (pow-add 2 b 8) (same-test (a * 2 ^ 8 + x) (2 ^ b * 2 ^ 8) a (2 ^ b) (λ l. omega arith) (λ l. omega arith))
 
-pub last-byte : (l : List ℕ) (k b : ℕ) → Bytes l → length l ≡ suc k → 8 * k ≤ b → ltb (value 8 l) (2 ^ b) ≡ ltb (getD l k 0) (2 ^ (b - 8 * k))
+pub last-byte : (l : List ℕ) (k b : ℕ) → Bytes l → length l ≡ suc k → 8 * k ≤ b
+    → ltb (value 8 l) (2 ^ b) ≡ ltb (getD l k 0) (2 ^ (b - 8 * k))
 unfolding value
 last-byte [] k b h e r = absurd (Nat.suc-ne-zero k (sym e))
 last-byte (x ∷ []) zero b h e r =
@@ -92,11 +96,16 @@ abbrev pub runClear : List ℕ → ℕ → ℕ → ℕ → Bool
 runClear l at k b = ltb (value 8 (take k (drop at l))) (2 ^ b)
 
 -- the test of a run of as many bytes as b bits take
-pub run-test : (l : List ℕ) (at k b u : ℕ) → ((i : ℕ) → getD l i 0 < 256) → 1 ≤ b → k ≡ (b + 7) / 8 → at + k ≤ length l → u ≡ 2 ^ (8 - (8 * k - b))
+pub run-test : (l : List ℕ) (at k b u : ℕ) → ((i : ℕ) → getD l i 0 < 256) → 1 ≤ b → k ≡ (b + 7) / 8 → at + k ≤ length l
+    → u ≡ 2 ^ (8 - (8 * k - b))
     → ltb (getD l (at + k - 1) 0) u ≡ runClear l at k b
 run-test l at k b u h low f room e =
     let i : at + k - 1 ≡ at + (k - 1) = omega arith in
     let j : 8 - (8 * k - b) ≡ b - 8 * (k - 1) = omega arith in
-    let run : Bytes (take k (drop at l)) = all-take (λ d. d < 256) k (drop at l) (all-drop (λ d. d < 256) at l (at-all (λ d. d < 256) l (λ n _. h n))) in
-    sym (last-byte (take k (drop at l)) (k - 1) b run (length-take-le k (drop at l) (rw (length-drop at l) (omega arith)) ∙ omega arith) (omega arith)
-    ∙ ap₂ ltb (getD-take k (drop at l) (k - 1) 0 (omega arith) ∙ getD-drop at l (k - 1) 0 ∙ ap (λ (n : ℕ). getD l n 0) (sym i)) (sym (e ∙ ap (λ (n : ℕ). 2 ^ n) j)))
+    let behind : Bytes (drop at l) = all-drop (λ d. d < 256) at l (at-all (λ d. d < 256) l (λ n _. h n)) in
+    let run : Bytes (take k (drop at l)) = all-take (λ d. d < 256) k (drop at l) behind in
+    let left : k ≤ length (drop at l) = rw (length-drop at l) (omega arith) in
+    let size : length (take k (drop at l)) ≡ suc (k - 1) = length-take-le k (drop at l) left ∙ omega arith in
+    sym (last-byte (take k (drop at l)) (k - 1) b run size (omega arith)
+    ∙ ap₂ ltb (getD-take k (drop at l) (k - 1) 0 (omega arith) ∙ getD-drop at l (k - 1) 0 ∙ ap (λ (n : ℕ). getD l n 0) (sym i))
+    (sym (e ∙ ap (λ (n : ℕ). 2 ^ n) j)))

@@ -63,6 +63,13 @@ module _ (p : Parameters) (A : Accepted p) where
   pub length-high : len p < 4096
   length-high = by-known (λ q. 2 ^ q - 1 < 4096) (lit< tt) (lit< tt) (lit< tt) (p .q) (R .known)
 
+  pub length-low : 15 ≤ len p
+  length-low = by-known (λ q. 15 ≤ 2 ^ q - 1) (lit≤ tt) (lit≤ tt) (lit≤ tt) (p .q) (R .known)
+
+  -- a sub-word's bytes have one bit more than the cyclic length
+  pub bits-all : 8 * subWordBytes p ≡ len p + 1
+  bits-all = by-known (λ q. 8 * (2 ^ q / 8) ≡ 2 ^ q - 1 + 1) refl refl refl (p .q) (R .known)
+
   -- a sub-word takes the bytes of its stored coefficients
   pub stored-bytes : (stored p + 7) / 8 ≡ subWordBytes p
   stored-bytes = by-known (λ q. (2 ^ q - 1 + 7) / 8 ≡ 2 ^ q / 8) refl refl refl (p .q) (R .known)

@@ -5,7 +5,7 @@ use mathlib.Core.List.{List}
 use Prim.Native.Nat.{ℕ, _+_, _-_, _*_, _^_, _≤_, _<_}
 use native.Mathlib.Nat as Nat
 use native.Mathlib.Omega.{arith}
-use lib.Dec.{T}
+use lib.Dec.{T, lt→ltb, ltb→lt}
 use lib.ListN.{length, getD, take, drop}
 use Rattle.polynomial.specs.Digits.{value}
 use Rattle.polynomial.specs.Sums.{all-at, at-all}
@@ -15,7 +15,8 @@ use Rattle.code.specs.Layout.{IsPage, pageBytes, pageClear, wordsOf}
 use Rattle.code.specs.Pages.{page-words}
 use Rattle.code.specs.Parameters.{Accepted, len, stored, subWordBytes}
 use Rattle.layout.specs.Parts.{word-at, word-room}
-use Rattle.layout.specs.Sizes.{page-high}
+use Rattle.layout.specs.Runs.{run-test}
+use Rattle.layout.specs.Sizes.{bits-all, page-high}
 
 -- a page's bytes
 pub is-page : (p : Parameters) (x : List ℕ) → ((i : ℕ) → getD x i 0 < 2 ^ 8) → length x ≡ pageBytes p → T (pageClear p x) → IsPage p x
@@ -23,10 +24,22 @@ is-page p x b e c = record { bytes = at-all (λ d. d < 256) x (λ i h. b i); exa
 
 module _ (p : Parameters) (A : Accepted p) where
   -- sub-word i, as a part of the page
-  pub part-is : (x : List ℕ) → IsPage p x → (i : ℕ) → i < p .m → value 8 (take (subWordBytes p) (drop (i * subWordBytes p) x)) < 2 ^ stored p
+  pub part-is : (x : List ℕ) → IsPage p x → (i : ℕ) → i < p .m
+      → value 8 (take (subWordBytes p) (drop (i * subWordBytes p) x)) < 2 ^ stored p
   part-is x h i l =
       let w = page-words p (accepted p A) x h in
       rw (word-at p x i l) at (all-at (λ c. c < 2 ^ len p) (wordsOf p x) (w .below) i (omega (arith, w .many)))
+
+  -- sub-word i of any bytes, as a number
+  pub word-lt : (x : List ℕ) → ((i : ℕ) → getD x i 0 < 2 ^ 8) → length x ≡ pageBytes p → (i : ℕ) → i < p .m
+      → getD (wordsOf p x) i 0 < 2 ^ (len p + 1)
+  word-lt x b e i h =
+      let k = subWordBytes p in
+      let a = bits-all p A in
+      let s : 8 - (8 * k - (len p + 1)) ≡ 8 = omega arith in
+      let room : i * k + k ≤ length x = rw e (word-room p i h) in
+      let test = run-test x (i * k) k (len p + 1) (2 ^ 8) b (omega arith) (omega arith) room (ap (λ (n : ℕ). 2 ^ n) (sym s)) in
+      rw (word-at p x i h) (ltb→lt _ (2 ^ (len p + 1)) (rw test at (lt→ltb _ (2 ^ 8) (b (i * k + k - 1)))))
 
   -- sub-word i of k bytes lies within the page, which is small
   pub part-room : (i k : ℕ) → k ≡ subWordBytes p → i < p .m → i * k + k ≤ pageBytes p
@@ -40,7 +53,9 @@ module _ (p : Parameters) (A : Accepted p) where
   partOf x i k = take (i * k + k - i * k) (drop (i * k) x)
 
   pub part-same : (x : List ℕ) (i k : ℕ) → k ≡ subWordBytes p → partOf x i k ≡ take (subWordBytes p) (drop (i * subWordBytes p) x)
-  part-same x i k e = let a : i * k + k - i * k ≡ k = omega arith in ap (λ (j : ℕ). take j (drop (i * k) x)) a ∙ ap (λ (j : ℕ). take j (drop (i * j) x)) e
+  part-same x i k e =
+      let a : i * k + k - i * k ≡ k = omega arith in
+      ap (λ (j : ℕ). take j (drop (i * k) x)) a ∙ ap (λ (j : ℕ). take j (drop (i * j) x)) e
 
   pub part-lt : (x : List ℕ) → IsPage p x → (i k : ℕ) → k ≡ subWordBytes p → i < p .m → value 8 (partOf x i k) < 2 ^ stored p
   part-lt x h i k e l = rw (part-same x i k e) (part-is x h i l)

@@ -1,7 +1,7 @@
-// Lengths of pages and blocks, and the tests for stray bits.
+// Lengths of pages and blocks, a page's sub-words, and the tests for stray bits.
 ghost use mathlib.Core.Path.{_≡_};
-ghost use Prim.Native.Nat.{_+_, _/_, _^_, _≤_, _<_};
-ghost use lib.ListN.{length};
+ghost use Prim.Native.Nat.{_+_, _*_, _/_, _^_, _≤_, _<_};
+ghost use lib.ListN.{length, take, drop};
 ghost use Rattle.code.specs.Parameters.{Accepted, len, stored, subWordBytes, nestedBytes, full};
 ghost use Rattle.code.specs.Code.{level, checkBits};
 ghost use Rattle.code.specs.Layout.{pageBytes, dataBits, dataBytes, blockOffset, pageClear, blocksClear};
@@ -122,6 +122,19 @@ pub fn data_bytes(p: Parameters, w: &[u32]) -> usize
     ensures { λ r. ⌜ r ≡ dataBytes p ⌝ }
 {
     block_offset(p, w, p.m as usize)
+}
+
+// ---- sub-words
+
+// The bytes of sub-word i.
+pub fn sub_word(p: Parameters, page: &[u8], i: usize) -> &[u8]
+    requires { ⌜ Accepted p × (length (now page) ≡ pageBytes p) × (i < p .m) ⌝ }
+    ensures { λ r. ⌜ now r ≡ take (subWordBytes p) (drop (i * subWordBytes p) (now (page .entry))) ⌝ }
+{
+    let b = sub_word_bytes(p);
+    let at = i * b;
+    let end = at + b;
+    &page[at..end]
 }
 
 // ---- stray bits

@@ -1,7 +1,3 @@
--- Laws that the sums of sub-words are proved by.
+-- Laws that nested words are proved by.
 pub mod Sums
-pub mod Product
-pub mod Bounds
 pub mod Turned
-pub mod Horner
-pub mod Carried

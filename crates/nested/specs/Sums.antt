@@ -13,7 +13,8 @@ use Rattle.code.specs.Code.{combine}
 use Rattle.code.specs.Steps.{combine-nil, combine-cons}
 
 -- one word more at the end
-pub combine-snoc : (f : ℕ → ℕ) (i k : ℕ) (cs : List ℕ) → combine f i (take (suc k) cs) ≡ xor (combine f i (take k cs)) (clmul (f (i + k)) (getD cs k 0))
+pub combine-snoc : (f : ℕ → ℕ) (i k : ℕ) (cs : List ℕ)
+    → combine f i (take (suc k) cs) ≡ xor (combine f i (take k cs)) (clmul (f (i + k)) (getD cs k 0))
 combine-snoc f i zero [] = simp (combine-nil, clmul-zero-r, xors)
 combine-snoc f i zero (c ∷ cs) = simp (combine-nil, combine-cons, Nat.add-zero, xors)
 combine-snoc f i (suc k) [] = simp (combine-nil, clmul-zero-r, xors)
@@ -49,4 +50,5 @@ module _ (f : ℕ → ℕ) (from : ℕ) (cs : List ℕ) (x₀ : ℕ) where
 
   pub combined-done : (x k : ℕ) → Combined f from cs x₀ x k → length cs ≤ k → x ≡ xor x₀ (combine f from (drop from cs))
   combined-done x k s h =
-      s .sum ∙ ap (λ (l : List ℕ). xor x₀ (combine f from l)) (take-all (k - from) (drop from cs) (rw (length-drop from cs) (omega (arith, s .reached))))
+      s .sum ∙ ap (λ (l : List ℕ). xor x₀ (combine f from l))
+      (take-all (k - from) (drop from cs) (rw (length-drop from cs) (omega (arith, s .reached))))

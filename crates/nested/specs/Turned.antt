@@ -1,5 +1,6 @@
 -- Nested words, sub-word by sub-word.
---   Turned p l page y i    the first i sub-words of the page, each at its power of x in nested word l, add up to y, which has at most n + 15 bits
+--   Turned p l page y i    the first i sub-words of the page, each at its power of x in nested word l, add up to y, which has at most
+--                          n + 15 bits
 use mathlib.Core.Path.{_≡_, refl, sym, ap, ap₂, _∙_}
 use mathlib.Core.List.{List}
 use Prim.Native.Nat.{ℕ, _+_, _*_, _%_, _^_, _≤_, _<_}
@@ -19,11 +20,11 @@ use Rattle.code.specs.Code.{combine, nested, place}
 use Rattle.code.specs.Layout.{pageBytes, wordsOf}
 use Rattle.code.specs.Parameters.{Accepted, len, nestedBytes, subWordBytes}
 use Rattle.code.specs.Steps.{nested-eq}
-use Rattle.layout.specs.Parts.{word-at}
-use Rattle.layout.specs.Sizes.{length-high}
+use Rattle.layout.specs.Parts.{word-at, words-many}
+use Rattle.layout.specs.Sizes.{bits-all, length-high, length-low}
+use Rattle.layout.specs.SubWords.{word-lt}
 use Rattle.kernels.specs.Value.{Bounded, bounded-all, bounded-take, take-mod}
 use Rattle.nested.specs.Sums.{Combined, combined-start, combined-turn, combined-done}
-use Rattle.nested.specs.Bounds.{bits-all, len-low, word-lt, words-many}
 
 pub record Turned (p : Parameters) (l : ℕ) (page : List ℕ) (y i : ℕ) : Type 0 where
   pub low : y < 2 ^ (len p + 15)
@@ -57,13 +58,16 @@ module _ (p : Parameters) (A : Accepted p) (l : ℕ) (page : List ℕ) where
 
     pub turned-turn : (x x′ : ℕ) → x′ ≡ xor x (value 8 w * 2 ^ (l * i) % 2 ^ (8 * k)) → Turned p l page x i → Turned p l page x′ (i + 1)
     turned-turn x x′ g s = record {
-      low = rw g (xor-lt (len p + 15) x (value 8 w * 2 ^ (l * i) % 2 ^ (8 * k)) (s .low) (Nat.lt-of-le-of-lt (Nat.mod-le (value 8 w * 2 ^ (l * i)) (2 ^ (8 * k))) term-lt));
+      low =
+          rw g (xor-lt (len p + 15) x (value 8 w * 2 ^ (l * i) % 2 ^ (8 * k)) (s .low)
+          (Nat.lt-of-le-of-lt (Nat.mod-le (value 8 w * 2 ^ (l * i)) (2 ^ (8 * k))) term-lt));
       sum = combined-turn (λ k. 2 ^ place l k) 0 (wordsOf p page) 0 x x′ i (s .sum) (g ∙ ap (xor x) term-fits);
     }
 
   -- the first sub-word stays in its place
   pub turned-first : (w : List ℕ) (k x : ℕ) → l < p .v → Bounded 8 page → length page ≡ pageBytes p
-      → w ≡ take (subWordBytes p) (drop (0 * subWordBytes p) page) → k ≡ nestedBytes p + 8 → x ≡ value 8 w * 1 % 2 ^ (8 * k) → Turned p l page x 1
+      → w ≡ take (subWordBytes p) (drop (0 * subWordBytes p) page) → k ≡ nestedBytes p + 8 → x ≡ value 8 w * 1 % 2 ^ (8 * k)
+      → Turned p l page x 1
   turned-first w k x h b e f hk g =
       turned-turn h b e w 0 k (omega (arith, accepted p A .m-low)) f hk 0 x
       (g ∙ sym (xor-zero-l (value 8 w * 2 ^ (l * 0) % 2 ^ (8 * k)) ∙ rw (Nat.mul-zero l) refl)) turned-start
@@ -74,7 +78,7 @@ module _ (p : Parameters) (A : Accepted p) (l : ℕ) (page : List ℕ) where
   turned-fold acc n i e f s =
       let a = bits-all p A in
       let b = length-high p A in
-      let c = len-low p A in (
+      let c = length-low p A in (
         omega arith,
         omega arith,
         omega arith,
@@ -85,11 +89,14 @@ module _ (p : Parameters) (A : Accepted p) (l : ℕ) (page : List ℕ) where
   pub turned-done : (x y n i : ℕ) → n ≡ len p → p .m ≤ i → y ≡ rem (2 ^ n + 1) n x → Turned p l page x i → y ≡ nested p l (wordsOf p page)
   turned-done x y n i e h f s =
       f ∙ ap (λ (k : ℕ). rem (2 ^ k + 1) k x) e
-      ∙ ap (rem (2 ^ len p + 1) (len p)) (combined-done (λ k. 2 ^ place l k) 0 (wordsOf p page) 0 x i (s .sum) (rw (words-many p page) h) ∙ xor-zero-l (combine (λ k. 2 ^ place l k) 0 (wordsOf p page)))
+      ∙ ap (rem (2 ^ len p + 1) (len p))
+      (combined-done (λ k. 2 ^ place l k) 0 (wordsOf p page) 0 x i (s .sum) (rw (words-many p page) h)
+      ∙ xor-zero-l (combine (λ k. 2 ^ place l k) 0 (wordsOf p page)))
       ∙ sym (nested-eq p l (wordsOf p page))
 
 -- the bytes of a nested word, where 8 more stand above it
-pub nested-bytes : (p : Parameters) (A : Accepted p) (l : ℕ) (acc cs : List ℕ) → Bounded 8 acc → length acc ≡ nestedBytes p + 8 → value 8 acc ≡ nested p l cs
+pub nested-bytes : (p : Parameters) (A : Accepted p) (l : ℕ) (acc cs : List ℕ) → Bounded 8 acc → length acc ≡ nestedBytes p + 8
+    → value 8 acc ≡ nested p l cs
     → take (nestedBytes p) acc ≡ digits 8 (nestedBytes p) (nested p l cs)
 nested-bytes p A l acc cs b e f =
     let h : nestedBytes p ≤ length acc = omega arith in

@@ -7,7 +7,7 @@ use crate::work::short_into;
 use crate::work::syndromes_from;
 use code::Outcome;
 use code::Parameters;
-use nested::sub_word;
+use layout::sub_word;
 use refusal::word_refusal;
 
 mod divide; // remainders and quotients by any row

@@ -45,11 +45,13 @@ module _ (p : Parameters) where
       next : blockOffset p (suc i) ≡ blockOffset p i + sizeOf p i
       next = let e : suc i ≡ i + 1 = omega arith in ap (blockOffset p) e ∙ offset-next p i l
 
-      go : (j < i → blockOffset p j + sizeOf p j ≤ blockOffset p i) → (j ≡ i) ⊎ (j < i) → blockOffset p j + sizeOf p j ≤ blockOffset p (suc i)
+      go : (j < i → blockOffset p j + sizeOf p j ≤ blockOffset p i) → (j ≡ i) ⊎ (j < i)
+          → blockOffset p j + sizeOf p j ≤ blockOffset p (suc i)
       go ih (inl e) = rw (e, next) (Nat.le-refl (blockOffset p i + sizeOf p i))
       go ih (inr k) = rw next (Nat.le-trans (ih k) (omega arith))
 
-  pub taken-next : (x b y : List ℕ) (i : ℕ) → Taken p x i b → i < p .m → y ≡ digits 8 (sizeOf p i) (getD (wordsOf p x) i 0 / 2 ^ checkBits p i) → Taken p x (i + 1) (replaced b (blockOffset p i) y)
+  pub taken-next : (x b y : List ℕ) (i : ℕ) → Taken p x i b → i < p .m
+      → y ≡ digits 8 (sizeOf p i) (getD (wordsOf p x) i 0 / 2 ^ checkBits p i) → Taken p x (i + 1) (replaced b (blockOffset p i) y)
   taken-next x b y i t h e =
       let l : length y ≡ sizeOf p i = ap length e ∙ length-digits 8 (sizeOf p i) (getD (wordsOf p x) i 0 / 2 ^ checkBits p i) in
       let r : blockOffset p i + length y ≤ length b = rw (l, t .exact) (block-room p i h) in
@@ -61,14 +63,19 @@ module _ (p : Parameters) where
     where
       each : length y ≡ sizeOf p i → blockOffset p i + length y ≤ length b → (j : ℕ) → (j ≡ i) ⊎ (j < i)
           → blockAt p j (replaced b (blockOffset p i) y) ≡ digits 8 (sizeOf p j) (getD (wordsOf p x) j 0 / 2 ^ checkBits p j)
-      each l r j (inl f) = rw (f, ← l) (replaced-part b (blockOffset p i) y r ∙ e ∙ ap (λ (k : ℕ). digits 8 k (getD (wordsOf p x) i 0 / 2 ^ checkBits p i)) (sym l))
-      each l r j (inr f) = replaced-before b (blockOffset p i) y r (blockOffset p j) (sizeOf p j) (offset-before j i f (Nat.le-of-suc-le h)) ∙ t .each j f
+      each l r j (inl f) =
+          rw (f, ← l) (replaced-part b (blockOffset p i) y r ∙ e
+          ∙ ap (λ (k : ℕ). digits 8 k (getD (wordsOf p x) i 0 / 2 ^ checkBits p i)) (sym l))
+      each l r j (inr f) =
+          replaced-before b (blockOffset p i) y r (blockOffset p j) (sizeOf p j) (offset-before j i f (Nat.le-of-suc-le h)) ∙ t .each j f
 
   pub taken-all : Accepted p → (x b : List ℕ) (i : ℕ) → IsPage p x → Taken p x i b → p .m ≤ i → b ≡ dataOf p x
   unfolding dataWords
   taken-all A x b i h t l =
       blocks-parts p b (dataWords p (wordsOf p x)) (t .exact) (length-data p (wordsOf p x) ∙ page-words p (accepted p A) x h .many)
-      (λ j k. t .each j (omega arith) ∙ ap (digits 8 (sizeOf p j)) (ap (λ (c : ℕ). getD (wordsOf p x) j 0 / 2 ^ checkBits p c) (sym (Nat.zero-add j)) ∙ sym (data-at p 0 j (wordsOf p x))))
+      (λ j k. t .each j (omega arith)
+      ∙ ap (digits 8 (sizeOf p j)) (ap (λ (c : ℕ). getD (wordsOf p x) j 0 / 2 ^ checkBits p c) (sym (Nat.zero-add j))
+      ∙ sym (data-at p 0 j (wordsOf p x))))
       ∙ sym (dataOf-eq p x)
 
 -- ---- one block: a sub-word moved down over its check bits
@@ -79,7 +86,8 @@ module _ (p : Parameters) (A : Accepted p) where
       let e : dataBits p i + checkBits p i ≡ stored p = omega (arith, check-below p A i) in
       Nat.lt-of-lt-of-le (shr-lt (dataBits p i) (checkBits p i) (rw e h)) (pow-mono (whole (dataBits p i)))
 
-  pub moved-down : (y : List ℕ) (c w i k : ℕ) → ((j : ℕ) → getD y j 0 < 2 ^ 8) → c < 2 ^ stored p → w ≡ checkBits p i → k ≡ sizeOf p i → length y ≡ k → value 8 y ≡ c / 2 ^ w % 2 ^ (8 * k) → y ≡ digits 8 (sizeOf p i) (c / 2 ^ checkBits p i)
+  pub moved-down : (y : List ℕ) (c w i k : ℕ) → ((j : ℕ) → getD y j 0 < 2 ^ 8) → c < 2 ^ stored p → w ≡ checkBits p i → k ≡ sizeOf p i
+      → length y ≡ k → value 8 y ≡ c / 2 ^ w % 2 ^ (8 * k) → y ≡ digits 8 (sizeOf p i) (c / 2 ^ checkBits p i)
   moved-down y c w i k b h e f l v =
       sym (digits-value 8 y (at-all (λ d. d < 2 ^ 8) y (λ j u. b j))) ∙ ap₂ (digits 8) (l ∙ f)
       (v ∙ ap₂ (λ (s t : ℕ). c / 2 ^ s % 2 ^ (8 * t)) e f ∙ Nat.mod-eq-of-lt (data-lt c i h))

@@ -3,7 +3,8 @@ use mathlib.Core.Path.{_≡_, refl, sym, ap, _∙_}
 use native.Mathlib.Nat as Nat
 use native.Mathlib.Omega.{arith}
 use Prim.Native.Nat.{ℕ, _+_, _≤_}
-use lib.ListN.{length, length-take}
+use lib.ListN.{length, take, replicate, length-take}
+use Rattle.code.specs.Parameters.{subWordBytes}
 use Rattle.layout.specs.Sizes.{word-high}
 use Rattle.encode.proofs.encode.Statement.{statement}
 use Rattle.encode.proofs.encode.Tie as tie
@@ -11,6 +12,9 @@ use Rattle.encode.proofs.encode.Tie as tie
 -- the room suffices
 fit : (c : tie.After-sub-word-bytes) → (c .sub-word-bytes .result) + 8 ≤ 520
 fit c = let s = c .before .before .before .before in omega (arith, c .sub-word-bytes .ensures, word-high (s .args .p) (s .pre .0 .accepts))
+
+size : (c : tie.After-sub-word-bytes) → length {A = ℕ} (take ((c .sub-word-bytes .result) + 8) (replicate 520 0)) ≡ subWordBytes (c .before .before .before .before .args .p) + 8
+size c = length-take ((c .sub-word-bytes .result) + 8) (replicate {A = ℕ} 520 0) ∙ Nat.min-eq-left (fit c) ∙ ap (λ (j : ℕ). j + 8) (c .sub-word-bytes .ensures)
 
 sub-word-bytes-requires : tie.Need-sub-word-bytes-requires
 sub-word-bytes-requires c κs = search needs
@@ -34,7 +38,11 @@ write-later-requires : tie.Need-write-later-requires
 write-later-requires c κs =
     let k = c .before .before .before .before .before in
     let s = k .before .before .before .before in
-    (s .pre .0, s .pre .1, s .pre .2, s .pre .3, s .pre .4, refl, (length-take ((k .sub-word-bytes .result) + 8) _ ∙ Nat.min-eq-left (fit k)) ∙ ap (λ (j : ℕ). j + 8) (k .sub-word-bytes .ensures))
+    record {
+      writing = record { ready = s .pre .0; exact = s .pre .2; low = s .pre .3; high = s .pre .4; room = size k };
+      rowed = s .pre .1;
+      table = refl;
+    }
 
 write-earlier-requires : tie.Need-write-earlier-requires
 write-earlier-requires c κs =
@@ -42,7 +50,14 @@ write-earlier-requires c κs =
     let d = r .before .before .before .before .before in
     let k = d .before .before .before .before .before .before in
     let s = k .before .before .before .before in
-    (s .pre .0, s .pre .1, d .write-later .ensures, s .pre .3, s .pre .4, r .before .before .t .given, r .acc .given ∙ (length-take ((k .sub-word-bytes .result) + 8) _ ∙ Nat.min-eq-left (fit k)) ∙ ap (λ (j : ℕ). j + 8) (k .sub-word-bytes .ensures))
+    let e = d .write-later .ensures in (
+      record {
+        writing = record { ready = s .pre .0; exact = e .exact; low = s .pre .3; high = s .pre .4; room = r .acc .given ∙ size k };
+        rowed = s .pre .1;
+        table = r .before .before .t .given;
+      },
+      e,
+    )
 
 same-length : tie.Need-same-length
 same-length c = search needs

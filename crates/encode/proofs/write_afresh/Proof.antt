@@ -14,14 +14,15 @@ prepare-requires c κs =
     let b = c .before in
     let g = b .before in
     let s = g .before .before .before .before .before .before in
-    (s .pre .0 .accepts, s .pre .1, rw (g .level-of .ensures) (level-low (s .args .p) (s .args .i)), rw (g .level-of .ensures) (b .check-bits .ensures), s .pre .6)
+    let r = s .pre .0 in
+    (r .writing .ready .accepts, r .rowed, rw (g .level-of .ensures) (level-low (s .args .p) (s .args .i)), rw (g .level-of .ensures) (b .check-bits .ensures), r .table)
 
 write-word-requires : tie.Need-write-word-requires
 write-word-requires c κs =
     let k = c .before .before .before .before .before in
     let g = k .before .before .before in
     let s = g .before .before .before .before .before .before in
-    (s .pre .0, s .pre .2, s .pre .3, s .pre .4, s .pre .5, rw (g .level-of .ensures) at (k .prepare .ensures), s .pre .7)
+    (s .pre .0 .writing, s .pre .1, rw (g .level-of .ensures) at (k .prepare .ensures))
 
 same-length : tie.Need-same-length
 same-length c = search needs

@@ -22,7 +22,7 @@ cast-i c = search needs
 loop-holds : tie.Need-loop-holds Inv-loop μ-loop
 loop-holds c =
     let s = c .before .before .before .before .before .before in
-    (record { page = s .pre .2; low = zero-le; high = Nat.le-refl (s .args .p .v); room = s .pre .6 }, s .pre .5)
+    (record { page = s .pre .1; low = zero-le; high = Nat.le-refl (s .args .p .v); room = s .pre .0 .writing .room }, s .pre .0 .table)
 
 sub-i : tie.Need-sub-i Inv-loop μ-loop
 sub-i c = search needs
@@ -33,7 +33,14 @@ write-afresh-requires c κs =
     let l = h .before in
     let s = l .before .before .before .before .before .before .before in
     let g = l .loop .inv .0 in
-    (s .pre .0, s .pre .1, g .page .exact, omega (arith, g .high, h .loop-test .taken, accepted (s .args .p) (s .pre .0 .accepts) .m-low), s .pre .3, s .pre .4, l .loop .inv .1, g .room)
+    let r = s .pre .0 .writing in (
+      record {
+        writing = record { ready = r .ready; exact = g .page .exact; low = r .low; high = r .high; room = g .room };
+        rowed = s .pre .0 .rowed;
+        table = l .loop .inv .1;
+      },
+      omega (arith, g .high, h .loop-test .taken, accepted (s .args .p) (r .ready .accepts) .m-low),
+    )
 
 loop-less : tie.Need-loop-less Inv-loop μ-loop
 loop-less c = search needs
@@ -46,8 +53,8 @@ loop-again c =
     let d = l .before .before .before .before .before in
     let s = d .before .before in
     let a = s .args in (
-      going-next (a .p) (s .pre .0 .accepts) (a .blocks .now) (fits (a .p) (a .w .now) (a .blocks .now) (s .pre .0) (λ i. d .shared-slice-known2 .given i .fits)) 0 (a .p .v) (l .loop .i) _ _ _ _
-          (l .loop .inv .0) (h .loop-test .taken) (omega (arith, accepted (a .p) (s .pre .0 .accepts) .m-low)) (k .write-afresh .ensures) (c .before .acc .given),
+      going-next (a .p) (s .pre .0 .writing .ready .accepts) (a .blocks .now) (fits (a .p) (a .w .now) (a .blocks .now) (s .pre .0 .writing .ready) (λ i. d .shared-slice-known2 .given i .fits)) 0 (a .p .v) (l .loop .i) _ _ _ _
+          (l .loop .inv .0) (h .loop-test .taken) (omega (arith, accepted (a .p) (s .pre .0 .writing .ready .accepts) .m-low)) (k .write-afresh .ensures) (c .before .acc .given),
       c .before .before .before .t .given ∙ l .loop .inv .1,
     )
 
@@ -66,7 +73,7 @@ returns c =
     let d = l .before .before .before .before .before in
     let s = d .before .before in
     let a = s .args in
-    encoded-all (a .p) (s .pre .0 .accepts) (a .blocks .now) (fits (a .p) (a .w .now) (a .blocks .now) (s .pre .0) (λ i. d .shared-slice-known2 .given i .fits)) (l .loop .page) (l .loop .i)
+    encoded-all (a .p) (s .pre .0 .writing .ready .accepts) (a .blocks .now) (fits (a .p) (a .w .now) (a .blocks .now) (s .pre .0 .writing .ready) (λ i. d .shared-slice-known2 .given i .fits)) (l .loop .page) (l .loop .i)
     (Nat.le-antisymm (c .loop-test .left) zero-le) (l .loop .inv .0 .page)
 
 pub write-earlier-spec : {M : Type 1} → statement M

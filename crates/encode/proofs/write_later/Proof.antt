@@ -27,7 +27,7 @@ prepare-requires : tie.Need-prepare-requires Inv-loop μ-loop
 prepare-requires c κs =
     let b = c .before in
     let s = b .before .before .before .before .before .before .before in
-    (s .pre .0 .accepts, s .pre .1, zero-le, b .check-bits .ensures ∙ ap (degree (s .args .p)) (level-late (s .args .p) (s .args .p .v) (Nat.le-refl (s .args .p .v))), s .pre .5)
+    (s .pre .writing .ready .accepts, s .pre .rowed, zero-le, b .check-bits .ensures ∙ ap (degree (s .args .p)) (level-late (s .args .p) (s .args .p .v) (Nat.le-refl (s .args .p .v))), s .pre .table)
 
 cast-i : tie.Need-cast-i Inv-loop μ-loop
 cast-i c = search needs
@@ -36,10 +36,10 @@ loop-holds : tie.Need-loop-holds Inv-loop μ-loop
 loop-holds c =
     let s = c .before .before .before .before .before .before .before .before .before .before .before .before in
     record {
-      page = encoded-start (s .args .p) (s .args .blocks .now) (s .args .page .now) (s .pre .2);
-      low = omega (arith, accepted (s .args .p) (s .pre .0 .accepts) .m-low);
+      page = encoded-start (s .args .p) (s .args .blocks .now) (s .args .page .now) (s .pre .writing .exact);
+      low = omega (arith, accepted (s .args .p) (s .pre .writing .ready .accepts) .m-low);
       high = Nat.le-refl (s .args .p .m);
-      room = s .pre .6;
+      room = s .pre .writing .room;
     }
 
 sub-i : tie.Need-sub-i Inv-loop μ-loop
@@ -52,8 +52,12 @@ write-word-requires c κs =
     let k = l .before .before .before .before in
     let s = k .before .before .before .before .before .before .before .before .before in
     let g = l .loop .inv in
-    let last : (s .args .p .v) ≤ (l .loop .i) - 1 = omega (arith, h .loop-test .taken) in
-    (s .pre .0, g .page .exact, omega (arith, g .high, h .loop-test .taken), s .pre .3, s .pre .4, rw (level-late (s .args .p) ((l .loop .i) - 1) last) (k .prepare .ensures), g .room)
+    let r = s .pre .writing in
+    let last : (s .args .p .v) ≤ (l .loop .i) - 1 = omega (arith, h .loop-test .taken) in (
+      record { ready = r .ready; exact = g .page .exact; low = r .low; high = r .high; room = g .room },
+      omega (arith, g .high, h .loop-test .taken),
+      rw (level-late (s .args .p) ((l .loop .i) - 1) last) (k .prepare .ensures),
+    )
 
 loop-less : tie.Need-loop-less Inv-loop μ-loop
 loop-less c = search needs
@@ -66,7 +70,7 @@ loop-again c =
     let d = l .before .before .before .before .before .before .before .before .before .before .before in
     let s = d .before .before in
     let a = s .args in
-    going-next (a .p) (s .pre .0 .accepts) (a .blocks .now) (fits (a .p) (a .w .now) (a .blocks .now) (s .pre .0) (λ i. d .shared-slice-known2 .given i .fits)) (a .p .v) (a .p .m) (l .loop .i) _ _ _ _
+    going-next (a .p) (s .pre .writing .ready .accepts) (a .blocks .now) (fits (a .p) (a .w .now) (a .blocks .now) (s .pre .writing .ready) (λ i. d .shared-slice-known2 .given i .fits)) (a .p .v) (a .p .m) (l .loop .i) _ _ _ _
     (l .loop .inv) (h .loop-test .taken) (Nat.le-refl (a .p .m)) (k .write-word .ensures) (c .before .acc .given)
 
 same-length : tie.Need-same-length Inv-loop μ-loop

@@ -24,8 +24,8 @@ taken c =
     let o = c .before in
     let s = o .before .before .before .before .before .before in
     let a = s .args in (
-      omega (arith, s .pre .0 .exact, o .block-offset .ensures, c .block-size .ensures, block-room (a .p) (a .i) (s .pre .2)),
-      omega (arith, o .block-offset .ensures, c .block-size .ensures, block-room (a .p) (a .i) (s .pre .2), bytes-high (a .p) (s .pre .0 .accepts)),
+      omega (arith, s .pre .0 .ready .exact, o .block-offset .ensures, c .block-size .ensures, block-room (a .p) (a .i) (s .pre .1)),
+      omega (arith, o .block-offset .ensures, c .block-size .ensures, block-room (a .p) (a .i) (s .pre .1), bytes-high (a .p) (s .pre .0 .ready .accepts)),
     )
 
 block-small : (c : tie.After-block-size) → (let o = c .before in let a = o .before .before .before .before .before .before .args in
@@ -35,21 +35,21 @@ block-small c =
     let k = o .before .before .before .before in
     let s = k .before .before in
     let a = s .args in
-    rw (block-part (a .p) (a .blocks .now) (a .i) (o .block-offset .result) (c .block-size .result) (s .pre .2) (o .block-offset .ensures) (c .block-size .ensures))
-    (block-lt (a .p) (a .w .now) (a .blocks .now) (s .pre .0) (λ i. k .shared-slice-known2 .given i .fits) (a .i) (s .pre .2))
+    rw (block-part (a .p) (a .blocks .now) (a .i) (o .block-offset .result) (c .block-size .result) (s .pre .1) (o .block-offset .ensures) (c .block-size .ensures))
+    (block-lt (a .p) (a .w .now) (a .blocks .now) (s .pre .0 .ready) (λ i. k .shared-slice-known2 .given i .fits) (a .i) (s .pre .1))
 
 -- sub-word i lies within the page
 room : (c : tie.After-sub-word-bytes) → (let a = c .before .before .before .before .before .before .before .before .before .before .before .before .before .before .before .before .before .before .before .before .args in
     (a .i) * (c .sub-word-bytes .result) + (c .sub-word-bytes .result) ≤ length (a .page .now))
 room c =
     let s = c .before .before .before .before .before .before .before .before .before .before .before .before .before .before .before .before .before .before .before .before in
-    omega (arith, s .pre .1, part-room (s .args .p) (s .pre .0 .accepts) (s .args .i) (c .sub-word-bytes .result) (c .sub-word-bytes .ensures) (s .pre .2))
+    omega (arith, s .pre .0 .exact, part-room (s .args .p) (s .pre .0 .ready .accepts) (s .args .i) (c .sub-word-bytes .result) (c .sub-word-bytes .ensures) (s .pre .1))
 
 block-offset-requires : tie.Need-block-offset-requires
-block-offset-requires c κs = let s = c .before .before .before .before .before in (s .pre .0 .accepts, s .pre .0 .degrees, omega (arith, s .pre .2))
+block-offset-requires c κs = let s = c .before .before .before .before .before in (s .pre .0 .ready .accepts, s .pre .0 .ready .degrees, omega (arith, s .pre .1))
 
 block-size-requires : tie.Need-block-size-requires
-block-size-requires c κs = let s = c .before .before .before .before .before .before in (s .pre .0 .accepts, s .pre .0 .degrees)
+block-size-requires c κs = let s = c .before .before .before .before .before .before in (s .pre .0 .ready .accepts, s .pre .0 .ready .degrees)
 
 add-stop : tie.Need-add-stop
 add-stop c = omega (arith, taken c .1)
@@ -64,14 +64,14 @@ part-s-end : tie.Need-part-s-end
 part-s-end c = taken c .0
 
 check-bits-requires : tie.Need-check-bits-requires
-check-bits-requires c κs = let s = c .before .before .before .before .before .before .before .before in (s .pre .0 .accepts, s .pre .0 .degrees)
+check-bits-requires c κs = let s = c .before .before .before .before .before .before .before .before in (s .pre .0 .ready .accepts, s .pre .0 .ready .degrees)
 
 ruled-into-requires : tie.Need-ruled-into-requires
 ruled-into-requires c κs =
     let b = c .before .before in
     let z = b .before .before in
     let s = z .before .before .before .before .before .before .before in
-    (s .pre .0 .accepts, s .pre .1, s .pre .2, b .check-bits .ensures, s .pre .6, block-small z)
+    (s .pre .0 .ready .accepts, s .pre .0 .exact, s .pre .1, b .check-bits .ensures, s .pre .0 .room, block-small z)
 
 level-of-requires : tie.Need-level-of-requires
 level-of-requires c κs = search needs
@@ -85,7 +85,7 @@ check-of-requires c κs =
     let b = l .before .before .before .before .before .before in
     let s = b .before .before .before .before .before .before .before .before .before in
     let a = s .args in
-    (s .pre .0 .accepts, rw (l .level-of .ensures) (level-low (a .p) (a .i)), rw (l .level-of .ensures) (b .check-bits .ensures), rw (l .level-of .ensures) (s .pre .5), refl, omega (arith, l .before .before .acc .given, s .pre .6, word-high (a .p) (s .pre .0 .accepts)), s .pre .3, s .pre .4)
+    (s .pre .0 .ready .accepts, rw (l .level-of .ensures) (level-low (a .p) (a .i)), rw (l .level-of .ensures) (b .check-bits .ensures), rw (l .level-of .ensures) (s .pre .2), refl, omega (arith, l .before .before .acc .given, s .pre .0 .room, word-high (a .p) (s .pre .0 .ready .accepts)), s .pre .0 .low, s .pre .0 .high)
 
 sub-word-bytes-requires : tie.Need-sub-word-bytes-requires
 sub-word-bytes-requires c κs = search needs
@@ -93,27 +93,27 @@ sub-word-bytes-requires c κs = search needs
 mul-start : tie.Need-mul-start
 mul-start c =
     let s = c .before .before .before .before .before .before .before .before .before .before .before .before .before .before .before .before .before .before .before .before in
-    omega (arith, part-small (s .args .p) (s .pre .0 .accepts) (s .args .i) (c .sub-word-bytes .result) (c .sub-word-bytes .ensures) (s .pre .2))
+    omega (arith, part-small (s .args .p) (s .pre .0 .ready .accepts) (s .args .i) (c .sub-word-bytes .result) (c .sub-word-bytes .ensures) (s .pre .1))
 
 add-end : tie.Need-add-end
 add-end c =
     let s = c .before .before .before .before .before .before .before .before .before .before .before .before .before .before .before .before .before .before .before .before in
-    omega (arith, part-small (s .args .p) (s .pre .0 .accepts) (s .args .i) (c .sub-word-bytes .result) (c .sub-word-bytes .ensures) (s .pre .2))
+    omega (arith, part-small (s .args .p) (s .pre .0 .ready .accepts) (s .args .i) (c .sub-word-bytes .result) (c .sub-word-bytes .ensures) (s .pre .1))
 
-sub-put-word : tie.Need-sub-put-word
-sub-put-word c = search needs
+sub-put-sub-word : tie.Need-sub-put-sub-word
+sub-put-sub-word c = search needs
 
-part-put-word-start : tie.Need-part-put-word-start
-part-put-word-start c = search needs
+part-put-sub-word-start : tie.Need-part-put-sub-word-start
+part-put-sub-word-start c = search needs
 
-part-put-word-end : tie.Need-part-put-word-end
-part-put-word-end c = room c
+part-put-sub-word-end : tie.Need-part-put-sub-word-end
+part-put-sub-word-end c = room c
 
-slice-aggregate-put-word : tie.Need-slice-aggregate-put-word
-slice-aggregate-put-word c = search needs
+slice-aggregate-put-sub-word : tie.Need-slice-aggregate-put-sub-word
+slice-aggregate-put-sub-word c = search needs
 
-put-word-requires : tie.Need-put-word-requires
-put-word-requires c κs =
+put-sub-word-requires : tie.Need-put-sub-word-requires
+put-sub-word-requires c κs =
     let k = c .before .before in
     let o = k .before .before in
     let b = o .before .before .before .before .before .before .before .before .before in
@@ -122,12 +122,12 @@ put-word-requires c κs =
     let a = s .args in
     let g = o .before .before .before in
     let l = part-length (a .page .now) ((a .i) * (k .sub-word-bytes .result)) (k .sub-word-bytes .result) (room k) ∙ k .sub-word-bytes .ensures in (
-      omega (arith, b .check-bits .ensures, degree-high (a .p) (accepted (a .p) (s .pre .0 .accepts)) (level (a .p) (a .i)) (level-low (a .p) (a .i))),
-      check-room (a .p) (s .pre .0 .accepts) (a .i) (b .check-bits .result) _ (b .check-bits .ensures) l,
-      omega (arith, l, word-high (a .p) (s .pre .0 .accepts)),
+      omega (arith, b .check-bits .ensures, degree-high (a .p) (accepted (a .p) (s .pre .0 .ready .accepts)) (level (a .p) (a .i)) (level-low (a .p) (a .i))),
+      check-room (a .p) (s .pre .0 .ready .accepts) (a .i) (b .check-bits .result) _ (b .check-bits .ensures) l,
+      omega (arith, l, word-high (a .p) (s .pre .0 .ready .accepts)),
       k .before .r2 .given,
-      check-fits (a .p) (s .pre .0 .accepts) (a .i) _ (g .level-of .result) (b .check-bits .result) _ (o .check-of .ensures) (g .level-of .ensures) (b .check-bits .ensures),
-      data-fits (a .p) (s .pre .0 .accepts) (a .i) _ (b .check-bits .result) _ (block-small z) (b .check-bits .ensures) l,
+      check-fits (a .p) (s .pre .0 .ready .accepts) (a .i) _ (g .level-of .result) (b .check-bits .result) _ (o .check-of .ensures) (g .level-of .ensures) (b .check-bits .ensures),
+      data-fits (a .p) (s .pre .0 .ready .accepts) (a .i) _ (b .check-bits .result) _ (block-small z) (b .check-bits .ensures) l,
     )
 
 same-length : tie.Need-same-length
@@ -149,12 +149,12 @@ returns c =
     let a = s .args in
     let start = (a .i) * (k .sub-word-bytes .result) in
     let l = c .before .page .given .0 ∙ part-length (a .page .now) start (k .sub-word-bytes .result) (room k) in
-    let y = word-made (a .p) (s .pre .0 .accepts) (a .i) (a .blocks .now) (a .page .now) (q .put-word .last .0) _ _ _ (g .level-of .result) (b .check-bits .result) (k .sub-word-bytes .result)
-    (middle-bytes (take start (a .page .now)) (q .put-word .last .0) (drop (start + (k .sub-word-bytes .result) - start) (drop start (a .page .now))) (λ j. c .slice-known4 .given j .fits))
+    let y = word-made (a .p) (s .pre .0 .ready .accepts) (a .i) (a .blocks .now) (a .page .now) (q .put-sub-word .last .0) _ _ _ (g .level-of .result) (b .check-bits .result) (k .sub-word-bytes .result)
+    (middle-bytes (take start (a .page .now)) (q .put-sub-word .last .0) (drop (start + (k .sub-word-bytes .result) - start) (drop start (a .page .now))) (λ j. c .slice-known4 .given j .fits))
     l (k .sub-word-bytes .ensures) (b .check-bits .ensures) (g .level-of .ensures)
-    (block-part (a .p) (a .blocks .now) (a .i) (z .before .block-offset .result) (z .block-size .result) (s .pre .2) (z .before .block-offset .ensures) (z .block-size .ensures))
-    (u .ruled-into .ensures) (o .check-of .ensures) (q .put-word .ensures) in
-    put-is (a .page .now) (q .put-word .last .0) _ start (k .sub-word-bytes .result) _ (ap (λ (j : ℕ). (a .i) * j) (k .sub-word-bytes .ensures)) y (length-digits 8 (subWordBytes (a .p)) _ ∙ sym (k .sub-word-bytes .ensures))
+    (block-part (a .p) (a .blocks .now) (a .i) (z .before .block-offset .result) (z .block-size .result) (s .pre .1) (z .before .block-offset .ensures) (z .block-size .ensures))
+    (u .ruled-into .ensures) (o .check-of .ensures) (q .put-sub-word .ensures) in
+    put-is (a .page .now) (q .put-sub-word .last .0) _ start (k .sub-word-bytes .result) _ (ap (λ (j : ℕ). (a .i) * j) (k .sub-word-bytes .ensures)) y (length-digits 8 (subWordBytes (a .p)) _ ∙ sym (k .sub-word-bytes .ensures))
 
 pub write-word-spec : {M : Type 1} → statement M
 write-word-spec =
@@ -174,11 +174,11 @@ write-word-spec =
     sub-word-bytes-requires
     mul-start
     add-end
-    sub-put-word
-    part-put-word-start
-    part-put-word-end
-    slice-aggregate-put-word
-    put-word-requires
+    sub-put-sub-word
+    part-put-sub-word-start
+    part-put-sub-word-end
+    slice-aggregate-put-sub-word
+    put-sub-word-requires
     same-length
     same-length-2
     returns)

@@ -21,7 +21,7 @@ loop-holds : tie.Need-loop-holds Inv-loop μ-loop
 loop-holds c = let a = c .before .before .before .args in seek-start (failsAt (a .p) (wordsOf (a .p) (a .page .now))) (a .p .m)
 
 sub-word-passes-requires : tie.Need-sub-word-passes-requires Inv-loop μ-loop
-sub-word-passes-requires c κs = let s = c .before .before .before .before .before in (s .pre .0, s .pre .1, s .pre .2, s .pre .3, s .pre .4, c .loop-test .taken)
+sub-word-passes-requires c κs = let s = c .before .before .before .before .before in (s .pre, c .loop-test .taken)
 
 returns : tie.Need-returns Inv-loop μ-loop
 returns c =

@@ -23,26 +23,28 @@ loop-holds : tie.Need-loop-holds Inv-loop μ-loop
 loop-holds c =
     let s = c .before .before .before .before in
     let a = s .args in
-    (seek-start (nestedFailsAt (a .p) (wordsOf (a .p) (a .page .now))) (a .p .v), s .pre .3, s .pre .4)
+    (seek-start (nestedFailsAt (a .p) (wordsOf (a .p) (a .page .now))) (a .p .v), s .pre .table, s .pre .room)
 
 nested-passes-requires : tie.Need-nested-passes-requires Inv-loop μ-loop
 nested-passes-requires c κs =
     let n = c .before .before in
     let l = n .before in
-    let s = l .before .before .before .before .before in
-    (s .pre .0, s .pre .1, s .pre .2, n .loop-test .taken, l .loop .inv .1, l .loop .inv .2)
+    let s = l .before .before .before .before .before in (
+      record { accepts = s .pre .accepts; rowed = s .pre .rowed; exact = s .pre .exact; table = l .loop .inv .1; room = l .loop .inv .2 },
+      n .loop-test .taken,
+    )
 
 same-length : tie.Need-same-length Inv-loop μ-loop
 same-length c =
     let x = c .before .before .before .before in
     let l = x .before .before .before .before .before in
-    x .t .given ∙ l .loop .inv .1 ∙ sym (l .before .before .before .before .before .pre .3)
+    x .t .given ∙ l .loop .inv .1 ∙ sym (l .before .before .before .before .before .pre .table)
 
 same-length-2 : tie.Need-same-length-2 Inv-loop μ-loop
 same-length-2 c =
     let x = c .before .before .before .before in
     let l = x .before .before .before .before .before in
-    c .before .before .acc .given ∙ l .loop .inv .2 ∙ sym (l .before .before .before .before .before .pre .4)
+    c .before .before .acc .given ∙ l .loop .inv .2 ∙ sym (l .before .before .before .before .before .pre .room)
 
 returns : tie.Need-returns Inv-loop μ-loop
 returns c =
@@ -71,10 +73,10 @@ loop-again c =
     )
 
 same-length-3 : tie.Need-same-length-3 Inv-loop μ-loop
-same-length-3 c = let l = c .before in l .loop .inv .1 ∙ sym (l .before .before .before .before .before .pre .3)
+same-length-3 c = let l = c .before in l .loop .inv .1 ∙ sym (l .before .before .before .before .before .pre .table)
 
 same-length-4 : tie.Need-same-length-4 Inv-loop μ-loop
-same-length-4 c = let l = c .before in l .loop .inv .2 ∙ sym (l .before .before .before .before .before .pre .4)
+same-length-4 c = let l = c .before in l .loop .inv .2 ∙ sym (l .before .before .before .before .before .pre .room)
 
 returns-2 : tie.Need-returns-2 Inv-loop μ-loop
 returns-2 c =

@@ -14,10 +14,10 @@ cast-a : tie.Need-cast-a
 cast-a c = search needs
 
 sub-a : tie.Need-sub-a
-sub-a c = let s = c .before .before .before .before in omega (arith, s .pre .3)
+sub-a c = let s = c .before .before .before .before in omega (arith, s .pre .1)
 
 degree-at-requires : tie.Need-degree-at-requires
-degree-at-requires c κs = let s = c .before .before .before .before in (s .pre .0, s .pre .1, omega arith)
+degree-at-requires c κs = let s = c .before .before .before .before in (s .pre .0 .accepts, s .pre .0 .rowed, omega arith)
 
 cast-w : tie.Need-cast-w
 cast-w c = search needs
@@ -26,13 +26,13 @@ prepare-requires : tie.Need-prepare-requires
 prepare-requires c κs =
     let d = c .before in
     let s = d .before .before .before .before .before in
-    (s .pre .0, s .pre .1, omega arith, d .degree-at .ensures, s .pre .4)
+    (s .pre .0 .accepts, s .pre .0 .rowed, omega arith, d .degree-at .ensures, s .pre .0 .table)
 
 nested-into-requires : tie.Need-nested-into-requires
 nested-into-requires c κs =
     let d = c .before .before .before .before .before in
     let s = d .before .before .before .before .before in
-    (s .pre .0, s .pre .2, s .pre .3, s .pre .5)
+    (s .pre .0 .accepts, s .pre .0 .exact, s .pre .1, s .pre .0 .room)
 
 passes-requires : tie.Need-passes-requires
 passes-requires c κs =
@@ -41,7 +41,7 @@ passes-requires c κs =
     let d = r .before .before in
     let s = d .before .before .before .before .before in
     let a = s .args in
-    (s .pre .0, omega arith, d .degree-at .ensures, r .prepare .ensures, rw (n .nested-into .ensures) (nested-lt (a .p) (accepted (a .p) (s .pre .0)) (a .l) (wordsOf (a .p) (a .page .now))))
+    (s .pre .0 .accepts, omega arith, d .degree-at .ensures, r .prepare .ensures, rw (n .nested-into .ensures) (nested-lt (a .p) (accepted (a .p) (s .pre .0 .accepts)) (a .l) (wordsOf (a .p) (a .page .now))))
 
 same-length : tie.Need-same-length
 same-length c = search needs

@@ -44,7 +44,7 @@ first-failing-requires c κs =
     let r = c .before .before .before in
     let d = r .before .before .before .before in
     let s = d .before .before in
-    (s .pre .0, d .degree-at .ensures, r .prepare .ensures, s .pre .2, s .pre .3)
+    record { accepts = s .pre .0; width = d .degree-at .ensures; table = r .prepare .ensures; exact = s .pre .2; clear = s .pre .3 }
 
 cast-if1 : tie.Need-cast-if1
 cast-if1 c = search needs
@@ -70,7 +70,13 @@ first-failing-nested-requires c κs =
     let t = c .before .before .before .before .before .before in
     let k = t .before .before .before .before in
     let s = k .before .before .before in
-    (s .pre .0, s .pre .1, s .pre .2, t .t .given, length-take (k .nested-bytes .result + 8) _ ∙ Nat.min-eq-left (fit k) ∙ ap (λ (j : ℕ). j + 8) (k .nested-bytes .ensures))
+    record {
+      accepts = s .pre .0;
+      rowed = s .pre .1;
+      exact = s .pre .2;
+      table = t .t .given;
+      room = length-take (k .nested-bytes .result + 8) _ ∙ Nat.min-eq-left (fit k) ∙ ap (λ (j : ℕ). j + 8) (k .nested-bytes .ensures);
+    }
 
 cast-if2 : tie.Need-cast-if2
 cast-if2 c = search needs

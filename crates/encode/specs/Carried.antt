@@ -14,11 +14,12 @@ use Rattle.code.specs.Accepted.{Rules, accepted}
 use Rattle.code.specs.Code.{N, combine}
 use Rattle.code.specs.Layout.{pageBytes, wordsOf}
 use Rattle.code.specs.Parameters.{Accepted, len, subWordBytes}
-use Rattle.layout.specs.Parts.{word-at}
+use Rattle.layout.specs.Parts.{word-at, words-many}
+use Rattle.layout.specs.Sizes.{bits-all}
+use Rattle.layout.specs.SubWords.{word-lt}
 use Rattle.sheet.specs.Nesting.{N-lt}
 use Rattle.kernels.specs.Value.{Bounded, value-cons, value-nil}
-use Rattle.nested.specs.Horner.{Over, Sums, combine-lt, sums-next, sums-start, weighted}
-use Rattle.nested.specs.Bounds.{bits-all, word-lt, words-many}
+use Rattle.encode.specs.Horner.{Over, Sums, combine-lt, sums-next, sums-start, weighted}
 
 drop-none : (k : ℕ) (l : List ℕ) → length l ≤ k → drop k l ≡ []
 drop-none zero [] h = refl
@@ -34,28 +35,35 @@ zero-value (suc k) (suc n) = value-cons 8 0 (take k (replicate n 0)) ∙ ap (λ 
 
 module _ (p : Parameters) (page : List ℕ) (i m : ℕ) where
   pub later-start : (a b c : ℕ) → a ≡ 0 → b ≡ 0 → c ≡ 0 → Sums i m (drop (p .m) (wordsOf p page)) a b c
-  later-start a b c = sums-start i m a b c (drop (p .m) (wordsOf p page)) (drop-none (p .m) (wordsOf p page) (omega (arith, words-many p page)))
+  later-start a b c =
+      sums-start i m a b c (drop (p .m) (wordsOf p page)) (drop-none (p .m) (wordsOf p page) (omega (arith, words-many p page)))
 
   -- w is sub-word k - 1
   pub later-turn : (w : List ℕ) (k a b c a′ b′ c′ : ℕ) → 0 < k → k ≤ p .m → w ≡ take (subWordBytes p) (drop ((k - 1) * subWordBytes p) page)
-      → a′ ≡ xor a (value 8 w * 1 % 2 ^ m) → Over i m a′ b c b′ c′ → Sums i m (drop k (wordsOf p page)) a b c → Sums i m (drop (k - 1) (wordsOf p page)) a′ b′ c′
+      → a′ ≡ xor a (value 8 w * 1 % 2 ^ m) → Over i m a′ b c b′ c′ → Sums i m (drop k (wordsOf p page)) a b c
+      → Sums i m (drop (k - 1) (wordsOf p page)) a′ b′ c′
   later-turn w k a b c a′ b′ c′ z h e f o s =
       sums-next i m (getD (wordsOf p page) (k - 1) 0) a b c a′ b′ c′ (drop k (wordsOf p page)) (drop (k - 1) (wordsOf p page))
-      (drop-cons (wordsOf p page) (k - 1) 0 (omega (arith, words-many p page)) ∙ ap (λ (n : ℕ). getD (wordsOf p page) (k - 1) 0 ∷ drop n (wordsOf p page)) g)
+      (drop-cons (wordsOf p page) (k - 1) 0 (omega (arith, words-many p page))
+      ∙ ap (λ (n : ℕ). getD (wordsOf p page) (k - 1) 0 ∷ drop n (wordsOf p page)) g)
       s (f ∙ ap (λ (y : ℕ). xor a (y * 1 % 2 ^ m)) (ap (value 8) e ∙ sym (word-at p page (k - 1) (omega arith)))) o
     where
       g : suc (k - 1) ≡ k
       g = omega arith
 
-  pub later-done : (k a b c : ℕ) → i < k → k ≤ i + 1 → Sums i m (drop k (wordsOf p page)) a b c → Sums i m (drop (suc i) (wordsOf p page)) a b c
+  pub later-done : (k a b c : ℕ) → i < k → k ≤ i + 1 → Sums i m (drop k (wordsOf p page)) a b c
+      → Sums i m (drop (suc i) (wordsOf p page)) a b c
   later-done k a b c h l s =
       let e : k ≡ suc i = omega arith in
       rw e at s
 
 -- the sum has j bytes, which hold it
-pub carried-fits : (p : Parameters) (A : Accepted p) (page : List ℕ) (i j x₀ x : ℕ) → i < p .v → Bounded 8 page → length page ≡ pageBytes p → j ≡ subWordBytes p + 8
-    → x ≡ xor x₀ (weighted i (suc i) (drop (suc i) (wordsOf p page)) % 2 ^ (8 * j)) → x ≡ xor x₀ (combine (λ k. N k i) (suc i) (drop (suc i) (wordsOf p page)))
-carried-fits p A page i j x₀ x h b e f g = g ∙ ap (xor x₀) (Nat.mod-eq-of-lt (Nat.lt-of-lt-of-le small (pow-mono (omega (arith, bits-all p A)))))
+pub carried-fits : (p : Parameters) (A : Accepted p) (page : List ℕ) (i j x₀ x : ℕ) → i < p .v → Bounded 8 page → length page ≡ pageBytes p
+    → j ≡ subWordBytes p + 8
+    → x ≡ xor x₀ (weighted i (suc i) (drop (suc i) (wordsOf p page)) % 2 ^ (8 * j))
+    → x ≡ xor x₀ (combine (λ k. N k i) (suc i) (drop (suc i) (wordsOf p page)))
+carried-fits p A page i j x₀ x h b e f g =
+    g ∙ ap (xor x₀) (Nat.mod-eq-of-lt (Nat.lt-of-lt-of-le small (pow-mono (omega (arith, bits-all p A)))))
   where
     R : Rules p
     R = accepted p A

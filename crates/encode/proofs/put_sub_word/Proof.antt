@@ -4,8 +4,8 @@ use native.Mathlib.Nat as Nat
 use native.Mathlib.Omega.{arith}
 use Prim.Native.Nat.{ℕ, _+_}
 use Rattle.polynomial.specs.Digits.{value}
-use Rattle.encode.proofs.put_word.Statement.{statement}
-use Rattle.encode.proofs.put_word.Tie as tie
+use Rattle.encode.proofs.put_sub_word.Statement.{statement}
+use Rattle.encode.proofs.put_sub_word.Tie as tie
 
 copy-up-requires : tie.Need-copy-up-requires
 copy-up-requires c κs = omega arith
@@ -27,5 +27,5 @@ returns c =
     let s = k .before .before .before .before .before in
     l .store-low .ensures ∙ ap (λ (x : ℕ). x + value 64 (s .args .r .now)) (k .copy-up .ensures ∙ Nat.mod-eq-of-lt (s .pre .5))
 
-pub put-word-spec : {M : Type 1} → statement M
-put-word-spec = tie.close (tie.spec copy-up-requires store-low-requires same-length returns)
+pub put-sub-word-spec : {M : Type 1} → statement M
+put-sub-word-spec = tie.close (tie.spec copy-up-requires store-low-requires same-length returns)

@@ -20,5 +20,6 @@ clmul-lt (suc j) k a b h l = step (clmul-lt j k (a / 2) b (half-lt a j h) l)
     step i =
         let e : j + k + 1 ≡ suc j + k = omega arith in
         rw (clmul-step a b) (xor-lt (suc j + k) (a % 2 * b) (clmul (a / 2) b * 2)
-        (odd-ind (λ (y : ℕ). y * b < 2 ^ (suc j + k)) (rw (Nat.zero-mul b) (pow-pos (suc j + k))) (rw (Nat.one-mul b) (Nat.lt-of-lt-of-le l (pow-mono (omega arith)))) a)
+        (odd-ind (λ (y : ℕ). y * b < 2 ^ (suc j + k)) (rw (Nat.zero-mul b) (pow-pos (suc j + k)))
+        (rw (Nat.one-mul b) (Nat.lt-of-lt-of-le l (pow-mono (omega arith)))) a)
         (rw e at (shl-lt (j + k) 1 i)))

@@ -6,10 +6,10 @@ use Prim.Native.Nat.{ℕ, suc, _+_, _*_, _/_, _≤_}
 use lib.ListN.{length, drop, take, replicate, length-take}
 use Rattle.code.specs.Layout.{wordsOf}
 use Rattle.layout.specs.Sizes.{word-high}
-use Rattle.nested.specs.Horner.{sums-room}
-use Rattle.nested.specs.Carried.{zero-value}
-use Rattle.nested.proofs.add_carried.Statement.{statement}
-use Rattle.nested.proofs.add_carried.Tie as tie
+use Rattle.encode.specs.Horner.{sums-room}
+use Rattle.encode.specs.Carried.{zero-value}
+use Rattle.encode.proofs.add_carried.Statement.{statement}
+use Rattle.encode.proofs.add_carried.Tie as tie
 
 -- the rooms suffice
 fit : (c : tie.After-sub-word-bytes) → ((c .sub-word-bytes .result) + 15) / 8 * 8 ≤ 520

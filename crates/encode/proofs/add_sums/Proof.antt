@@ -6,10 +6,10 @@ use lib.ListN.{length, drop}
 use Rattle.code.specs.Accepted.{accepted}
 use Rattle.code.specs.Layout.{wordsOf}
 use Rattle.layout.specs.Sizes.{word-high}
-use Rattle.nested.specs.Horner.{same-room, sum-one, sum-two, sum-three}
-use Rattle.nested.specs.Carried.{carried-fits}
-use Rattle.nested.proofs.add_sums.Statement.{statement}
-use Rattle.nested.proofs.add_sums.Tie as tie
+use Rattle.encode.specs.Horner.{same-room, sum-one, sum-two, sum-three}
+use Rattle.encode.specs.Carried.{carried-fits}
+use Rattle.encode.proofs.add_sums.Statement.{statement}
+use Rattle.encode.proofs.add_sums.Tie as tie
 
 add-up-requires : tie.Need-add-up-requires
 add-up-requires c κs = let s = c .before .before .before .before .before .before in omega (arith, s .pre .3, word-high _ (s .pre .0))

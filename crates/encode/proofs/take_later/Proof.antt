@@ -7,10 +7,10 @@ use lib.ListN.{length, drop}
 use Rattle.polynomial.specs.Digits.{value}
 use Rattle.code.specs.Accepted.{accepted}
 use Rattle.code.specs.Layout.{wordsOf}
-use Rattle.nested.specs.Horner.{Sums, over-room, same-room}
-use Rattle.nested.specs.Carried.{later-start, later-turn, later-done}
-use Rattle.nested.proofs.take_later.Statement.{statement}
-use Rattle.nested.proofs.take_later.Tie as tie
+use Rattle.encode.specs.Horner.{Sums, over-room, same-room}
+use Rattle.encode.specs.Carried.{later-start, later-turn, later-done}
+use Rattle.encode.proofs.take_later.Statement.{statement}
+use Rattle.encode.proofs.take_later.Tie as tie
 
 abbrev Inv-loop : tie.InvT-loop
 Inv-loop a₀ b₀ c₀ p page i k₀ a b c k = (length a ≡ length a₀) × (length b ≡ length a₀) × (length c ≡ length a₀) × (i < k) × (k ≤ p .m) × Sums i (8 * length a₀) (drop k (wordsOf p page)) (value 8 a) (value 8 b) (value 8 c)

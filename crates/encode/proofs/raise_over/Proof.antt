@@ -1,8 +1,8 @@
 use borrow.Author.Needs.{needs}
 use lib.ListN.{length}
-use Rattle.nested.specs.Horner.{over-one, over-two}
-use Rattle.nested.proofs.raise_over.Statement.{statement}
-use Rattle.nested.proofs.raise_over.Tie as tie
+use Rattle.encode.specs.Horner.{over-one, over-two}
+use Rattle.encode.proofs.raise_over.Statement.{statement}
+use Rattle.encode.proofs.raise_over.Tie as tie
 
 returns : tie.Need-returns
 returns c = search needs

@@ -1,10 +1,10 @@
 use borrow.Author.Needs.{needs}
 use native.Mathlib.Omega.{arith}
 use Rattle.layout.specs.Parts.{word-room}
 use Rattle.layout.specs.Sizes.{page-high}
 use Rattle.layout.specs.SubWords.{part-same}
-use Rattle.nested.proofs.sub_word.Statement.{statement}
-use Rattle.nested.proofs.sub_word.Tie as tie
+use Rattle.layout.proofs.sub_word.Statement.{statement}
+use Rattle.layout.proofs.sub_word.Tie as tie
 
 sub-word-bytes-requires : tie.Need-sub-word-bytes-requires
 sub-word-bytes-requires c κs = search needs
