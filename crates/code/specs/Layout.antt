@@ -1,5 +1,5 @@
 -- Pages and blocks as bytes. The little-endian number of a sub-word's bytes is the word: x^k is bit k mod 8 of byte k div 8.
--- Block i (document 01's word for the data of sub-word i) is the number of its bytes likewise: bit r is the coefficient of x^(w + r).
+-- Block i (the requirement's word for the data of sub-word i) is the number of its bytes likewise: bit r is the coefficient of x^(w + r).
 --   wordsOf p page        the sub-words of a page; pageClear p page: no spare bit is 1
 --   blockBits p           the data bits of each block; blockSizes p its bytes; blockOffset p i where block i begins
 --   blocksOf p blocks     the numbers of the blocks; blocksClear p blocks: no unused bit is 1

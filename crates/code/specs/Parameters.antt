@@ -1,4 +1,4 @@
--- The parameters of a code (document 01: the sheet) and the rules on its numbers.
+-- The parameters of a code (the requirement: the sheet) and the rules on its numbers.
 --   sheet q m v ..    the parameters by their seven numbers, as C gives them
 --   len p             n = 2^q - 1, the cyclic length: the places of a nested word, x^n = 1
 --   stored p          how many coefficients of a sub-word are stored, from x^0 on

@@ -1,4 +1,4 @@
--- The refusal of each call: of the conditions that it can meet, in the order of document 01's table, the first that holds; 0 for none.
+-- The refusal of each call: of the conditions that it can meet, in the order of the requirement's table, the first that holds; 0 for none.
 -- A chain takes lengths where lengths suffice, and looks at nothing behind an earlier refusal.
 use mathlib.Core.Bool.{Bool, not, _||_}
 use mathlib.Core.List.{List}

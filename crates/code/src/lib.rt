@@ -1,6 +1,6 @@
 // The code's parameters and the answers of its calls, as types. Definitions and theorems stand in specs/.
 
-// The parameters of a code: document 01's sheet. Its strengths t0 to t3 are the errors each level corrects; places past v are 0.
+// The parameters of a code: the requirement's sheet. Its strengths t0 to t3 are the errors each level corrects; places past v are 0.
 pub struct Parameters {
     pub q: u32,
     pub m: u32,

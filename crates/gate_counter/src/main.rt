@@ -1,4 +1,4 @@
-// Document 01's cases 'on the counter' that are not proved in `cases`, and for each misreading of the layout a case that shows which reading is taken.
+// The requirement's cases 'on the counter' that are not proved in `cases`, and for each misreading of the layout a case that shows which reading is taken.
 // A line says what was called and gives the answer, then the lent buffer; tools/counter.py works out what the lines must be.
 use code::Outcome;
 use code::Parameters;
@@ -217,7 +217,7 @@ const B: Parameters = Parameters {
     t3: 0,
 };
 
-// Degrees, data, page and distance of the sheet of source document 002.
+// Degrees, data, page and distance of the sheet of the encoding paper (docs/REQUIREMENT.md, "Literature").
 fn large() {
     measured(Parameters {
         q: 12,

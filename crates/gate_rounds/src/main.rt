@@ -225,7 +225,7 @@ fn holds(p: Parameters, a: &[u8], b: &[u8], x: &[u8]) -> bool
 }
 
 fn main() {
-    // document 01's sheet A, with its member FF 7F FF 7F and its page of a failing nested word
+    // the requirement's sheet A, with its member FF 7F FF 7F and its page of a failing nested word
     let p = Parameters {
         q: 4,
         m: 2,

@@ -1,1 +1,1 @@
-// Theory alone so far: the generators. Definitions and laws stand in specs/.
+// Theory alone: the generators. Definitions and laws stand in specs/.

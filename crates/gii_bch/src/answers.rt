@@ -1,4 +1,4 @@
-// Document 01's number of an answer.
+// The requirement's number of an answer.
 ghost use mathlib.Core.Path.{_≡_};
 ghost use Prim.Native.Nat.{_<_};
 ghost use Rattle.code.specs.Calls.{outcomeNumber, verdictNumber};
