@@ -1,5 +1,4 @@
 -- Sub-words as parts of a page, and the numbers they are.
---   partOf x i k    the k bytes from i × k on, as the program takes them
 use mathlib.Core.Path.{_≡_, sym, ap, _∙_}
 use mathlib.Core.List.{List}
 use Prim.Native.Nat.{ℕ, _+_, _-_, _*_, _^_, _≤_, _<_}
@@ -49,16 +48,8 @@ module _ (p : Parameters) (A : Accepted p) where
   part-small i k e h = Nat.le-trans (part-room i k e h) (page-high p A)
 
   -- the part of the page that the program takes
-  abbrev pub partOf : List ℕ → ℕ → ℕ → List ℕ
-  partOf x i k = take (i * k + k - i * k) (drop (i * k) x)
-
-  pub part-same : (x : List ℕ) (i k : ℕ) → k ≡ subWordBytes p → partOf x i k ≡ take (subWordBytes p) (drop (i * subWordBytes p) x)
+  pub part-same : (x : List ℕ) (i k : ℕ) → k ≡ subWordBytes p
+      → take (i * k + k - i * k) (drop (i * k) x) ≡ take (subWordBytes p) (drop (i * subWordBytes p) x)
   part-same x i k e =
       let a : i * k + k - i * k ≡ k = omega arith in
       ap (λ (j : ℕ). take j (drop (i * k) x)) a ∙ ap (λ (j : ℕ). take j (drop (i * j) x)) e
-
-  pub part-lt : (x : List ℕ) → IsPage p x → (i k : ℕ) → k ≡ subWordBytes p → i < p .m → value 8 (partOf x i k) < 2 ^ stored p
-  part-lt x h i k e l = rw (part-same x i k e) (part-is x h i l)
-
-  pub part-word : (x : List ℕ) (i k : ℕ) → k ≡ subWordBytes p → i < p .m → value 8 (partOf x i k) ≡ getD (wordsOf p x) i 0
-  part-word x i k e l = ap (value 8) (part-same x i k e) ∙ sym (word-at p x i l)

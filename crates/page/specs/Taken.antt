@@ -1,11 +1,13 @@
 -- The blocks of a page, taken one by one.
---   Taken p x i b    the first i blocks of b are those of the page x
+--   Taking p w x b    accepted parameters, the degrees of their generators, a clear page, room for its blocks
+--   Taken p x i b     the first i blocks of b are those of the page x
 use mathlib.Core.Path.{_≡_, sym, ap, ap₂, _∙_}
 use mathlib.Core.Logic.{_⊎_, inl, inr}
 use mathlib.Core.List.{List}
 use Prim.Native.Nat.{ℕ, zero, suc, _+_, _-_, _*_, _/_, _%_, _^_, _≤_, _<_, zero-le}
 use native.Mathlib.Nat as Nat
 use native.Mathlib.Omega.{arith}
+use lib.Dec.{T}
 use lib.ListN.{length, getD, take, drop}
 use lib.Pow.{pow-mono, shr-lt}
 use Rattle.polynomial.specs.Digits.{value, digits, digits-value, length-digits}
@@ -13,13 +15,20 @@ use Rattle.polynomial.specs.Sums.{at-all}
 use Rattle.code.specs.declared.Parameters.{Parameters}
 use Rattle.code.specs.Accepted.{accepted}
 use Rattle.code.specs.Code.{checkBits, dataWords}
-use Rattle.code.specs.Layout.{IsPage, dataBits, dataBytes, dataOf, blockOffset, wordsOf}
+use Rattle.code.specs.Layout.{IsPage, dataBits, dataBytes, dataOf, blockOffset, pageBytes, pageClear, wordsOf}
 use Rattle.code.specs.Pages.{dataOf-eq, length-data, page-words, whole}
 use Rattle.code.specs.Parameters.{Accepted, len, stored}
 use Rattle.code.specs.Placement.{data-at}
 use Rattle.layout.specs.Parts.{offset-next, block-room, blocks-parts}
-use Rattle.layout.specs.Sizes.{check-below}
+use Rattle.layout.specs.Sizes.{Degrees, check-below}
 use Rattle.layout.specs.Replaced.{replaced, replaced-length, replaced-part, replaced-before}
+
+pub record Taking (p : Parameters) (w x b : List ℕ) : Type 0 where
+  pub accepts : Accepted p
+  pub degrees : Degrees p w
+  pub exact : length x ≡ pageBytes p
+  pub clear : T (pageClear p x)
+  pub room : length b ≡ dataBytes p
 
 -- the bytes of block i
 abbrev pub sizeOf : Parameters → ℕ → ℕ

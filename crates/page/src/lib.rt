@@ -1,39 +1,35 @@
 // Pages: written, judged, read out.
 ghost use mathlib.Core.Path.{_≡_};
 ghost use Prim.Native.Nat.{_<_, _/_, _^_};
-ghost use lib.Dec.{T};
-ghost use lib.ListN.{length, getD};
+ghost use lib.ListN.{getD};
 ghost use Rattle.polynomial.specs.Digits.{digits};
 ghost use Rattle.code.specs.Calls.{Judged, ReadOut, Written};
 ghost use Rattle.code.specs.Code.{checkBits};
-ghost use Rattle.code.specs.Layout.{blockOffset, dataBytes, dataOf, pageBytes, pageClear, wordsOf};
+ghost use Rattle.code.specs.Layout.{blockOffset, dataOf, wordsOf};
 ghost use Rattle.code.specs.Parameters.{Accepted};
-ghost use Rattle.layout.specs.Sizes.{Degrees};
 ghost use Rattle.layout.specs.Replaced.{replaced};
-ghost use Rattle.page.specs.Taken.{sizeOf};
+ghost use Rattle.page.specs.Taken.{Taking, sizeOf};
 use code::Outcome;
 use code::Parameters;
 use code::Verdict;
 
 // Block i of the page is put in its place among the blocks.
 fn take_block(p: Parameters, w: &[u32], page: &[u8], blocks: &mut [u8], i: usize)
-    requires { ⌜ Accepted p × Degrees p (now w) × (length (now page) ≡ pageBytes p) × T (pageClear p (now page)) × (length (now blocks) ≡ dataBytes p) × (i < p .m) ⌝ }
-    ensures { λ x. ⌜ now (blocks .exit) ≡ replaced (now (blocks .entry)) (blockOffset p i) (digits 8 (sizeOf p i) (getD (wordsOf p (now (page .entry))) i 0 / 2 ^ checkBits p i)) ⌝ }
+    requires { ⌜ Taking p (now w) (now page) (now blocks) × (i < p .m) ⌝ }
+    ensures { λ x. ⌜ now (blocks .exit) ≡ replaced (now (blocks .entry)) (blockOffset p i)
+        (digits 8 (sizeOf p i) (getD (wordsOf p (now (page .entry))) i 0 / 2 ^ checkBits p i)) ⌝ }
 {
-    let k = layout::sub_word_bytes(p);
-    let start = i * k;
-    let end = start + k;
     let at = layout::block_offset(p, w, i);
     let size = layout::block_size(p, w, i);
     let stop = at + size;
     let bits = layout::check_bits(p, w, i);
-    let s = &page[start..end];
+    let s = layout::sub_word(p, page, i);
     kernels::bytes::copy_down(&mut blocks[at..stop], s, bits);
 }
 
 // The blocks of the page.
 fn take_blocks(p: Parameters, w: &[u32], page: &[u8], blocks: &mut [u8])
-    requires { ⌜ Accepted p × Degrees p (now w) × (length (now page) ≡ pageBytes p) × T (pageClear p (now page)) × (length (now blocks) ≡ dataBytes p) ⌝ }
+    requires { ⌜ Taking p (now w) (now page) (now blocks) ⌝ }
     ensures { λ x. ⌜ now (blocks .exit) ≡ dataOf p (now (page .entry)) ⌝ }
 {
     let m = p.m as usize;

@@ -39,7 +39,13 @@ take-blocks-requires c κs =
     let s = d .before .before .before .before in
     let a = s .args in
     let x = read-clear (a .p) (a .page .now) (length (a .blocks .now)) (s .pre) (passed e) in
-    (s .pre, d .degrees .ensures, x .exact, x .clear, read-blocks (a .p) (a .page .now) (length (a .blocks .now)) (s .pre) (passed e))
+    record {
+      accepts = s .pre;
+      degrees = d .degrees .ensures;
+      exact = x .exact;
+      clear = x .clear;
+      room = read-blocks (a .p) (a .page .now) (length (a .blocks .now)) (s .pre) (passed e);
+    }
 
 verdict-of-requires : tie.Need-verdict-of-requires
 verdict-of-requires c κs =

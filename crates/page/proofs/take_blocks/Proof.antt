@@ -23,13 +23,13 @@ cast-m c = search needs
 loop-holds : tie.Need-loop-holds Inv-loop μ-loop
 loop-holds c =
     let s = c .before .before .before .before in
-    taken-start (s .args .p) (s .args .page .now) (s .args .blocks .now) (s .pre .4)
+    taken-start (s .args .p) (s .args .page .now) (s .args .blocks .now) (s .pre .room)
 
 take-block-requires : tie.Need-take-block-requires Inv-loop μ-loop
 take-block-requires c κs =
     let l = c .before .before in
-    let s = l .before .before .before .before .before in
-    (s .pre .0, s .pre .1, s .pre .2, s .pre .3, l .loop .inv .exact, c .before .loop-test .taken)
+    let r = l .before .before .before .before .before .pre in
+    (record { accepts = r .accepts; degrees = r .degrees; exact = r .exact; clear = r .clear; room = l .loop .inv .exact }, c .before .loop-test .taken)
 
 add-i : tie.Need-add-i Inv-loop μ-loop
 add-i c = search needs
@@ -48,7 +48,7 @@ loop-again c =
     (l .loop .i) (l .loop .inv) (t .loop-test .taken) refl)
 
 same-length : tie.Need-same-length Inv-loop μ-loop
-same-length c = let l = c .before in let s = l .before .before .before .before .before in l .loop .inv .exact ∙ sym (s .pre .4)
+same-length c = let l = c .before in let s = l .before .before .before .before .before in l .loop .inv .exact ∙ sym (s .pre .room)
 
 returns : tie.Need-returns Inv-loop μ-loop
 returns c =
@@ -56,8 +56,8 @@ returns c =
     let k = l .before .before .before in
     let s = k .before .before in
     let a = s .args in
-    taken-all (a .p) (s .pre .0) (a .page .now) (l .loop .blocks) (l .loop .i)
-    (is-page (a .p) (a .page .now) (λ i. k .shared-slice-known2 .given i .fits) (s .pre .2) (s .pre .3))
+    taken-all (a .p) (s .pre .accepts) (a .page .now) (l .loop .blocks) (l .loop .i)
+    (is-page (a .p) (a .page .now) (λ i. k .shared-slice-known2 .given i .fits) (s .pre .exact) (s .pre .clear))
     (l .loop .inv) (c .loop-test .left)
 
 pub take-blocks-spec : {M : Type 1} → statement M
