@@ -11,7 +11,7 @@ use lib.ListN.{length, take, drop}
 use lib.Pow.{pow-mono}
 use Rattle.polynomial.specs.Bits.{coefficient}
 use Rattle.polynomial.specs.Digits.{value}
-use Rattle.polynomial.specs.Division.{Deg, rem-lt}
+use Rattle.polynomial.specs.Division.{rem-lt}
 use Rattle.polynomial.specs.Sums.{All, add, at-all}
 use Rattle.polynomial.specs.Multiple.{Multiple, multiple-same, rem-differ}
 use Rattle.field.specs.Elements.{power-full, power-order, syndrome, syndrome-iff, syndrome-lt, syndrome-sum}

@@ -1,7 +1,7 @@
 -- The rule of a sub-word: its data in their places, and what the later sub-words add.
-use mathlib.Core.Path.{_≡_, refl, sym, ap, ap₂, _∙_}
+use mathlib.Core.Path.{_≡_, sym, ap, ap₂, _∙_}
 use mathlib.Core.List.{List}
-use Prim.Native.Nat.{ℕ, zero, suc, _+_, _-_, _*_, _%_, _^_, _≤_, _<_}
+use Prim.Native.Nat.{ℕ, suc, _+_, _-_, _*_, _%_, _^_, _≤_, _<_}
 use native.Mathlib.Nat as Nat
 use native.Mathlib.Omega.{arith}
 use lib.Pow.{pow-mono, shl-lt}
@@ -9,7 +9,7 @@ use Rattle.polynomial.specs.Xor.{xor, xor-zero-r}
 use Rattle.code.specs.declared.Parameters.{Parameters}
 use Rattle.code.specs.Code.{N, carried, checkBits, combine, level}
 use Rattle.code.specs.Layout.{dataBits}
-use Rattle.code.specs.Parameters.{Accepted, len, stored, subWordBytes}
+use Rattle.code.specs.Parameters.{Accepted, stored, subWordBytes}
 use Rattle.code.specs.Steps.{carried-zero, carried-suc}
 use Rattle.layout.specs.Sizes.{bits-all, check-below}
 

@@ -1,7 +1,7 @@
 -- Coset leaders: from t to t + 1 the exponents gain the coset of 2t + 1, and that coset is new exactly when 2t + 1 leads it.
 --   leader n q j    no value of the coset of j is smaller than j
 use mathlib.Core.Path.{_≡_, refl, sym, ap, _∙_}
-use mathlib.Core.Logic.{_⊎_, inl, inr, _↔_}
+use mathlib.Core.Logic.{_⊎_, inl, inr}
 use mathlib.Core.Bool.{Bool, true, false, not, _&&_}
 use Prim.Native.Nat.{ℕ, zero, suc, _*_, _%_, _^_, _≤_, _<_, zero-le, suc-le-suc}
 use native.Mathlib.Nat.{le-refl, not-suc-le-zero, le-of-suc-le-suc, eq-or-lt-of-le, mod-eq-of-lt, mul-assoc, mul-comm, mod-mod}
@@ -38,11 +38,6 @@ pub leader-cases : (n q j : ℕ) (P : Bool → Type 0) → (((s : ℕ) → s < q
     → ((s : ℕ) → s < q → j * 2 ^ s % n < j → P false) → P (leader n q j)
 unfolding leader
 leader-cases n q j P y f = leads-cases n j q P y f
-
-pub leader-iff : (n q j : ℕ) → T (leader n q j) ↔ ((s : ℕ) → s < q → ¬ (j * 2 ^ s % n < j))
-leader-iff n q j =
-    leader-cases n q j (λ b. T b ↔ ((s : ℕ) → s < q → ¬ (j * 2 ^ s % n < j))) (λ h. ((λ t s l k. omega (arith, h s l)), (λ h. tt)))
-    (λ s l k. ((λ t. absurd t), (λ h. h s l k)))
 
 module _ (n q : ℕ) (size : 2 ^ q ≡ suc n) (pos : 0 < n) where
   pub next-ind : (P : ℕ → Type 0) (t : ℕ) → ((a : ℕ) → Mem a (exponents n q t) → P a) → ((a : ℕ) → Mem a (coset n q (suc (2 * t))) → P a) → (a : ℕ) → Mem a (exponents n q (suc t)) → P a

@@ -6,14 +6,14 @@ use Prim.Native.Nat.{ℕ, zero, suc, _+_, _*_, _/_, _≤_, _<_, zero-le}
 use native.Mathlib.Nat as Nat
 use native.Mathlib.Numerals.{add-one}
 use native.Mathlib.Omega.{arith}
-use lib.ListN.{length, getD, take, drop, length-replicate, getD-replicate, List·getD-map}
+use lib.ListN.{length, getD, take, drop, length-replicate}
 use Rattle.polynomial.specs.Digits.{digits, value}
 use Rattle.code.specs.declared.Parameters.{Parameters}
 use Rattle.code.specs.Accepted.{accepted}
 use Rattle.code.specs.Bytes.{length-split}
 use Rattle.code.specs.Layout.{blockBits, blockOffset, blockSizes, blocksOf, dataBits, dataBytes, pageBytes, wordSizes, wordsOf}
 use Rattle.code.specs.Lists.{join, sum}
-use Rattle.code.specs.Pages.{blockBits-eq, blockSizes-eq, blocksOf-eq, length-blocks, wordsOf-eq}
+use Rattle.code.specs.Pages.{blockBits-eq, blocksOf-eq, length-blocks, wordsOf-eq}
 use Rattle.code.specs.Parameters.{Accepted, subWordBytes}
 use Rattle.code.specs.Placement.{getD-map-range, block-size, offset-eq, offset-replicate, page-size}
 use Rattle.layout.specs.Runs.{join-parts, split-at, sum-all, sum-le, sum-next, sum-none}

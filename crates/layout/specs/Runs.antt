@@ -7,7 +7,7 @@ use Prim.Native.Nat.{ℕ, zero, suc, _+_, _-_, _*_, _/_, _^_, _≤_, _<_, zero-l
 use native.Mathlib.Nat as Nat
 use native.Mathlib.Omega.{arith}
 use lib.Dec.{ltb}
-use lib.ListN.{length, getD, take, drop, replicate, length-drop, length-replicate, getD-replicate, take-append-drop}
+use lib.ListN.{length, getD, take, drop, length-drop, take-append-drop}
 use lib.Pow.{pow-add}
 use lib.Seq.{drop-drop, getD-drop, getD-take, length-take-le, take-length}
 use borrow.Author.Tests.{ltb-true, ltb-false}

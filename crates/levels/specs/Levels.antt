@@ -17,7 +17,7 @@ use Rattle.code.specs.Accepted.{Rules, accepted, rising}
 use Rattle.code.specs.Calls.{generatorRow, generators, rowsBy}
 use Rattle.code.specs.Code.{gen}
 use Rattle.code.specs.Lists.{range}
-use Rattle.code.specs.Parameters.{Accepted, strength, sheetRefusal, tested, testedOf, Tests}
+use Rattle.code.specs.Parameters.{Accepted, strength, sheetRefusal, testedOf, Tests}
 use Rattle.code.specs.Steps.{gen-eq}
 use Rattle.tables.specs.Factors.{Factors}
 use Rattle.element.specs.declared.Field.{Field}

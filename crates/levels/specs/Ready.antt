@@ -18,7 +18,7 @@ use Rattle.kernels.specs.Move.{align-deg}
 use Rattle.kernels.specs.Row.{D, D-is}
 use Rattle.kernels.specs.Table.{Table, MovedUp, moved-up, RemainderBy}
 use Rattle.code.specs.declared.Parameters.{Parameters}
-use Rattle.code.specs.Accepted.{Rules, accepted, lawful, degree-high, degree-of}
+use Rattle.code.specs.Accepted.{Rules, accepted, degree-high, degree-of}
 use Rattle.code.specs.Buffers.{row-back, row-length}
 use Rattle.code.specs.Calls.{generators}
 use Rattle.code.specs.Code.{gen, degree, remainder}

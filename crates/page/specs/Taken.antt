@@ -17,7 +17,7 @@ use Rattle.code.specs.Accepted.{accepted}
 use Rattle.code.specs.Code.{checkBits, dataWords}
 use Rattle.code.specs.Layout.{IsPage, dataBits, dataBytes, dataOf, blockOffset, pageBytes, pageClear, wordsOf}
 use Rattle.code.specs.Pages.{dataOf-eq, length-data, page-words, whole}
-use Rattle.code.specs.Parameters.{Accepted, len, stored}
+use Rattle.code.specs.Parameters.{Accepted, stored}
 use Rattle.code.specs.Placement.{data-at}
 use Rattle.layout.specs.Parts.{offset-next, block-room, blocks-parts}
 use Rattle.layout.specs.Sizes.{Degrees, check-below}

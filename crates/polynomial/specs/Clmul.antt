@@ -80,9 +80,6 @@ split-bit a = sym (bit-join a (a / 2)) ∙ div-add-mod' a 2
 pub clmul-one-r : (a : ℕ) → clmul a 1 ≡ a
 clmul-one-r = bin-ind (λ (n : ℕ). clmul n 1 ≡ n) (clmul-zero-l 1) (λ n ih. clmul-step n 1 ∙ rw (ih, mul-one) (split-bit n))
 
-clmul-bit-l : (n b : ℕ) → clmul (n % 2) b ≡ n % 2 * b
-clmul-bit-l n b = odd-ind (λ (x : ℕ). clmul x b ≡ x * b) (simp (clmul-zero-l, zero-mul)) (simp (clmul-one-l, one-mul)) n
-
 clmul-bit-r : (n b : ℕ) → clmul b (n % 2) ≡ n % 2 * b
 clmul-bit-r n b = odd-ind (λ (x : ℕ). clmul b x ≡ x * b) (simp (clmul-zero-r, zero-mul)) (simp (clmul-one-r, one-mul)) n
 

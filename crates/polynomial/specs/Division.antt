@@ -90,9 +90,6 @@ deg-le x m n d e = le-of-suc-le-suc (lt-of-not-le (λ h. not-le-of-lt (lt-of-deg
 pub deg-unique : (x m n : ℕ) → Deg x m → Deg x n → m ≡ n
 deg-unique x m n d e = le-antisymm (deg-le x m n d e) (deg-le x n m e d)
 
-pub deg-le-of-lt : {x : ℕ} (m k : ℕ) → Deg x m → x < 2 ^ k → m < k
-deg-le-of-lt {x} m k d h = lt-of-not-le (λ l. not-le-of-lt h (le-trans (pow-mono l) (le-of-deg m d)))
-
 -- ---- x^n + 1
 pub unity-xor : (n : ℕ) → 0 < n → xor (2 ^ n) 1 ≡ 2 ^ n + 1
 unity-xor n h = sym (xor-is (2 ^ n) 1) ∙ rw one-mul at (B.xor-shifted 1 n 1 (pow-lt {i = 0} h))

@@ -82,9 +82,6 @@ xor-cancel a b = sym (xor-assoc a a b) ∙ simp (xor-self, xor-zero-l)
 -- sums of polynomials, brought to one form: list `xors` to `simp`
 pub ruleset xors = (xor-assoc, xor-comm, xor-left-comm, xor-cancel, xor-self, xor-zero-l, xor-zero-r)
 
-pub xor-inj : (a : ℕ) {b c : ℕ} → xor a b ≡ xor a c → b ≡ c
-xor-inj a {b} {c} e = sym (xor-cancel a b) ∙ ap (xor a) e ∙ xor-cancel a c
-
 pub xor-eq-zero : (a b : ℕ) → xor a b ≡ 0 → a ≡ b
 xor-eq-zero a b e = sym (xor-zero-r a) ∙ rw (← e) (xor-cancel a b)
 

@@ -3,7 +3,7 @@
 --   NumbersFit p L a k          what is known where there is none
 --   bitsRefusal p r             the refusal of a register with a bit at or above its level's degree: 12, or 0
 use mathlib.Core.Path.{_≡_, refl, sym, ap, _∙_}
-use mathlib.Core.Bool.{true, false, not, _||_}
+use mathlib.Core.Bool.{true, false, not}
 use Prim.Native.Nat.{ℕ, _+_, _^_, _≤_, _<_}
 use native.Mathlib.Nat as Nat
 use lib.Dec.{leb, ltb, lit≤, nltb→le}

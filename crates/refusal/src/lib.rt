@@ -3,7 +3,6 @@ ghost use mathlib.Core.Path.{_≡_};
 ghost use mathlib.Core.Bool.{not};
 ghost use Prim.Native.Nat.{_+_, _^_, _≤_};
 ghost use lib.Dec.{leb, ltb};
-ghost use lib.ListN.{length};
 ghost use Rattle.polynomial.specs.Digits.{value};
 ghost use Rattle.code.specs.Parameters.{Accepted, sheetRefusal};
 ghost use Rattle.code.specs.Refusals.{badWidth, judgeRefusal, openRefusal, readRefusal, wordRefusal, writeRefusal};

@@ -11,7 +11,7 @@ use Rattle.code.specs.Chains.{or-first, or-none}
 use Rattle.code.specs.Answers.{sheet-pos, tested-eq}
 use Rattle.code.specs.Layout.{blocksClear, dataBytes, pageBytes}
 use Rattle.code.specs.Lists.{_orElse_, _when_}
-use Rattle.code.specs.Parameters.{Accepted, Tests, sheetRefusal, tested, testedNumber, testedOf}
+use Rattle.code.specs.Parameters.{Accepted, Tests, sheetRefusal, testedNumber, testedOf}
 use Rattle.code.specs.Refusals.{badWidth, notExact, writeLengths, writeRefusal}
 use Rattle.code.specs.Writer.{Wrote, blocksGiven, lead, sheetGiven}
 use Rattle.writer.specs.Output.{wrote-refused}

@@ -1,8 +1,8 @@
 use borrow.Author.Needs.{needs}
-use mathlib.Core.Path.{_≡_, ap, _∙_}
+use mathlib.Core.Path.{ap, _∙_}
 use native.Mathlib.Nat as Nat
 use native.Mathlib.Omega.{arith}
-use Prim.Native.Nat.{ℕ, _*_, _-_, _%_, _^_}
+use Prim.Native.Nat.{_*_, _-_, _%_, _^_}
 use lib.ListN.{length}
 use Rattle.polynomial.specs.Digits.{value}
 use Rattle.kernels.specs.Value.{value-lt}

@@ -1,6 +1,5 @@
 use borrow.Author.Needs.{needs}
 use mathlib.Core.Path.{refl, sym, _∙_}
-use native.Mathlib.Omega.{arith}
 use Prim.Native.Nat.{_-_, _/_, _^_}
 use lib.ListN.{getD}
 use Rattle.polynomial.specs.Digits.{digits}

@@ -1,5 +1,4 @@
 use borrow.Author.Needs.{needs}
-use mathlib.Core.Path.{sym}
 use Rattle.refusal.proofs.sheet_refusal.Statement.{statement}
 use Rattle.refusal.proofs.sheet_refusal.Tie as tie
 
