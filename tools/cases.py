@@ -512,7 +512,38 @@ def named(sheet):
 
 
 def row(term, expected):
-    TABLES[-1][3].append('(%s, %s)' % (term, expected))
+    TABLES[-1][3].append((term, expected))
+
+
+WIDTH = 140
+
+
+def filled(text, indent):
+    """A text in lines of WIDTH at most, in rt fmt's layout: broken before `∷`, or else before a record."""
+    out, line = [], ' ' * indent
+    for part in text.replace(' ∷ ', '\n∷ ').split('\n'):
+        joined = line + ' ' + part if line.strip() else line + part
+        if len(joined) < WIDTH:
+            line = joined
+            continue
+        words = [line, part] if line.strip() else joined.split(' (record ')
+        out += words[:-1]
+        line = ' ' * (indent + 4) + (part if line.strip() else '(record ' + words[-1])
+    return '\n'.join(out + [line])
+
+
+def laid(name, rows):
+    """A table's definition in rt fmt's layout."""
+    out = [name + ' =']
+    for k, (term, expected) in enumerate(rows):
+        line = '    %s(%s, %s)' % ('∷ ' if k else '', term, expected)
+        if len(line) <= WIDTH:
+            out.append(line)
+            continue
+        indent = 4 if k else 0
+        opened = '    ∷ (' if k else out.pop() + ' ('
+        out += [opened] + [filled(text, indent + 2) + ',' for text in (term, expected)] + [' ' * indent + ')']
+    return '\n'.join(out + ['    ∷ []'])
 
 
 def call(name, *arguments):
@@ -677,7 +708,8 @@ def huge_numbers():
     alone('%s %d 0' % (call('remainderRefusal', A, page), U64), refusal(A, page=page, sub_word=U64, room=(0, lambda: 96)))
 
 
-HEAD = '''-- Cases of our own, of definitions that no compiled call gives back: each row has what a definition gives and what an independent program says.
+HEAD = '''-- Cases of our own, of definitions that no compiled call gives back:
+-- each row has what a definition gives and what an independent program says.
 -- Written by tools/cases.py, which works every number out by other means; see there. The calls' own cases are run: tools/trial.py.
 use mathlib.Core.Path.{_≡_, refl}
 use mathlib.Core.List.{List, [], _∷_, map}
@@ -703,7 +735,7 @@ use Rattle.cases.specs.Sheets.{Row, A, B, held}
 def printed():
     out = [HEAD]
     for name, about, unfolding, rows in TABLES:
-        out.append('-- %s\npub %s : List Row\n%s =\n    %s\n    ∷ []\n' % (about, name, name, '\n    ∷ '.join(rows)))
+        out.append('-- %s\npub %s : List Row\n%s\n' % (about, name, laid(name, rows)))
         out.append('pub %s-hold : map (λ r. r .0) %s ≡ map (λ r. r .1) %s\nunfolding %s %s\n%s-hold = refl\n' % (name, name, name, name, unfolding, name))
     return '\n'.join(out)
 

@@ -73,10 +73,12 @@ unfolding differences distance
 light-distance = refl
 
 -- so a distance one larger is false
-pub not-farther : ((x y : List ℕ) → Bytes x → Bytes y → judgeAnswer A x ≡ Verdict.Member → judgeAnswer A y ≡ Verdict.Member → x ≢ y → suc (distance A) ≤ differences A x y) → ⊥
+pub not-farther : ((x y : List ℕ) → Bytes x → Bytes y → judgeAnswer A x ≡ Verdict.Member → judgeAnswer A y ≡ Verdict.Member → x ≢ y
+    → suc (distance A) ≤ differences A x y) → ⊥
 not-farther h =
     let far : suc (distance A) ≤ differences A light zeros =
-    h light zeros (lit< tt, (lit< tt, (lit< tt, (lit< tt, tt)))) (lit< tt, (lit< tt, (lit< tt, (lit< tt, tt)))) light-member zeros-member light-other in
+    h light zeros (lit< tt, (lit< tt, (lit< tt, (lit< tt, tt))))
+    (lit< tt, (lit< tt, (lit< tt, (lit< tt, tt)))) light-member zeros-member light-other in
     lt-irrefl (distance A) (rw light-distance at far)
 
 -- the words of the first are those of a member
@@ -109,5 +111,6 @@ unfolding rem gen degree combine N wordsOf pow xor
 newton-holds = refl
 
 -- so the equal form, word by word, is false
-pub not-wordwise : ((cs : List ℕ) (l : ℕ) → l < B .v → remainder B (B .v - l) (newton l cs) ≡ 0 → remainder B (B .v - l) (nested B l cs) ≡ 0) → ⊥
+pub not-wordwise :
+    ((cs : List ℕ) (l : ℕ) → l < B .v → remainder B (B .v - l) (newton l cs) ≡ 0 → remainder B (B .v - l) (nested B l cs) ≡ 0) → ⊥
 not-wordwise h = let e : _≡_ {A = ℕ} 0x13 0 = sym nested-fails ∙ h words-13 1 (lit< tt) newton-holds in omega arith

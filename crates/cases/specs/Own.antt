@@ -1,4 +1,5 @@
--- Cases of our own, of definitions that no compiled call gives back: each row has what a definition gives and what an independent program says.
+-- Cases of our own, of definitions that no compiled call gives back:
+-- each row has what a definition gives and what an independent program says.
 -- Written by tools/cases.py, which works every number out by other means; see there. The calls' own cases are run: tools/trial.py.
 use mathlib.Core.Path.{_≡_, refl}
 use mathlib.Core.List.{List, [], _∷_, map}
@@ -36,8 +37,14 @@ offsets-hold = refl
 pub placedBits : List Row
 placedBits =
     (map (coefficientOf A (0x43 ∷ 0x57 ∷ 0x54 ∷ 0x19 ∷ []) 0) (range 0 15), 1 ∷ 1 ∷ 0 ∷ 0 ∷ 0 ∷ 0 ∷ 1 ∷ 0 ∷ 1 ∷ 1 ∷ 1 ∷ 0 ∷ 1 ∷ 0 ∷ 1 ∷ [])
-    ∷ (map (coefficientOf B (0x89 ∷ 0x52 ∷ 0x85 ∷ 0x3A ∷ 0x75 ∷ 0x71 ∷ []) 2) (range 0 15), 1 ∷ 0 ∷ 1 ∷ 0 ∷ 1 ∷ 1 ∷ 1 ∷ 0 ∷ 1 ∷ 0 ∷ 0 ∷ 0 ∷ 1 ∷ 1 ∷ 1 ∷ [])
-    ∷ (map (coefficientOf (sheet 4 5 2 1 2 2 0) (0x03 ∷ 0x03 ∷ 0x6B ∷ 0x02 ∷ 0x35 ∷ 0x07 ∷ 0x05 ∷ 0x72 ∷ 0xC7 ∷ 0x0B ∷ []) 4) (range 0 15), 1 ∷ 1 ∷ 1 ∷ 0 ∷ 0 ∷ 0 ∷ 1 ∷ 1 ∷ 1 ∷ 1 ∷ 0 ∷ 1 ∷ 0 ∷ 0 ∷ 0 ∷ [])
+    ∷ (
+      map (coefficientOf B (0x89 ∷ 0x52 ∷ 0x85 ∷ 0x3A ∷ 0x75 ∷ 0x71 ∷ []) 2) (range 0 15),
+      1 ∷ 0 ∷ 1 ∷ 0 ∷ 1 ∷ 1 ∷ 1 ∷ 0 ∷ 1 ∷ 0 ∷ 0 ∷ 0 ∷ 1 ∷ 1 ∷ 1 ∷ [],
+    )
+    ∷ (
+      map (coefficientOf (sheet 4 5 2 1 2 2 0) (0x03 ∷ 0x03 ∷ 0x6B ∷ 0x02 ∷ 0x35 ∷ 0x07 ∷ 0x05 ∷ 0x72 ∷ 0xC7 ∷ 0x0B ∷ []) 4) (range 0 15),
+      1 ∷ 1 ∷ 1 ∷ 0 ∷ 0 ∷ 0 ∷ 1 ∷ 1 ∷ 1 ∷ 1 ∷ 0 ∷ 1 ∷ 0 ∷ 0 ∷ 0 ∷ [],
+    )
     ∷ (map (blockBit A (0x0C ∷ 0xC1 ∷ 0x04 ∷ []) 1) (range 0 11), 1 ∷ 0 ∷ 0 ∷ 0 ∷ 0 ∷ 0 ∷ 1 ∷ 1 ∷ 0 ∷ 0 ∷ 1 ∷ [])
     ∷ (map (blockBit B (0x19 ∷ 0x53 ∷ 0xB9 ∷ 0x05 ∷ []) 2) (range 0 11), 1 ∷ 0 ∷ 0 ∷ 1 ∷ 1 ∷ 1 ∷ 0 ∷ 1 ∷ 1 ∷ 0 ∷ 1 ∷ [])
     ∷ (map (blockBit (sheet 4 3 2 2 5 7 0) (0x01 ∷ 0x00 ∷ 0x55 ∷ []) 1) (range 0 1), 0 ∷ [])
@@ -64,8 +71,14 @@ newtonSums =
     (newton 0 (wordsOf A (0xF3 ∷ 0x4F ∷ 0x9E ∷ 0x66 ∷ [])) ∷ [], 10605 ∷ [])
     ∷ (newton 0 (wordsOf B (0x3F ∷ 0x38 ∷ 0x28 ∷ 0x62 ∷ 0xB6 ∷ 0x3E ∷ [])) ∷ [], 25761 ∷ [])
     ∷ (newton 1 (wordsOf B (0x5E ∷ 0x41 ∷ 0xC2 ∷ 0x3C ∷ 0x1A ∷ 0x27 ∷ [])) ∷ [], 21996 ∷ [])
-    ∷ (newton 1 (wordsOf (sheet 4 5 2 1 2 2 0) (0x7C ∷ 0x3F ∷ 0xA1 ∷ 0x73 ∷ 0x55 ∷ 0x72 ∷ 0x78 ∷ 0x4A ∷ 0x3E ∷ 0x1C ∷ [])) ∷ [], 108412 ∷ [])
-    ∷ (newton 2 (wordsOf (sheet 4 5 3 1 2 2 2) (0x88 ∷ 0x48 ∷ 0xA0 ∷ 0x23 ∷ 0x53 ∷ 0x27 ∷ 0x59 ∷ 0x68 ∷ 0x33 ∷ 0x6C ∷ [])) ∷ [], 272417 ∷ [])
+    ∷ (
+      newton 1 (wordsOf (sheet 4 5 2 1 2 2 0) (0x7C ∷ 0x3F ∷ 0xA1 ∷ 0x73 ∷ 0x55 ∷ 0x72 ∷ 0x78 ∷ 0x4A ∷ 0x3E ∷ 0x1C ∷ [])) ∷ [],
+      108412 ∷ [],
+    )
+    ∷ (
+      newton 2 (wordsOf (sheet 4 5 3 1 2 2 2) (0x88 ∷ 0x48 ∷ 0xA0 ∷ 0x23 ∷ 0x53 ∷ 0x27 ∷ 0x59 ∷ 0x68 ∷ 0x33 ∷ 0x6C ∷ [])) ∷ [],
+      272417 ∷ [],
+    )
     ∷ []
 
 pub newtonSums-hold : map (λ r. r .0) newtonSums ≡ map (λ r. r .1) newtonSums
@@ -77,8 +90,14 @@ pub carries : List Row
 carries =
     (carried 1 0 (drop 1 (wordsOf A (0x46 ∷ 0x31 ∷ 0x60 ∷ 0x17 ∷ []))) ∷ [], 5984 ∷ [])
     ∷ (carried 1 1 (drop 2 (wordsOf B (0x04 ∷ 0x51 ∷ 0x61 ∷ 0x04 ∷ 0x29 ∷ 0x19 ∷ []))) ∷ [], 11131 ∷ [])
-    ∷ (carried 3 0 (drop 1 (wordsOf (sheet 4 5 3 1 2 2 2) (0x6E ∷ 0x3A ∷ 0x91 ∷ 0x71 ∷ 0x67 ∷ 0x1B ∷ 0xED ∷ 0x20 ∷ 0xE1 ∷ 0x05 ∷ []))) ∷ [], 20474 ∷ [])
-    ∷ (carried 0 3 (drop 4 (wordsOf (sheet 4 5 3 1 2 2 2) (0x27 ∷ 0x6E ∷ 0xDA ∷ 0x79 ∷ 0x90 ∷ 0x4B ∷ 0x3A ∷ 0x63 ∷ 0x1D ∷ 0x32 ∷ []))) ∷ [], 0 ∷ [])
+    ∷ (
+      carried 3 0 (drop 1 (wordsOf (sheet 4 5 3 1 2 2 2) (0x6E ∷ 0x3A ∷ 0x91 ∷ 0x71 ∷ 0x67 ∷ 0x1B ∷ 0xED ∷ 0x20 ∷ 0xE1 ∷ 0x05 ∷ []))) ∷ [],
+      20474 ∷ [],
+    )
+    ∷ (
+      carried 0 3 (drop 4 (wordsOf (sheet 4 5 3 1 2 2 2) (0x27 ∷ 0x6E ∷ 0xDA ∷ 0x79 ∷ 0x90 ∷ 0x4B ∷ 0x3A ∷ 0x63 ∷ 0x1D ∷ 0x32 ∷ []))) ∷ [],
+      0 ∷ [],
+    )
     ∷ []
 
 pub carries-hold : map (λ r. r .0) carries ≡ map (λ r. r .1) carries
@@ -112,8 +131,12 @@ bitsApart-hold = refl
 
 -- The distance.
 pub distances : List Row
-distances =
-    (map distance (A ∷ B ∷ (sheet 4 2 1 4 5 0 0) ∷ (sheet 4 5 2 1 2 2 0) ∷ (sheet 4 5 3 1 2 2 2) ∷ (sheet 4 3 2 2 5 7 0) ∷ (sheet 4 3 2 6 7 7 0) ∷ (sheet 4 4 1 1 2 0 0) ∷ (sheet 4 5 1 1 2 0 0) ∷ (sheet 4 3 1 2 3 0 0) ∷ (sheet 4 2 1 3 7 0 0) ∷ (sheet 4 3 2 1 3 3 0) ∷ (sheet 4 4 3 1 2 2 2) ∷ (sheet 8 8 3 1 2 2 2) ∷ (sheet 12 8 3 28 32 39 58) ∷ []), 5 ∷ 7 ∷ 11 ∷ 5 ∷ 5 ∷ 15 ∷ 15 ∷ 5 ∷ 5 ∷ 7 ∷ 14 ∷ 7 ∷ 5 ∷ 5 ∷ 117 ∷ [])
+distances = (
+  map distance (A ∷ B ∷ (sheet 4 2 1 4 5 0 0) ∷ (sheet 4 5 2 1 2 2 0) ∷ (sheet 4 5 3 1 2 2 2) ∷ (sheet 4 3 2 2 5 7 0)
+      ∷ (sheet 4 3 2 6 7 7 0) ∷ (sheet 4 4 1 1 2 0 0) ∷ (sheet 4 5 1 1 2 0 0) ∷ (sheet 4 3 1 2 3 0 0) ∷ (sheet 4 2 1 3 7 0 0)
+      ∷ (sheet 4 3 2 1 3 3 0) ∷ (sheet 4 4 3 1 2 2 2) ∷ (sheet 8 8 3 1 2 2 2) ∷ (sheet 12 8 3 28 32 39 58) ∷ []),
+  5 ∷ 7 ∷ 11 ∷ 5 ∷ 5 ∷ 15 ∷ 15 ∷ 5 ∷ 5 ∷ 7 ∷ 14 ∷ 7 ∷ 5 ∷ 5 ∷ 117 ∷ [],
+)
     ∷ []
 
 pub distances-hold : map (λ r. r .0) distances ≡ map (λ r. r .1) distances
@@ -188,9 +211,18 @@ writings-hold = refl
 
 -- Huge numbers: sheets; a register, its width and what is fed; an index.
 pub hugeNumbers : List Row
-hugeNumbers =
-    (map sheetRefusal ((sheet 4294967295 2 1 1 2 0 0) ∷ (sheet 4 4294967295 1 1 2 0 0) ∷ (sheet 4 2 4294967295 1 2 0 0) ∷ (sheet 4 2 1 1 4294967295 0 0) ∷ (sheet 4 2 1 1 2 0 4294967295) ∷ (sheet 12 8 3 1 2 3 4294967295) ∷ []), 1 ∷ 2 ∷ 2 ∷ 3 ∷ 3 ∷ 3 ∷ [])
-    ∷ (feedRefusal A 4294967295 (record { level = 4294967295; count = 18446744073709551615; remainder = replicate 12 0 }) 18446744073709551615 ∷ feedRefusal A 64 (record { level = 0; count = 18446744073709551615; remainder = replicate 12 0 }) 18446744073709551615 ∷ feedRefusal A 1 (record { level = 4294967295; count = 0; remainder = replicate 12 0 }) 1 ∷ [], 5 ∷ 11 ∷ 12 ∷ [])
+hugeNumbers = (
+  map sheetRefusal ((sheet 4294967295 2 1 1 2 0 0) ∷ (sheet 4 4294967295 1 1 2 0 0) ∷ (sheet 4 2 4294967295 1 2 0 0)
+      ∷ (sheet 4 2 1 1 4294967295 0 0) ∷ (sheet 4 2 1 1 2 0 4294967295) ∷ (sheet 12 8 3 1 2 3 4294967295) ∷ []),
+  1 ∷ 2 ∷ 2 ∷ 3 ∷ 3 ∷ 3 ∷ [],
+)
+    ∷ (
+      feedRefusal A 4294967295
+          (record { level = 4294967295; count = 18446744073709551615; remainder = replicate 12 0 }) 18446744073709551615
+          ∷ feedRefusal A 64 (record { level = 0; count = 18446744073709551615; remainder = replicate 12 0 }) 18446744073709551615
+          ∷ feedRefusal A 1 (record { level = 4294967295; count = 0; remainder = replicate 12 0 }) 1 ∷ [],
+      5 ∷ 11 ∷ 12 ∷ [],
+    )
     ∷ (remainderRefusal A (0xC2 ∷ 0x01 ∷ 0x13 ∷ 0x00 ∷ []) 18446744073709551615 0 ∷ [], 9 ∷ [])
     ∷ []
 

@@ -1,4 +1,5 @@
--- The requirement's worked cases (docs/REQUIREMENT.md): those of 'On the counter' that are marked *, and the writer program's two, in one table with one proof.
+-- The requirement's worked cases (docs/REQUIREMENT.md):
+-- those of 'On the counter' that are marked *, and the writer program's two, in one table with one proof.
 use mathlib.Core.Path.{_≡_, refl}
 use mathlib.Core.List.{List, [], _∷_, map}
 use Rattle.polynomial.specs.Digits.{value}

@@ -63,11 +63,13 @@ known p t = go (either (eqb (p .q) 4 || eqb (p .q) 8) (eqb (p .q) 12) t)
     go (inl t) = two (either (eqb (p .q) 4) (eqb (p .q) 8) t)
     go (inr t) = inr (inr (eqb→eq (p .q) 12 t))
 
-rise : (p : Parameters) → p .v ≤ 3 → p .t0 < p .t1 → T (placeFits p 2) → T (placeFits p 3) → (a : ℕ) → a < p .v → strength p a ≤ strength p (suc a)
+rise : (p : Parameters) → p .v ≤ 3 → p .t0 < p .t1 → T (placeFits p 2) → T (placeFits p 3) → (a : ℕ) → a < p .v
+    → strength p a ≤ strength p (suc a)
 unfolding placeFits
 rise p h l x y zero b = omega arith
 rise p h l x y (suc zero) b = leb→le (p .t1) (p .t2) (chosen (leb 2 (p .v)) (leb (p .t1) (p .t2)) (eqb (p .t2) 0) (le→leb 2 (p .v) b) x)
-rise p h l x y (suc (suc zero)) b = leb→le (p .t2) (p .t3) (chosen (leb 3 (p .v)) (leb (p .t2) (p .t3)) (eqb (p .t3) 0) (le→leb 3 (p .v) b) y)
+rise p h l x y (suc (suc zero)) b =
+    leb→le (p .t2) (p .t3) (chosen (leb 3 (p .v)) (leb (p .t2) (p .t3)) (eqb (p .t3) 0) (le→leb 3 (p .v) b) y)
 rise p h l x y (suc (suc (suc a))) b = absurd (Nat.not-suc-le-zero {n = 0} (omega arith))
 
 module _ (p : Parameters) where
@@ -111,7 +113,8 @@ module _ (p : Parameters) where
         high = leb→le (strength p (p .v)) 64 (t4 .1);
         short = leb→le (2 * strength p (p .v)) (len p - 1) (t5 .1);
         clash = λ d j a b e h. nonzero (d * j % len p) (any-none (λ j. eqb (d * j % len p) 0) 1 (2 * strength p (p .v))
-            (any-none (λ d. any (λ j. eqb (d * j % len p) 0) (range 1 (2 * strength p (p .v)))) 1 (p .m - 1) c d a (omega arith)) j e (omega arith));
+            (any-none (λ d. any (λ j. eqb (d * j % len p) 0) (range 1 (2 * strength p (p .v)))) 1 (p .m - 1) c d a (omega arith)) j e
+            (omega arith));
       }
 
   pub accepted : Accepted p → Rules p
@@ -140,15 +143,19 @@ module _ (p : Parameters) (R : Rules p) where
   n-is = fieldOf-length (p .q) (R .known)
 
   pub width-below : (a : ℕ) → a ≤ p .v → degree p a ≤ len p - 1
-  width-below a h = rw (degree-eq p a, ← n-is) (G.width-lt B (strength p a) (rw n-is (omega (arith, R .short, rising a (p .v) h (Nat.le-refl (p .v))))))
+  width-below a h =
+      rw (degree-eq p a, ← n-is) (G.width-lt B (strength p a) (rw n-is (omega (arith, R .short, rising a (p .v) h (Nat.le-refl (p .v))))))
 
   -- a generator has degree at most q t_a, so at most 768: 13 words of 64 bits hold it, and 12 a remainder
   pub degree-le : (a : ℕ) → degree p a ≤ p .q * strength p a
-  degree-le a = rw (degree-eq p a) (Nat.le-trans (width-le B (strength p a)) (Nat.le-of-eq (ap (λ (k : ℕ). k * strength p a) (fieldOf-exponent (p .q) (R .known)))))
+  degree-le a =
+      rw (degree-eq p a)
+      (Nat.le-trans (width-le B (strength p a)) (Nat.le-of-eq (ap (λ (k : ℕ). k * strength p a) (fieldOf-exponent (p .q) (R .known)))))
 
   pub degree-high : (a : ℕ) → a ≤ p .v → degree p a ≤ 768
   degree-high a h =
-      Nat.le-trans (degree-le a) (Nat.mul-le-mul {n₂ = 12} {m₂ = 64} (q-high (p .q) (R .known)) (Nat.le-trans (rising a (p .v) h (Nat.le-refl (p .v))) (R .high)))
+      Nat.le-trans (degree-le a)
+      (Nat.mul-le-mul {n₂ = 12} {m₂ = 64} (q-high (p .q) (R .known)) (Nat.le-trans (rising a (p .v) h (Nat.le-refl (p .v))) (R .high)))
 
   pub lawful : Lawful (B .field) (B .α) p
   lawful = record {
@@ -160,7 +167,8 @@ module _ (p : Parameters) (R : Rules p) where
     rising = rising;
     degrees = λ a h. rw (gen-eq p a, degree-eq p a) (G.generator-deg B (strength p a));
     roots = λ a h f. rw (gen-eq p a, degree-eq p a) (G.generator-iff B (strength p a) f);
-    no-clash = λ d j a b e h u. B .order (d * j % B .n) (rw n-is (R .clash d j a b e h)) (Nat.mod-lt (d * j) (n-pos B)) (pow-mod B (d * j) ∙ u);
+    no-clash = λ d j a b e h u.
+        B .order (d * j % B .n) (rw n-is (R .clash d j a b e h)) (Nat.mod-lt (d * j) (n-pos B)) (pow-mod B (d * j) ∙ u);
   }
 
   pub degree-of : (a : ℕ) → a ≤ p .v → Deg (gen p a) (degree p a)

@@ -13,7 +13,9 @@ use Rattle.code.specs.declared.Parameters.{Parameters}
 use Rattle.code.specs.declared.Tested.{Tested}
 use Rattle.code.specs.declared.Verdict.{Verdict}
 use Rattle.code.specs.Register.{Register}
-use Rattle.code.specs.Calls.{Judged, Made, MadeC, Named, NestingMade, ReadOut, Written, fedBy, judgeAnswer, judgeNumber, judgeValues, leaves, nesting, nestingBy, nestingNumber, nestingValues, outcome, outcomeNumber, outcomeValues, readAnswer, readLeaves, readNumber, readValues, unlessRefused, verdictNumber, verdictValues}
+use Rattle.code.specs.Calls.{Judged, Made, MadeC, Named, NestingMade, ReadOut, Written, fedBy, judgeAnswer, judgeNumber, judgeValues}
+use Rattle.code.specs.Calls.{leaves, nesting, nestingBy, nestingNumber, nestingValues, outcome, outcomeNumber, outcomeValues}
+use Rattle.code.specs.Calls.{readAnswer, readLeaves, readNumber, readValues, unlessRefused, verdictNumber, verdictValues}
 use Rattle.code.specs.Chains.{when-le}
 use Rattle.code.specs.Code.{N, failing, failingNested, failingNumber, failingValues, verdict}
 use Rattle.code.specs.Layout.{dataOf, pageOf, wordsOf}
@@ -66,7 +68,8 @@ pub leaves-refused : (r : ℕ) (x old : List ℕ) → 0 < r → leaves r x old �
 leaves-refused zero x old h = absurd (Nat.not-suc-le-zero h)
 leaves-refused (suc r) x old h = refl
 
-pub made-refused : (refusal k : ℕ) (result old : List ℕ) → refusal ≡ k → 0 < k → refusal ≤ lastRefusal → Made refusal result old old (Outcome.Refused k)
+pub made-refused : (refusal k : ℕ) (result old : List ℕ) → refusal ≡ k → 0 < k → refusal ≤ lastRefusal
+    → Made refusal result old old (Outcome.Refused k)
 made-refused refusal k result old e h b = record {
   answers = sym (ap outcome e ∙ outcome-refused k h);
   number = sym e;
@@ -87,7 +90,8 @@ made-done refusal result old after e f = record {
 -- ---- write
 module _ (p : Parameters) (L : ℕ) (b x : List ℕ) where
   pub written-refused : (k : ℕ) → k ≡ writeRefusal p L b (length x) → (k ≡ 0 → ⊥) → Written p L b x x (Outcome.Refused k)
-  written-refused k e h = made-refused (writeRefusal p L b (length x)) k (pageOf p b) x (sym e) (Nat.pos-of-ne-zero h) (write-le p L b (length x))
+  written-refused k e h =
+      made-refused (writeRefusal p L b (length x)) k (pageOf p b) x (sym e) (Nat.pos-of-ne-zero h) (write-le p L b (length x))
 
   pub written-done : (y : List ℕ) → writeRefusal p L b (length x) ≡ 0 → y ≡ pageOf p b → Written p L b x y Outcome.Done
   written-done y z e = made-done (writeRefusal p L b (length x)) (pageOf p b) x y z e
@@ -172,7 +176,8 @@ module _ (p : Parameters) (x : List ℕ) where
   }
 
   pub judged-refused : (k : ℕ) → k ≡ judgeRefusal p x → (k ≡ 0 → ⊥) → Judged p x (Verdict.Refused k)
-  judged-refused k e h = judged (Verdict.Refused k) (unless-refused p (wordsOf p x) (judgeRefusal p x) k e (Nat.pos-of-ne-zero h) ∙ sym judge-eq)
+  judged-refused k e h =
+      judged (Verdict.Refused k) (unless-refused p (wordsOf p x) (judgeRefusal p x) k e (Nat.pos-of-ne-zero h) ∙ sym judge-eq)
 
   pub judged-done : (r : Verdict) → judgeRefusal p x ≡ 0 → r ≡ verdict p (wordsOf p x) → Judged p x r
   judged-done r z e = judged r (e ∙ sym (judge-eq ∙ ap (λ (k : ℕ). unlessRefused k (verdict p (wordsOf p x))) z))
@@ -214,7 +219,8 @@ module _ (p : Parameters) (x : List ℕ) where
         read (Verdict.Refused k) b (unless-refused p (wordsOf p x) (readRefusal p x (length b)) k e l ∙ sym read-eq)
         (sym (leaves-eq ∙ ap (λ (r : ℕ). leaves r (dataOf p x) b) (sym e) ∙ leaves-refused k (dataOf p x) b l))
 
-    pub read-done : (r : Verdict) (y : List ℕ) → readRefusal p x (length b) ≡ 0 → r ≡ verdict p (wordsOf p x) → y ≡ dataOf p x → ReadOut p x b y r
+    pub read-done : (r : Verdict) (y : List ℕ) → readRefusal p x (length b) ≡ 0 → r ≡ verdict p (wordsOf p x) → y ≡ dataOf p x
+        → ReadOut p x b y r
     read-done r y z e f =
         read r y (e ∙ sym (read-eq ∙ ap (λ (k : ℕ). unlessRefused k (verdict p (wordsOf p x))) z))
         (f ∙ sym (leaves-eq ∙ ap (λ (k : ℕ). leaves k (dataOf p x) b) z))
@@ -236,7 +242,8 @@ outcome-values zero = refl
 outcome-values (suc r) = refl
 
 -- a C call's promise is that of an outcome with its number
-pub made-of : (refusal : ℕ) (result old after : List ℕ) (n : ℕ) → MadeC refusal result old after n → Made refusal result old after (outcome refusal)
+pub made-of : (refusal : ℕ) (result old after : List ℕ) (n : ℕ) → MadeC refusal result old after n
+    → Made refusal result old after (outcome refusal)
 made-of refusal result old after n m = record {
   answers = refl;
   number = outcome-number refusal;

@@ -22,7 +22,8 @@ use Rattle.field.specs.Fields.{fieldOf}
 use Rattle.generator.specs.Generator.{generator-divides}
 use Rattle.code.specs.declared.Parameters.{Parameters}
 use Rattle.code.specs.Accepted.{Rules, degree-high, lawful, rising, degree-of}
-use Rattle.code.specs.Calls.{asBytes, generatorRow, generators, nestedOf, nestedWordBytes, remainderBytes, rowsBy, shortBytes, subWordOf}
+use Rattle.code.specs.Calls.{asBytes, generatorRow, generators, nestedOf, nestedWordBytes}
+use Rattle.code.specs.Calls.{remainderBytes, rowsBy, shortBytes, subWordOf}
 use Rattle.code.specs.Code.{degree, divisor, gen, nested, nestedSum, remainder, shortRemainder, syndromes}
 use Rattle.code.specs.Layout.{wordsOf}
 use Rattle.code.specs.Lists.{range}
@@ -54,7 +55,8 @@ chosen false x y t = absurd t
 
 module _ (p : Parameters) (R : Rules p) where
   pub divides-up : (a b : ℕ) → a ≤ b → b ≤ p .v → remainder p a (gen p b) ≡ 0
-  divides-up a b h l = rw (gen-eq p a, degree-eq p a, gen-eq p b) (generator-divides (fieldOf (p .q)) (strength p a) (strength p b) (rising p R a b h l))
+  divides-up a b h l =
+      rw (gen-eq p a, degree-eq p a, gen-eq p b) (generator-divides (fieldOf (p .q)) (strength p a) (strength p b) (rising p R a b h l))
 
   -- ---- the divisor g_(v-l) / g_0
   module _ (l : ℕ) where
@@ -84,7 +86,8 @@ module _ (p : Parameters) (R : Rules p) where
     divisor-sum : deg (divisor p l) + degree p 0 ≡ degree p (p .v - l)
     divisor-sum =
         deg-unique (gen p top) (deg (divisor p l) + degree p 0) (degree p top)
-        (rw (← divisor-times) (deg-mul (deg (divisor p l)) (degree p 0) (divisor p l) (gen p 0) divisor-deg (degree-of p R 0 zero-le))) (degree-of p R top top-low)
+        (rw (← divisor-times) (deg-mul (deg (divisor p l)) (degree p 0) (divisor p l) (gen p 0) divisor-deg (degree-of p R 0 zero-le)))
+        (degree-of p R top top-low)
 
     pub divisor-degree : deg (divisor p l) ≡ degree p (p .v - l) - degree p 0
     divisor-degree = omega (arith, divisor-sum)
@@ -100,12 +103,15 @@ module _ (p : Parameters) (R : Rules p) where
     unfolding shortBytes
     short-back x =
         value-digits 8 96 (shortRemainder p l (wordsOf p x))
-        (Nat.lt-of-lt-of-le (short-lt (wordsOf p x)) (pow-mono (Nat.le-trans (Nat.le-trans (Nat.le-of-eq divisor-degree) (Nat.sub-le (degree p top) (degree p 0))) (degree-high p R top top-low))))
+        (Nat.lt-of-lt-of-le (short-lt (wordsOf p x)) (pow-mono
+        (Nat.le-trans (Nat.le-trans (Nat.le-of-eq divisor-degree) (Nat.sub-le (degree p top) (degree p 0))) (degree-high p R top top-low))))
 
   pub remainder-back : (x : List ℕ) (i : ℕ) → value 8 (remainderBytes p x i) ≡ remainder p 0 (subWordOf p x i)
   unfolding remainderBytes
   remainder-back x i =
-      value-digits 8 96 (remainder p 0 (subWordOf p x i)) (Nat.lt-of-lt-of-le (rem-lt (gen p 0) (degree p 0) (degree-of p R 0 zero-le) (subWordOf p x i)) (pow-mono (degree-high p R 0 zero-le)))
+      value-digits 8 96
+      (remainder p 0 (subWordOf p x i)) (Nat.lt-of-lt-of-le (rem-lt (gen p 0) (degree p 0) (degree-of p R 0 zero-le) (subWordOf p x i))
+      (pow-mono (degree-high p R 0 zero-le)))
 
   pub nested-lt : (l : ℕ) (cs : List ℕ) → nested p l cs < 2 ^ len p
   nested-lt l cs = rw (nested-eq p l cs) (rem-lt (2 ^ len p + 1) (len p) (unity-deg (len p) (lawful p R .pos)) (nestedSum p l cs))
@@ -117,7 +123,9 @@ module _ (p : Parameters) (R : Rules p) where
 
   -- a generator's row
   gen-lt : (a : ℕ) → a ≤ p .v → gen p a < 2 ^ (64 * 13)
-  gen-lt a h = Nat.lt-of-lt-of-le (lt-of-deg (degree p a) (degree-of p R a h)) (pow-mono {j = 64 * 13} (Nat.le-trans (suc-le-suc (degree-high p R a h)) (lit≤ {m = 769} {n = 832} tt)))
+  gen-lt a h =
+      Nat.lt-of-lt-of-le (lt-of-deg (degree p a) (degree-of p R a h))
+      (pow-mono {j = 64 * 13} (Nat.le-trans (suc-le-suc (degree-high p R a h)) (lit≤ {m = 769} {n = 832} tt)))
 
   four : (a : ℕ) → a ≤ 3 → getD (map (generatorRow p) (range 0 4)) a [] ≡ generatorRow p a
   four zero l = rw range-four refl
@@ -145,7 +153,8 @@ length-syndromes p k c = length-map (range 1 k) (λ j. syndrome (p .q) c j) ∙ 
 -- place j holds S_(j+1)
 pub syndromes-at : (p : Parameters) (k c j : ℕ) → j < k → getD (syndromes p k c) j 0 ≡ syndrome (p .q) c (suc j)
 unfolding syndromes
-syndromes-at p k c j h = getD-map-range (λ i. syndrome (p .q) c i) 1 k j h ∙ ap (λ (i : ℕ). syndrome (p .q) c i) (Nat.suc-add 0 j ∙ ap suc (Nat.zero-add j))
+syndromes-at p k c j h =
+    getD-map-range (λ i. syndrome (p .q) c i) 1 k j h ∙ ap (λ (i : ℕ). syndrome (p .q) c i) (Nat.suc-add 0 j ∙ ap suc (Nat.zero-add j))
 
 -- as C's bytes: number j stands at bytes 2j and 2j + 1, low byte first
 pub bytes-at : (l : List ℕ) → All (λ x. x < 2 ^ 16) l → (j : ℕ) → j < length l → value 8 (take 2 (drop (2 * j) (asBytes l))) ≡ getD l j 0
@@ -153,8 +162,9 @@ unfolding asBytes
 bytes-at [] h j b = absurd (Nat.not-suc-le-zero b)
 bytes-at (x ∷ l) h zero b = ap (value 8) (take-at (digits 8 2 x) (asBytes l) 2 (length-digits 8 2 x)) ∙ value-digits 8 2 x (h .0)
 bytes-at (x ∷ l) h (suc j) b =
-    ap (λ (bs : List ℕ). value 8 (take 2 bs)) (ap (λ (k : ℕ). drop k (digits 8 2 x ++ asBytes l)) two ∙ sym (drop-drop (2 * j) 2 (digits 8 2 x ++ asBytes l)) ∙ ap (drop (2 * j)) (drop-at (digits 8 2 x) (asBytes l) 2 (length-digits 8 2 x)))
-    ∙ bytes-at l (h .1) j (Nat.le-of-suc-le-suc b)
+    ap (λ (bs : List ℕ). value 8 (take 2 bs))
+    (ap (λ (k : ℕ). drop k (digits 8 2 x ++ asBytes l)) two ∙ sym (drop-drop (2 * j) 2 (digits 8 2 x ++ asBytes l))
+    ∙ ap (drop (2 * j)) (drop-at (digits 8 2 x) (asBytes l) 2 (length-digits 8 2 x))) ∙ bytes-at l (h .1) j (Nat.le-of-suc-le-suc b)
   where
     two : 2 * suc j ≡ 2 + 2 * j
     two = omega arith

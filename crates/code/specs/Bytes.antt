@@ -37,7 +37,8 @@ pub length-join : (ks xs : List ℕ) → length xs ≡ length ks → length (joi
 unfolding join sum
 length-join [] xs e = refl
 length-join (k ∷ ks) [] e = absurd (Nat.suc-ne-zero (length ks) (sym e))
-length-join (k ∷ ks) (x ∷ xs) e = length-append (digits 8 k x) (join ks xs) ∙ ap₂ _+_ (length-digits 8 k x) (length-join ks xs (Nat.suc-inj e))
+length-join (k ∷ ks) (x ∷ xs) e =
+    length-append (digits 8 k x) (join ks xs) ∙ ap₂ _+_ (length-digits 8 k x) (length-join ks xs (Nat.suc-inj e))
 
 pub bytes-join : (ks xs : List ℕ) → Bytes (join ks xs)
 unfolding join
@@ -64,7 +65,8 @@ unfolding split join sum
 join-split [] [] h e = refl
 join-split [] (b ∷ bs) h e = absurd (Nat.suc-ne-zero (length bs) e)
 join-split (k ∷ ks) bs h e =
-    ap₂ _++_ (run k bs h (omega arith)) (join-split ks (drop k bs) (all-drop (λ b. b < 256) k bs h) (length-drop k bs ∙ omega arith)) ∙ take-append-drop k bs
+    ap₂ _++_ (run k bs h (omega arith)) (join-split ks (drop k bs) (all-drop (λ b. b < 256) k bs h) (length-drop k bs ∙ omega arith))
+    ∙ take-append-drop k bs
 
 pub join-add : (ks xs ys : List ℕ) → Small ks xs → Small ks ys → join ks (add xs ys) ≡ add (join ks xs) (join ks ys)
 unfolding join

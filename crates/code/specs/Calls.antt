@@ -4,7 +4,8 @@
 --   outcome r, unlessRefused r v, leaves r x old   the answer and the buffer by the refusal r, 0 for none
 --   judgeNumber, judgeValues, readNumber, readValues    number and values of a page's verdict, apart from the enum: the refusal's,
 --                                                       else those of the first word that fails
---   Made, Named, Judged, ReadOut, ..               what a call promises, of its answer and of the buffer after it; the ..C ones are the C calls'
+--   Made, Named, Judged, ReadOut, ..               what a call promises, of its answer and of the buffer after it;
+--                                                  the ..C ones are the C calls'
 use mathlib.Core.Path.{_≡_}
 use mathlib.Core.Bool.{cond}
 use mathlib.Core.List.{List, [], _∷_, _++_, map}
@@ -23,7 +24,8 @@ use Rattle.code.specs.Lists.{range, _orElse_, valuesBy, lastRefusal}
 use Rattle.code.specs.Parameters.{nestedBytes, strength, sheetRefusal}
 use Rattle.code.specs.Code.{gen, degree, remainder, nested, N, shortRemainder, syndromes, verdict, failingNumber, failingValues}
 use Rattle.code.specs.Layout.{wordsOf, pageOf, dataOf}
-use Rattle.code.specs.Refusals.{writeRefusal, readRefusal, judgeRefusal, remainderRefusal, shortRefusal, nestedRefusal, syndromesRefusal, nestedSyndromesRefusal, openRefusal, feedRefusal, nestingRefusal}
+use Rattle.code.specs.Refusals.{writeRefusal, readRefusal, judgeRefusal, remainderRefusal, shortRefusal, nestedRefusal}
+use Rattle.code.specs.Refusals.{syndromesRefusal, nestedSyndromesRefusal, openRefusal, feedRefusal, nestingRefusal}
 
 -- ---- numbers and values of the answers
 abbrev pub outcomeNumber : Outcome → ℕ
@@ -202,7 +204,8 @@ abbrev pub SyndromesMadeC : Parameters → List ℕ → ℕ → List ℕ → Lis
 SyndromesMadeC p page i out after r = MadeC (syndromesRefusal 2 p page i (length out)) (asBytes (syndromeList p page i)) out after r
 
 abbrev pub NestedSyndromesMadeC : Parameters → List ℕ → ℕ → List ℕ → List ℕ → ℕ → Type 0
-NestedSyndromesMadeC p page l out after r = MadeC (nestedSyndromesRefusal 2 p page l (length out)) (asBytes (nestedSyndromeList p page l)) out after r
+NestedSyndromesMadeC p page l out after r =
+    MadeC (nestedSyndromesRefusal 2 p page l (length out)) (asBytes (nestedSyndromeList p page l)) out after r
 
 -- ---- the register
 abbrev pub empty : ℕ → Register

@@ -137,15 +137,19 @@ failingNested p cs = first (λ l. not (eqb (remainder p (p .v - l) (nested p l c
 
 unfoldable pub verdict : Parameters → List ℕ → Verdict
 unfolding failing failingNested
-verdict p cs = cond (ltb (failing p cs) (p .m)) (SubWord (failing p cs)) (cond (ltb (failingNested p cs) (p .v)) (NestedWord (failingNested p cs)) Member)
+verdict p cs =
+    cond (ltb (failing p cs) (p .m)) (SubWord (failing p cs))
+    (cond (ltb (failingNested p cs) (p .v)) (NestedWord (failingNested p cs)) Member)
 
 unfoldable pub failingNumber : Parameters → List ℕ → ℕ
 unfolding failing failingNested
-failingNumber p cs = cond (ltb (failing p cs) (p .m)) (32 + failing p cs) (cond (ltb (failingNested p cs) (p .v)) (64 + failingNested p cs) 0)
+failingNumber p cs =
+    cond (ltb (failing p cs) (p .m)) (32 + failing p cs) (cond (ltb (failingNested p cs) (p .v)) (64 + failingNested p cs) 0)
 
 unfoldable pub failingValues : Parameters → List ℕ → List ℕ
 unfolding failing failingNested
-failingValues p cs = cond (ltb (failing p cs) (p .m)) (failing p cs ∷ []) (cond (ltb (failingNested p cs) (p .v)) (failingNested p cs ∷ []) [])
+failingValues p cs =
+    cond (ltb (failing p cs) (p .m)) (failing p cs ∷ []) (cond (ltb (failingNested p cs) (p .v)) (failingNested p cs ∷ []) [])
 
 -- ---- syndromes and short remainders
 unfoldable pub syndromes : Parameters → ℕ → ℕ → List ℕ

@@ -2,7 +2,8 @@
 -- The calls appear by what they promise: Written p L blocks old after r is write's promise of its answer r and of the page buffer after it,
 -- and so are ReadOut and Judged; each call has a width and buffers of its own, of any old content.
 --   GeneratorOf q t g    g is the generator for strength t over the field of q: the requirement's words
---   Demand2 p            fields, generators, remainders, syndromes, registers, placement, membership and written pages are those of the code
+--   Demand2 p            fields, generators, remainders, syndromes, registers, placement,
+--                        membership and written pages are those of the code
 --   Demand3 p            alike at every two widths; sums; members are what is written again; distance
 --   Demand3C p           the same of the C calls: WrittenC, ReadOutC, JudgedC, whose answers are numbers, 0 for done and member
 use mathlib.Core.Path.{_≡_}
@@ -23,7 +24,9 @@ use Rattle.field.specs.Irreducible.{NoFactor}
 use Rattle.code.specs.declared.Parameters.{Parameters}
 use Rattle.code.specs.declared.Outcome.{Outcome}
 use Rattle.code.specs.declared.Verdict.{Verdict}
-use Rattle.code.specs.Calls.{Judged, JudgedC, ReadOut, ReadOutC, Written, WrittenC, asBytes, empty, generators, nestedOf, nestedSyndromeList, nestedWordBytes, opened, outcome, remainderBytes, shortBytes, subWordOf, syndromeList}
+use Rattle.code.specs.Calls.{Judged, JudgedC, ReadOut, ReadOutC, Written, WrittenC, asBytes}
+use Rattle.code.specs.Calls.{empty, generators, nestedOf, nestedSyndromeList, nestedWordBytes}
+use Rattle.code.specs.Calls.{opened, outcome, remainderBytes, shortBytes, subWordOf, syndromeList}
 use Rattle.code.specs.Code.{IsMember, N, carried, degree, distance, divisor, gen, nested, newton, remainder, shortRemainder}
 use Rattle.code.specs.Layout.{Bytes, Fits, IsPage, blockBit, blocksOf, coefficientOf, dataOf, differences, pageOf, wordsOf}
 use Rattle.code.specs.Lists.{sum}
@@ -90,8 +93,10 @@ pub record BufferLaws (p : Parameters) (x : List ℕ) : Type 0 where
   pub short-bytes : (l : ℕ) → value 8 (shortBytes p x l) ≡ shortRemainder p l (wordsOf p x)
   pub nested-bytes : (l : ℕ) → value 8 (nestedWordBytes p x l) ≡ nestedOf p x l
   pub syndrome-at : (i j : ℕ) → j < 2 * strength p 0 → getD (syndromeList p x i) j 0 ≡ syndrome (p .q) (subWordOf p x i) (suc j)
-  pub nested-syndrome-at : (l j : ℕ) → j < 2 * strength p (p .v - l) → getD (nestedSyndromeList p x l) j 0 ≡ syndrome (p .q) (nestedOf p x l) (suc j)
-  pub syndrome-bytes : (i j : ℕ) → j < 2 * strength p 0 → value 8 (take 2 (drop (2 * j) (asBytes (syndromeList p x i)))) ≡ syndrome (p .q) (subWordOf p x i) (suc j)
+  pub nested-syndrome-at : (l j : ℕ) → j < 2 * strength p (p .v - l)
+      → getD (nestedSyndromeList p x l) j 0 ≡ syndrome (p .q) (nestedOf p x l) (suc j)
+  pub syndrome-bytes : (i j : ℕ) → j < 2 * strength p 0
+      → value 8 (take 2 (drop (2 * j) (asBytes (syndromeList p x i)))) ≡ syndrome (p .q) (subWordOf p x i) (suc j)
   pub nested-syndrome-bytes : (l j : ℕ) → j < 2 * strength p (p .v - l)
       → value 8 (take 2 (drop (2 * j) (asBytes (nestedSyndromeList p x l)))) ≡ syndrome (p .q) (nestedOf p x l) (suc j)
 
@@ -108,7 +113,8 @@ pub record PlacementLaws (p : Parameters) : Type 0 where
   -- the check bits are the w lowest
   pub checks : (b : List ℕ) → Fits p b → (i : ℕ) → i < p .m
       → subWordOf p (pageOf p b) i % 2 ^ degree p (p .v - i)
-      ≡ remainder p (p .v - i) (xor (getD (blocksOf p b) i 0 * 2 ^ degree p (p .v - i)) (carried (p .v - i) i (drop (suc i) (wordsOf p (pageOf p b)))))
+      ≡ remainder p (p .v - i)
+      (xor (getD (blocksOf p b) i 0 * 2 ^ degree p (p .v - i)) (carried (p .v - i) i (drop (suc i) (wordsOf p (pageOf p b)))))
 
 -- judge's answer r for a page x: member exactly when the words are; a failing word is named exactly when it is the lowest, sub-words first
 pub record JudgeLaws (p : Parameters) (x : List ℕ) (r : Verdict) : Type 0 where
@@ -131,7 +137,8 @@ pub record WriteLaws (p : Parameters) (blocks after : List ℕ) (r : Outcome) : 
 -- the equal form is equal as a whole
 pub record EqualFormLaws (p : Parameters) : Type 0 where
   pub as-whole : (cs : List ℕ) → length cs ≡ p .m
-      → ((l : ℕ) → l < p .v → Multiple (gen p (p .v - l)) (nested p l cs)) ↔ ((l : ℕ) → l < p .v → Multiple (gen p (p .v - l)) (newton l cs))
+      → ((l : ℕ) → l < p .v → Multiple (gen p (p .v - l)) (nested p l cs))
+      ↔ ((l : ℕ) → l < p .v → Multiple (gen p (p .v - l)) (newton l cs))
   pub from-l : (i l : ℕ) → i < l → N i l ≡ 0
 
 pub record Demand2 (p : Parameters) : Type 0 where
@@ -144,7 +151,8 @@ pub record Demand2 (p : Parameters) : Type 0 where
   pub buffer-laws : (x : List ℕ) → BufferLaws p x
   pub placement-laws : PlacementLaws p
   pub judge-laws : (x : List ℕ) (r : Verdict) → IsPage p x → Judged p x r → JudgeLaws p x r
-  pub write-laws : (L : ℕ) (blocks old after : List ℕ) (r : Outcome) → Width L → Fits p blocks → PageBuffer p old → Written p L blocks old after r → WriteLaws p blocks after r
+  pub write-laws : (L : ℕ) (blocks old after : List ℕ) (r : Outcome) → Width L → Fits p blocks → PageBuffer p old
+      → Written p L blocks old after r → WriteLaws p blocks after r
   -- read out's answer is judge's, on every page that is lent with a buffer of the blocks' exact length
   pub read-laws : (x old out : List ℕ) (j r : Verdict) → BlocksBuffer p old → Judged p x j → ReadOut p x old out r → r ≡ j
   pub equal-form-laws : EqualFormLaws p
@@ -171,18 +179,22 @@ pub record Rewrites (x after : List ℕ) (j r : Verdict) (w : Outcome) : Type 0 
 
 -- the distance is the smallest of (v + 1)(2 t_0 + 1) and b (2 t_(v-b+1) + 1), b from 1 to v
 abbrev pub Smallest : Parameters → Type 0
-Smallest p = (d : ℕ) → (d ≤ distance p) ↔ ((d ≤ (p .v + 1) * (2 * strength p 0 + 1)) × ((b : ℕ) → 1 ≤ b → b ≤ p .v → d ≤ b * (2 * strength p (p .v - b + 1) + 1)))
+Smallest p =
+    (d : ℕ) → (d ≤ distance p)
+    ↔ ((d ≤ (p .v + 1) * (2 * strength p 0 + 1)) × ((b : ℕ) → 1 ≤ b → b ≤ p .v → d ≤ b * (2 * strength p (p .v - b + 1) + 1)))
 
 pub record Demand3 (p : Parameters) : Type 0 where
   pub alike : (L M : ℕ) (blocks old old′ after after′ : List ℕ) (r r′ : Outcome) → Width L → Width M → length old ≡ length old′
       → Written p L blocks old after r → Written p M blocks old′ after′ r′ → Alike after after′ r r′
-  pub sums : (K L M : ℕ) (a b old-a old-b old-sum page-a page-b page-sum : List ℕ) (r-a r-b r-sum : Outcome) → Width K → Width L → Width M → Fits p a → Fits p b
-      → PageBuffer p old-a → PageBuffer p old-b → PageBuffer p old-sum
+  pub sums : (K L M : ℕ) (a b old-a old-b old-sum page-a page-b page-sum : List ℕ) (r-a r-b r-sum : Outcome) → Width K → Width L → Width M
+      → Fits p a → Fits p b → PageBuffer p old-a → PageBuffer p old-b → PageBuffer p old-sum
       → Written p K a old-a page-a r-a → Written p L b old-b page-b r-b → Written p M (add a b) old-sum page-sum r-sum
       → Sums p a b page-a page-b page-sum r-a r-b r-sum
-  pub rewrites : (L : ℕ) (x old-blocks blocks old-page after : List ℕ) (j r : Verdict) (w : Outcome) → Width L → IsPage p x → BlocksBuffer p old-blocks → PageBuffer p old-page
+  pub rewrites : (L : ℕ) (x old-blocks blocks old-page after : List ℕ) (j r : Verdict) (w : Outcome) → Width L → IsPage p x
+      → BlocksBuffer p old-blocks → PageBuffer p old-page
       → Judged p x j → ReadOut p x old-blocks blocks r → Written p L blocks old-page after w → Rewrites x after j r w
-  pub apart : (x y : List ℕ) → Bytes x → Bytes y → Judged p x Verdict.Member → Judged p y Verdict.Member → x ≢ y → distance p ≤ differences p x y
+  pub apart : (x y : List ℕ) → Bytes x → Bytes y → Judged p x Verdict.Member → Judged p y Verdict.Member → x ≢ y
+      → distance p ≤ differences p x y
   pub smallest : Smallest p
 
 -- ---- demand 3 of the C calls
@@ -210,7 +222,8 @@ pub record Demand3C (p : Parameters) : Type 0 where
       → Width K → Width L → Width M → Fits p a → Fits p b → PageBuffer p old-a → PageBuffer p old-b → PageBuffer p old-sum
       → WrittenC p K a old-a page-a r-a → WrittenC p L b old-b page-b r-b → WrittenC p M (add a b) old-sum page-sum r-sum
       → SumsC p a b page-a page-b page-sum r-a r-b r-sum
-  pub rewrites : (L : ℕ) (x old-blocks blocks old-page after : List ℕ) (j r w : ℕ) → Width L → IsPage p x → BlocksBuffer p old-blocks → PageBuffer p old-page
+  pub rewrites : (L : ℕ) (x old-blocks blocks old-page after : List ℕ) (j r w : ℕ) → Width L → IsPage p x → BlocksBuffer p old-blocks
+      → PageBuffer p old-page
       → JudgedC p x j → ReadOutC p x old-blocks blocks r → WrittenC p L blocks old-page after w → RewritesC x after j r w
   pub apart : (x y : List ℕ) → Bytes x → Bytes y → JudgedC p x 0 → JudgedC p y 0 → x ≢ y → distance p ≤ differences p x y
 

@@ -15,7 +15,8 @@ use Rattle.polynomial.specs.Sums.{All, add, length-add}
 use Rattle.polynomial.specs.Xor.{xor, xor-eq-zero, xor-self}
 use Rattle.field.specs.Bch.{bch, weight}
 use Rattle.field.specs.Eval.{eval, eval-zero}
-use Rattle.field.specs.Field.{Field2, add-eq-zero, add-self, mul-add, mul-comm, mul-eq-zero, mul-one, pow, pow-add, pow-mul, pow-one, pow-swap, pow≢zero, ring}
+use Rattle.field.specs.Field.{Field2, add-eq-zero, add-self, mul-add, mul-comm, mul-eq-zero}
+use Rattle.field.specs.Field.{mul-one, pow, pow-add, pow-mul, pow-one, pow-swap, pow≢zero, ring}
 use Rattle.field.specs.Vandermonde.{Distinct, sum, sum-cons, sum-nil, vandermonde}
 use Rattle.code.specs.declared.Parameters.{Parameters}
 use Rattle.code.specs.Code.{degree, distance, gen, least, nested}
@@ -66,7 +67,8 @@ module _ (F : Field2) where
   pub pow-apart : (x : K) → x ≢ 𝟘 → (i d : ℕ) → pow F x d ≢ 𝟙 → pow F x (i + d) ≢ pow F x i
   pow-apart x x0 i d h e =
       h (add-eq-zero F (pow F x d) 𝟙 (mul-eq-zero F (pow F x d ⊕ 𝟙) (pow F x i)
-      (mul-comm F (pow F x d ⊕ 𝟙) (pow F x i) ∙ mul-add F (pow F x i) (pow F x d) 𝟙 ∙ rw (← pow-add F x i d, e, mul-one F (pow F x i)) (add-self F (pow F x i))) (pow≢zero F x x0 i)))
+      (mul-comm F (pow F x d ⊕ 𝟙) (pow F x i) ∙ mul-add F (pow F x i) (pow F x d) 𝟙
+      ∙ rw (← pow-add F x i d, e, mul-one F (pow F x i)) (add-self F (pow F x i))) (pow≢zero F x x0 i)))
 
   pub pow-differ : (x : K) → x ≢ 𝟘 → (i k : ℕ) → i ≤ k → pow F x (k - i) ≢ 𝟙 → pow F x k ≢ pow F x i
   pow-differ x x0 i k h s e = pow-apart x x0 i (k - i) s (rw (Nat.add-sub-of-le h) e)
@@ -84,7 +86,8 @@ module _ (F : Field2) where
     distinct i (suc c ∷ cs) l = (apart i (suc i) cs (omega arith) (omega arith), distinct (suc i) cs (omega arith))
 
     -- as many power sums as words that are not zero vanish: so does every word
-    vanish : (cs : List ℕ) → length cs ≤ m → ((l : ℕ) → l < nonzeros cs → weigh F x (λ i. pow F x (l * i)) 0 cs ≡ 𝟘) → All (λ c. eval F c x ≡ 𝟘) cs
+    vanish : (cs : List ℕ) → length cs ≤ m → ((l : ℕ) → l < nonzeros cs → weigh F x (λ i. pow F x (l * i)) 0 cs ≡ 𝟘)
+        → All (λ c. eval F c x ≡ 𝟘) cs
     vanish cs h z =
         support-zero x 0 cs (vandermonde F (support x 0 cs) (distinct 0 cs (omega arith))
         (λ l b. sum-support x l 0 cs ∙ z l (rw (length-support x 0 cs) at b)))
@@ -101,7 +104,8 @@ module _ (F : Field2) where
     root-apart j p h d q b e = L .no-clash d j q b p h (pow-mul F α d j ∙ pow-swap F α d j ∙ e)
 
     -- nested words at the roots
-    pub eval-nested-root : (l j : ℕ) (cs : List ℕ) → eval F (nested C l cs) (pow F α j) ≡ weigh F (pow F α j) (λ i. pow F (pow F α j) (l * i)) 0 cs
+    pub eval-nested-root : (l j : ℕ) (cs : List ℕ)
+        → eval F (nested C l cs) (pow F α j) ≡ weigh F (pow F α j) (λ i. pow F (pow F α j) (l * i)) 0 cs
     eval-nested-root l j cs = eval-nested F C (L .pos) (pow F α j) (root-unity j) l cs
 
     -- ---- words that vanish at α to α^T have more than T ones, or none
@@ -117,12 +121,14 @@ module _ (F : Field2) where
         omega (arith, heavy T cs (s .1) (λ j p h. z j p h .1), heavy-word T (suc c) (s .0) (Nat.suc-ne-zero c) (λ j p h. z j p h .0))
 
     -- a page all of whose words are multiples at level a
-    multiples-vanish : (a : ℕ) → a ≤ C.v → (cs : List ℕ) → All (λ c. Divides C a c) cs → (j : ℕ) → 0 < j → j ≤ 2 * strength C a → All (λ c. eval F c (pow F α j) ≡ 𝟘) cs
+    multiples-vanish : (a : ℕ) → a ≤ C.v → (cs : List ℕ) → All (λ c. Divides C a c) cs → (j : ℕ) → 0 < j → j ≤ 2 * strength C a
+        → All (λ c. eval F c (pow F α j) ≡ 𝟘) cs
     multiples-vanish a h [] s j p b = tt
     multiples-vanish a h (c ∷ cs) s j p b = (L .roots a h c .0 (s .0) j p b, multiples-vanish a h cs (s .1) j p b)
 
     -- many words: all of the words are multiples at level 0
-    pub weight-many : (cs : List ℕ) → All (λ c. c < 2 ^ len C) cs → Passing C cs → C.v < nonzeros cs → (C.v + 1) * (2 * strength C 0 + 1) ≤ pageWeight cs
+    pub weight-many : (cs : List ℕ) → All (λ c. c < 2 ^ len C) cs → Passing C cs → C.v < nonzeros cs
+        → (C.v + 1) * (2 * strength C 0 + 1) ≤ pageWeight cs
     weight-many cs s M h =
         Nat.le-trans (Nat.mul-le-mul-right (2 * strength C 0 + 1) (omega arith))
         (heavy (2 * strength C 0) cs s (multiples-vanish 0 zero-le cs (M .words)))
@@ -136,8 +142,8 @@ module _ (F : Field2) where
         (omega (arith, L .rising (C.v - b) (C.v - l) (omega arith) (omega arith)))
 
     -- few words: b + 1 of them, at most v
-    pub weight-few : (cs : List ℕ) → length cs ≤ C.m → All (λ c. c < 2 ^ len C) cs → Passing C cs → (b : ℕ) → nonzeros cs ≡ suc b → suc b ≤ C.v
-        → suc b * (2 * strength C (C.v - b) + 1) ≤ pageWeight cs
+    pub weight-few : (cs : List ℕ) → length cs ≤ C.m → All (λ c. c < 2 ^ len C) cs → Passing C cs → (b : ℕ) → nonzeros cs ≡ suc b
+        → suc b ≤ C.v → suc b * (2 * strength C (C.v - b) + 1) ≤ pageWeight cs
     weight-few cs k s M b e h =
         rw e at (heavy (2 * strength C (C.v - b)) cs s (λ j p q.
         vanish (pow F α j) (root≢zero j) C.m (root-apart j p (omega (arith, L .rising (C.v - b) C.v (omega arith) (omega arith)))) cs k
@@ -152,7 +158,8 @@ pub least-few : (C : Parameters) (k b : ℕ) → suc b ≤ k → least C k ≤ s
 least-few C zero b h = absurd (Nat.not-suc-le-zero h)
 least-few C (suc k) b h = go (least-few C k b) (Nat.eq-or-lt-of-le (Nat.le-of-suc-le-suc h))
   where
-    go : (suc b ≤ k → least C k ≤ suc b * (2 * strength C (C.v - b) + 1)) → (b ≡ k) ⊎ (b < k) → least C (suc k) ≤ suc b * (2 * strength C (C.v - b) + 1)
+    go : (suc b ≤ k → least C k ≤ suc b * (2 * strength C (C.v - b) + 1)) → (b ≡ k) ⊎ (b < k)
+        → least C (suc k) ≤ suc b * (2 * strength C (C.v - b) + 1)
     go ih (inl e) = rw e (Nat.min-le-left (suc k * (2 * strength C (C.v - k) + 1)) (least C k))
     go ih (inr l) = Nat.le-trans (Nat.min-le-right (suc k * (2 * strength C (C.v - k) + 1)) (least C k)) (ih l)
 
@@ -189,12 +196,14 @@ module _ (C : Parameters) (pos : 0 < len C) (deg : (a : ℕ) → a ≤ C.v → D
   pub member-add : (cs ds : List ℕ) → Passing C cs → Passing C ds → Passing C (add cs ds)
   member-add cs ds M M′ = record {
     words = add-multiples cs ds (M .words) (M′ .words);
-    nesteds = λ l h. rw (nested-add l cs ds) (sum-multiple (C.v - l) (omega arith) (nested C l cs) (nested C l ds) (M .nesteds l h) (M′ .nesteds l h));
+    nesteds = λ l h.
+        rw (nested-add l cs ds) (sum-multiple (C.v - l) (omega arith) (nested C l cs) (nested C l ds) (M .nesteds l h) (M′ .nesteds l h));
   }
 
 module _ (F : Field2) (α : F .K) (C : Parameters) (L : Lawful F α C) where
   -- P2: a member page that is not zero has at least the design distance of ones
-  pub weight-member : (cs : List ℕ) → length cs ≤ C.m → All (λ c. c < 2 ^ len C) cs → Passing C cs → nonzeros cs ≢ 0 → distance C ≤ pageWeight cs
+  pub weight-member : (cs : List ℕ) → length cs ≤ C.m → All (λ c. c < 2 ^ len C) cs → Passing C cs → nonzeros cs ≢ 0
+      → distance C ≤ pageWeight cs
   unfolding distance
   weight-member cs k s M h = go (nonzeros cs) refl
     where
@@ -207,7 +216,8 @@ module _ (F : Field2) (α : F .K) (C : Parameters) (L : Lawful F α C) where
           or (no l) = Nat.le-trans (least-many C C.v) (weight-many F α C L cs s M (omega arith))
 
   -- two member pages that differ do so in at least the design distance of places
-  pub distance-member : (cs ds : List ℕ) → length cs ≡ length ds → length cs ≤ C.m → All (λ c. c < 2 ^ len C) cs → All (λ c. c < 2 ^ len C) ds
-      → Passing C cs → Passing C ds → cs ≢ ds → distance C ≤ pageWeight (add cs ds)
+  pub distance-member : (cs ds : List ℕ) → length cs ≡ length ds → length cs ≤ C.m → All (λ c. c < 2 ^ len C) cs
+      → All (λ c. c < 2 ^ len C) ds → Passing C cs → Passing C ds → cs ≢ ds → distance C ≤ pageWeight (add cs ds)
   distance-member cs ds e k a b M M′ h =
-      weight-member (add cs ds) (rw (length-add cs ds e) k) (add-lt (len C) cs ds a b) (member-add C (L .pos) (L .degrees) cs ds M M′) (λ z. h (same cs ds e z))
+      weight-member (add cs ds) (rw (length-add cs ds e) k) (add-lt (len C) cs ds a b) (member-add C (L .pos) (L .degrees) cs ds M M′)
+      (λ z. h (same cs ds e z))

@@ -9,7 +9,8 @@ use Rattle.code.specs.declared.Outcome.{Outcome}
 use Rattle.code.specs.declared.Parameters.{Parameters}
 use Rattle.code.specs.declared.Verdict.{Verdict}
 use Rattle.code.specs.Answers.{judged, judged-zero, made-of, outcome-number, read, read-zero}
-use Rattle.code.specs.Calls.{Judged, JudgedC, ReadOutC, Written, WrittenC, judgeAnswer, outcome, outcomeNumber, readAnswer, verdictNumber}
+use Rattle.code.specs.Calls.{Judged, JudgedC, ReadOutC, Written, WrittenC, judgeAnswer}
+use Rattle.code.specs.Calls.{outcome, outcomeNumber, readAnswer, verdictNumber}
 use Rattle.code.specs.Demands.{AlikeC, Demand3C, DemandsC, RewritesC, SumsC}
 use Rattle.code.specs.Layout.{Fits, IsPage, pageOf}
 use Rattle.code.specs.Parameters.{Accepted}
@@ -33,7 +34,8 @@ module _ (p : Parameters) (A : Accepted p) where
   alike-c L M b old old′ after after′ r r′ w w′ e W W′ =
       let k = refusal L b old in
       let k′ = refusal M b old′ in
-      let a = demand3 p A .alike L M b old old′ after after′ (outcome k) (outcome k′) w w′ e (written L b old after r W) (written M b old′ after′ r′ W′) in
+      let a = demand3 p A .alike L M b old old′ after after′ (outcome k) (outcome k′) w w′ e (written L b old after r W)
+      (written M b old′ after′ r′ W′) in
       record {
         answers = W .answers ∙ sym (outcome-number k) ∙ ap outcomeNumber (a .answers) ∙ outcome-number k′ ∙ sym (W′ .answers);
         pages = λ z. a .pages (ap outcome (sym (W .answers) ∙ z));
@@ -44,7 +46,8 @@ module _ (p : Parameters) (A : Accepted p) where
       → WrittenC p K a old-a page-a r-a → WrittenC p L b old-b page-b r-b → WrittenC p M (add a b) old-sum page-sum r-sum
       → SumsC p a b page-a page-b page-sum r-a r-b r-sum
   sums-c K L M a b oa ob os pa pb ps ra rb rs wk wl wm h j ea eb es Wa Wb Ws =
-      let s = demand3 p A .sums K L M a b oa ob os pa pb ps (outcome (refusal K a oa)) (outcome (refusal L b ob)) (outcome (refusal M (add a b) os))
+      let s =
+      demand3 p A .sums K L M a b oa ob os pa pb ps (outcome (refusal K a oa)) (outcome (refusal L b ob)) (outcome (refusal M (add a b) os))
       wk wl wm h j ea eb es (written K a oa pa ra Wa) (written L b ob pb rb Wb) (written M (add a b) os ps rs Ws) in
       record {
         fits = s .fits;
@@ -69,7 +72,8 @@ module _ (p : Parameters) (A : Accepted p) where
   through : {X Y Z : Type 0} → X ↔ Y → Y ↔ Z → X ↔ Z
   through f g = ((λ x. g .0 (f .0 x)), (λ z. f .1 (g .1 z)))
 
-  rewrites-c : (L : ℕ) (x old-blocks blocks old-page after : List ℕ) (j r w : ℕ) → Width L → IsPage p x → BlocksBuffer p old-blocks → PageBuffer p old-page
+  rewrites-c : (L : ℕ) (x old-blocks blocks old-page after : List ℕ) (j r w : ℕ) → Width L → IsPage p x → BlocksBuffer p old-blocks
+      → PageBuffer p old-page
       → JudgedC p x j → ReadOutC p x old-blocks blocks r → WrittenC p L blocks old-page after w → RewritesC x after j r w
   rewrites-c L x ob blocks op after j r o w h eb ep J O W =
       let k = refusal L blocks op in

@@ -131,23 +131,29 @@ failingNested-is : (p : Parameters) (cs : List ℕ) → First (fails p (λ l. p 
 unfolding failingNested
 failingNested-is p cs = first-is (fails p (λ l. p .v - l) (λ l. nested p l cs)) 0 (p .v) (p .v) (Nat.zero-add (p .v))
 
-verdict-eq : (p : Parameters) (cs : List ℕ) → verdict p cs ≡ judged (ltb (failing p cs) (p .m)) (ltb (failingNested p cs) (p .v)) (failing p cs) (failingNested p cs)
+verdict-eq : (p : Parameters) (cs : List ℕ)
+    → verdict p cs ≡ judged (ltb (failing p cs) (p .m)) (ltb (failingNested p cs) (p .v)) (failing p cs) (failingNested p cs)
 unfolding verdict
 verdict-eq p cs = refl
 
 -- by the two searches
 pub answer-sub : (p : Parameters) (cs : List ℕ) (i : ℕ) → i ≡ failing p cs → i < p .m → SubWord i ≡ verdict p cs
 answer-sub p cs i e h =
-    ap SubWord e ∙ sym (verdict-eq p cs ∙ to-sub (ltb (failing p cs) (p .m)) (ltb (failingNested p cs) (p .v)) (failing p cs) (failingNested p cs) (lt→ltb (failing p cs) (p .m) (rw (← e) h)))
+    ap SubWord e ∙ sym (verdict-eq p cs ∙ to-sub (ltb (failing p cs) (p .m)) (ltb (failingNested p cs) (p .v)) (failing p cs)
+    (failingNested p cs) (lt→ltb (failing p cs) (p .m) (rw (← e) h)))
 
-pub answer-nested : (p : Parameters) (cs : List ℕ) (i l : ℕ) → i ≡ failing p cs → p .m ≤ i → l ≡ failingNested p cs → l < p .v → NestedWord l ≡ verdict p cs
+pub answer-nested : (p : Parameters) (cs : List ℕ) (i l : ℕ) → i ≡ failing p cs → p .m ≤ i → l ≡ failingNested p cs → l < p .v
+    → NestedWord l ≡ verdict p cs
 answer-nested p cs i l e h f k =
     ap NestedWord f
-    ∙ sym (verdict-eq p cs ∙ to-nested (ltb (failing p cs) (p .m)) (ltb (failingNested p cs) (p .v)) (failing p cs) (failingNested p cs) (ltb-no (failing p cs) (p .m) (rw (← e) h)) (lt→ltb (failingNested p cs) (p .v) (rw (← f) k)))
+    ∙ sym (verdict-eq p cs ∙ to-nested (ltb (failing p cs) (p .m)) (ltb (failingNested p cs) (p .v)) (failing p cs) (failingNested p cs)
+    (ltb-no (failing p cs) (p .m) (rw (← e) h)) (lt→ltb (failingNested p cs) (p .v) (rw (← f) k)))
 
-pub answer-member : (p : Parameters) (cs : List ℕ) (i l : ℕ) → i ≡ failing p cs → p .m ≤ i → l ≡ failingNested p cs → p .v ≤ l → Member ≡ verdict p cs
+pub answer-member : (p : Parameters) (cs : List ℕ) (i l : ℕ) → i ≡ failing p cs → p .m ≤ i → l ≡ failingNested p cs → p .v ≤ l
+    → Member ≡ verdict p cs
 answer-member p cs i l e h f k =
-    sym (verdict-eq p cs ∙ to-member (ltb (failing p cs) (p .m)) (ltb (failingNested p cs) (p .v)) (failing p cs) (failingNested p cs) (ltb-no (failing p cs) (p .m) (rw (← e) h)) (ltb-no (failingNested p cs) (p .v) (rw (← f) k)))
+    sym (verdict-eq p cs ∙ to-member (ltb (failing p cs) (p .m)) (ltb (failingNested p cs) (p .v)) (failing p cs) (failingNested p cs)
+    (ltb-no (failing p cs) (p .m) (rw (← e) h)) (ltb-no (failingNested p cs) (p .v) (rw (← f) k)))
 
 module _ (p : Parameters) (R : Rules p) where
   -- a word is a multiple of g_a exactly when its remainder is 0
@@ -171,7 +177,9 @@ module _ (p : Parameters) (R : Rules p) where
     ok-all h = ltb-no f o (first-none (fails p lev word) o f r (λ k l. pass k (h k l)))
 
     found : T (ltb f o) → (f < o) × (¬ Ok p lev word f) × ((k : ℕ) → k < f → Ok p lev word k)
-    found t = let l : f < o = ltb→lt f o t in (l, (λ h. T-not (fails p lev word f) (pass f h) (r .at l)), (λ k h. ok k (r .before k zero-le h)))
+    found t =
+        let l : f < o = ltb→lt f o t in
+        (l, (λ h. T-not (fails p lev word f) (pass f h) (r .at l)), (λ k h. ok k (r .before k zero-le h)))
 
     found-is : (i : ℕ) → i < o → (¬ Ok p lev word i) → ((k : ℕ) → k < i → Ok p lev word k) → f ≡ i
     found-is i l h k = first-only (fails p lev word) o f i r l (fail i h) (λ j m. pass j (k j m))
@@ -221,12 +229,14 @@ module _ (p : Parameters) (R : Rules p) where
         ↔ ((i < p .m) × (¬ Multiple (gen p 0) (getD cs i 0)) × ((k : ℕ) → k < i → Multiple (gen p 0) (getD cs k 0)))
     verdict-sub i = (to, back)
       where
-        to : verdict p cs ≡ SubWord i → (i < p .m) × (¬ Multiple (gen p 0) (getD cs i 0)) × ((k : ℕ) → k < i → Multiple (gen p 0) (getD cs k 0))
+        to : verdict p cs ≡ SubWord i
+            → (i < p .m) × (¬ Multiple (gen p 0) (getD cs i 0)) × ((k : ℕ) → k < i → Multiple (gen p 0) (getD cs k 0))
         to e =
             let t = judged-sub b c f g i (sym (verdict-eq p cs) ∙ e) in
             rw (t .1) at (found (λ _. 0) sub level0 (p .m) f (failing-is p cs) (t .0))
 
-        back : (i < p .m) × (¬ Multiple (gen p 0) (getD cs i 0)) × ((k : ℕ) → k < i → Multiple (gen p 0) (getD cs k 0)) → verdict p cs ≡ SubWord i
+        back : (i < p .m) × (¬ Multiple (gen p 0) (getD cs i 0)) × ((k : ℕ) → k < i → Multiple (gen p 0) (getD cs k 0))
+            → verdict p cs ≡ SubWord i
         back h =
             let e : f ≡ i = found-is (λ _. 0) sub level0 (p .m) f (failing-is p cs) i (h .0) (h .1) (h .2) in
             verdict-eq p cs ∙ to-sub b c f g (lt→ltb f (p .m) (rw e (h .0))) ∙ ap SubWord e
@@ -245,10 +255,13 @@ module _ (p : Parameters) (R : Rules p) where
             (n .0, all-ok (λ _. 0) sub level0 (p .m) f (failing-is p cs) (t .0), n .1, n .2)
 
         back : (l < p .v) × ((i : ℕ) → i < p .m → Multiple (gen p 0) (getD cs i 0))
-            × (¬ Multiple (gen p (p .v - l)) (nested p l cs)) × ((k : ℕ) → k < l → Multiple (gen p (p .v - k)) (nested p k cs)) → verdict p cs ≡ NestedWord l
+            × (¬ Multiple (gen p (p .v - l)) (nested p l cs)) × ((k : ℕ) → k < l → Multiple (gen p (p .v - k)) (nested p k cs))
+            → verdict p cs ≡ NestedWord l
         back h =
             let e : g ≡ l = found-is lev nest (Nat.sub-le (p .v)) (p .v) g (failingNested-is p cs) l (h .0) (h .2) (h .3) in
-            verdict-eq p cs ∙ to-nested b c f g (ok-all (λ _. 0) sub level0 (p .m) f (failing-is p cs) (h .1)) (lt→ltb g (p .v) (rw e (h .0))) ∙ ap NestedWord e
+            verdict-eq p cs
+            ∙ to-nested b c f g (ok-all (λ _. 0) sub level0 (p .m) f (failing-is p cs) (h .1)) (lt→ltb g (p .v) (rw e (h .0)))
+            ∙ ap NestedWord e
 
     -- ---- members by their words pass by their remainders
     pub member-passing : IsMember p cs → length cs ≡ p .m → Passing p cs

@@ -11,7 +11,8 @@ use native.Mathlib.Omega.{arith}
 use Rattle.polynomial.specs.Sums.{All}
 use Rattle.polynomial.specs.Xor.{xor}
 use Rattle.field.specs.Eval.{eval, eval-one, eval-shift, eval-xor, eval-zero}
-use Rattle.field.specs.Field.{Field2, add-eq-zero, add-zero, mul-add, mul-eq-zero, mul-zero, pow, pow-mul, pow-suc, pow-zero, ring, zero-add, zero-mul}
+use Rattle.field.specs.Field.{Field2, add-eq-zero, add-zero, mul-add, mul-eq-zero, mul-zero}
+use Rattle.field.specs.Field.{pow, pow-mul, pow-suc, pow-zero, ring, zero-add, zero-mul}
 use Rattle.code.specs.declared.Parameters.{Parameters}
 use Rattle.code.specs.Code.{N, nested, newton}
 use Rattle.code.specs.Distance.{Passing, pow-differ, root-apart, root-unity, root≢zero}
@@ -35,7 +36,8 @@ module _ (F : Field2) where
   weigh-scale : (x : K) (f : ℕ → K) (r : K) (i : ℕ) (cs : List ℕ) → weigh F x (λ k. f k ⊗ r) i cs ≡ weigh F x f i cs ⊗ r
   weigh-scale x f r i [] = simp (weigh-nil, ring)
   weigh-scale x f r i (c ∷ cs) =
-      weigh-cons F x (λ k. f k ⊗ r) i c cs ∙ ap (λ (y : K). f i ⊗ r ⊗ eval F c x ⊕ y) (weigh-scale x f r (suc i) cs) ∙ simp (weigh-cons, ring)
+      weigh-cons F x (λ k. f k ⊗ r) i c cs ∙ ap (λ (y : K). f i ⊗ r ⊗ eval F c x ⊕ y) (weigh-scale x f r (suc i) cs)
+      ∙ simp (weigh-cons, ring)
 
   weigh-zero : (x : K) (i : ℕ) (cs : List ℕ) → weigh F x (λ k. 𝟘) i cs ≡ 𝟘
   weigh-zero x i [] = weigh-nil F x (λ k. 𝟘) i
@@ -130,7 +132,8 @@ module _ (F : Field2) where
     unfolding mix
     mix-zero z zero h = refl
     mix-zero z (suc k) h =
-        ap₂ _⊕_ (mix-zero z k (λ l b. h l (Nat.le-step b))) (ap (λ (y : K). y ⊗ gap x z k) (h k (Nat.le-refl (suc k))) ∙ zero-mul F (gap x z k)) ∙ add-zero F 𝟘
+        ap₂ _⊕_ (mix-zero z k (λ l b. h l (Nat.le-step b)))
+        (ap (λ (y : K). y ⊗ gap x z k) (h k (Nat.le-refl (suc k))) ∙ zero-mul F (gap x z k)) ∙ add-zero F 𝟘
 
     module _ (C : Parameters) (pos : 0 < len C) (unity : pow F x (len C) ≡ 𝟙) where
       -- nested word l is the sum of the newton k × gap k, k = 0 .. l
@@ -147,17 +150,23 @@ module _ (F : Field2) where
         gap≢zero : (l k : ℕ) → k ≤ l → l < m → gap x (pow F x l) k ≢ 𝟘
         gap≢zero l zero h b e = F .one≢zero (sym (gap-zero x (pow F x l)) ∙ e)
         gap≢zero l (suc k) h b e =
-            gap≢zero l k (Nat.le-of-suc-le h) b (mul-eq-zero F (gap x (pow F x l) k) (pow F x l ⊕ pow F x k) (sym (gap-suc x (pow F x l) k) ∙ e)
-            (λ z. pow-differ F x x0 k l (Nat.le-of-suc-le h) (sep (l - k) (omega arith) (omega arith)) (add-eq-zero F (pow F x l) (pow F x k) z)))
+            gap≢zero l k (Nat.le-of-suc-le h) b
+            (mul-eq-zero F (gap x (pow F x l) k) (pow F x l ⊕ pow F x k) (sym (gap-suc x (pow F x l) k) ∙ e)
+            (λ z.
+            pow-differ F x x0 k l (Nat.le-of-suc-le h) (sep (l - k) (omega arith) (omega arith)) (add-eq-zero F (pow F x l) (pow F x k) z)))
 
-        newton-last : (l : ℕ) → l < m → ((k : ℕ) → k < l → eval F (newton k cs) x ≡ 𝟘) → eval F (nested C l cs) x ≡ 𝟘 → eval F (newton l cs) x ≡ 𝟘
+        newton-last : (l : ℕ) → l < m → ((k : ℕ) → k < l → eval F (newton k cs) x ≡ 𝟘) → eval F (nested C l cs) x ≡ 𝟘
+            → eval F (newton l cs) x ≡ 𝟘
         newton-last l b h e =
             mul-eq-zero F (eval F (newton l cs) x) (gap x (pow F x l) l)
-            (sym (zero-add F (eval F (newton l cs) x ⊗ gap x (pow F x l) l)) ∙ rw (mix-zero (pow F x l) l h) at (sym (nested-newton l)) ∙ e) (gap≢zero l l (Nat.le-refl l) b)
+            (sym (zero-add F (eval F (newton l cs) x ⊗ gap x (pow F x l) l)) ∙ rw (mix-zero (pow F x l) l h) at (sym (nested-newton l)) ∙ e)
+            (gap≢zero l l (Nat.le-refl l) b)
 
-        pub newton-of-nested : (l : ℕ) → l ≤ m → ((k : ℕ) → k < l → eval F (nested C k cs) x ≡ 𝟘) → (k : ℕ) → k < l → eval F (newton k cs) x ≡ 𝟘
+        pub newton-of-nested : (l : ℕ) → l ≤ m → ((k : ℕ) → k < l → eval F (nested C k cs) x ≡ 𝟘) → (k : ℕ) → k < l
+            → eval F (newton k cs) x ≡ 𝟘
         newton-of-nested zero b h k r = absurd (Nat.not-suc-le-zero r)
-        newton-of-nested (suc l) b h k r = go (newton-of-nested l (Nat.le-of-suc-le b) (λ k r. h k (Nat.le-step r))) (Nat.eq-or-lt-of-le (Nat.le-of-suc-le-suc r))
+        newton-of-nested (suc l) b h k r =
+            go (newton-of-nested l (Nat.le-of-suc-le b) (λ k r. h k (Nat.le-step r))) (Nat.eq-or-lt-of-le (Nat.le-of-suc-le-suc r))
           where
             go : ((k : ℕ) → k < l → eval F (newton k cs) x ≡ 𝟘) → (k ≡ l) ⊎ (k < l) → eval F (newton k cs) x ≡ 𝟘
             go ih (inl e) = rw e (newton-last l b ih (h l (Nat.le-refl (suc l))))
@@ -173,7 +182,8 @@ module _ (F : Field2) (α : F .K) (C : Parameters) (L : Lawful F α C) (cs : Lis
   newtons-of M l h = L .roots (C.v - l) (omega arith) (newton l cs) .1 (λ j p q.
       newton-of-nested F (pow F α j) cs C (L .pos) (root-unity F α C L j) (root≢zero F α C L j) C.m
       (root-apart F α C L j p (rw Nat.sub-zero at (lower l 0 h zero-le j q))) (suc l) (omega (arith, L .shape .1))
-      (λ k r. L .roots (C.v - k) (omega arith) (nested C k cs) .0 (M k (omega arith)) j p (lower l k h (Nat.le-of-suc-le-suc r) j q)) l (Nat.le-refl (suc l)))
+      (λ k r. L .roots (C.v - k) (omega arith) (nested C k cs) .0 (M k (omega arith)) j p (lower l k h (Nat.le-of-suc-le-suc r) j q)) l
+      (Nat.le-refl (suc l)))
 
   pub nesteds-of : ((l : ℕ) → l < C.v → Divides C (C.v - l) (newton l cs)) → (l : ℕ) → l < C.v → Divides C (C.v - l) (nested C l cs)
   nesteds-of E l h = L .roots (C.v - l) (omega arith) (nested C l cs) .1 (λ j p q.

@@ -23,7 +23,8 @@ use Rattle.code.specs.Accepted.{Rules, lawful, width-below}
 use Rattle.code.specs.Bytes.{Small, bytes-join, join-add, join-split, length-join, length-split, split-join}
 use Rattle.code.specs.Code.{dataFrom, dataWords, degree, encode}
 use Rattle.code.specs.Encode.{Sized, data-encode, data-fits, encode-add, encode-length, encode-lt}
-use Rattle.code.specs.Layout.{Fits, IsPage, blockBits, blockSizes, blocksClear, blocksOf, dataBits, dataBytes, dataOf, pageClear, pageOf, wordSizes, wordsOf}
+use Rattle.code.specs.Layout.{Fits, IsPage, blockBits, blockSizes, blocksClear, blocksOf}
+use Rattle.code.specs.Layout.{dataBits, dataBytes, dataOf, pageClear, pageOf, wordSizes, wordsOf}
 use Rattle.code.specs.Lists.{join, range, split, sum, within}
 use Rattle.code.specs.Parameters.{len, subWordBytes}
 
@@ -128,17 +129,20 @@ unfolding within range
 fits-within p i zero ds h = tt
 fits-within p i (suc k) [] h = tt
 fits-within p i (suc k) (d ∷ ds) h =
-    and-both (ltb d (2 ^ dataBits p i)) (within (map (dataBits p) (range (suc i) k)) ds) (lt→ltb d (2 ^ dataBits p i) (h .0)) (fits-within p (suc i) k ds (h .1))
+    and-both (ltb d (2 ^ dataBits p i)) (within (map (dataBits p) (range (suc i) k)) ds) (lt→ltb d (2 ^ dataBits p i) (h .0))
+    (fits-within p (suc i) k ds (h .1))
 
 pub whole : (b : ℕ) → b ≤ 8 * ((b + 7) / 8)
 whole b = omega arith
 
-fits-small : (p : Parameters) (i k : ℕ) (ds : List ℕ) → length ds ≡ k → Sized p i ds → Small (map (λ b. (b + 7) / 8) (map (dataBits p) (range i k))) ds
+fits-small : (p : Parameters) (i k : ℕ) (ds : List ℕ) → length ds ≡ k → Sized p i ds
+    → Small (map (λ b. (b + 7) / 8) (map (dataBits p) (range i k))) ds
 unfolding range
 fits-small p i zero [] e h = tt
 fits-small p i zero (d ∷ ds) e h = absurd (Nat.suc-ne-zero (length ds) e)
 fits-small p i (suc k) [] e h = absurd (Nat.suc-ne-zero k (sym e))
-fits-small p i (suc k) (d ∷ ds) e h = (Nat.lt-of-lt-of-le (h .0) (pow-mono (whole (dataBits p i))), fits-small p (suc i) k ds (Nat.suc-inj e) (h .1))
+fits-small p i (suc k) (d ∷ ds) e h =
+    (Nat.lt-of-lt-of-le (h .0) (pow-mono (whole (dataBits p i))), fits-small p (suc i) k ds (Nat.suc-inj e) (h .1))
 
 fits-add : (C : Parameters) (i : ℕ) (ds es : List ℕ) → Sized C i ds → Sized C i es → Sized C i (add ds es)
 fits-add C i [] es h j = j
@@ -159,7 +163,8 @@ pub record IsBlocks (p : Parameters) (ds : List ℕ) : Type 0 where
   pub fits : Sized p 0 ds
 
 pub blocks-add : (p : Parameters) (ds es : List ℕ) → IsBlocks p ds → IsBlocks p es → IsBlocks p (add ds es)
-blocks-add p ds es h j = record { many = length-add ds es (h .many ∙ sym (j .many)) ∙ h .many; fits = fits-add p 0 ds es (h .fits) (j .fits) }
+blocks-add p ds es h j =
+    record { many = length-add ds es (h .many ∙ sym (j .many)) ∙ h .many; fits = fits-add p 0 ds es (h .fits) (j .fits) }
 
 module _ (p : Parameters) (R : Rules p) where
   -- ---- pages
@@ -256,13 +261,16 @@ module _ (p : Parameters) (R : Rules p) where
     again-to e = again ∙ rw e (join-words x h)
 
     pub again-from : pageOf p (dataOf p x) ≡ x → encode p (dataWords p (wordsOf p x)) ≡ wordsOf p x
-    again-from e = sym (words-join (encode p (dataWords p (wordsOf p x))) (encode-words (dataWords p (wordsOf p x)) taken)) ∙ ap (wordsOf p) (sym again ∙ e)
+    again-from e =
+        sym (words-join (encode p (dataWords p (wordsOf p x))) (encode-words (dataWords p (wordsOf p x)) taken))
+        ∙ ap (wordsOf p) (sym again ∙ e)
 
   -- ---- sums
   module _ (a b : List ℕ) (h : Fits p a) (j : Fits p b) where
     sum-join : join (blockSizes p) (add (blocksOf p a) (blocksOf p b)) ≡ add a b
     sum-join =
-        join-add (blockSizes p) (blocksOf p a) (blocksOf p b) (small-blocks (blocksOf p a) (blocks-blocks a h)) (small-blocks (blocksOf p b) (blocks-blocks b j))
+        join-add (blockSizes p) (blocksOf p a) (blocksOf p b) (small-blocks (blocksOf p a) (blocks-blocks a h))
+        (small-blocks (blocksOf p b) (blocks-blocks b j))
         ∙ ap₂ add (join-blocks a h) (join-blocks b j)
 
     both-blocks : IsBlocks p (add (blocksOf p a) (blocksOf p b))
@@ -274,7 +282,9 @@ module _ (p : Parameters) (R : Rules p) where
     pub sum-page : pageOf p (add a b) ≡ add (pageOf p a) (pageOf p b)
     sum-page =
         pageOf-eq p (add a b)
-        ∙ ap (λ (l : List ℕ). join (wordSizes p) (encode p l)) (sym (ap (blocksOf p) sum-join) ∙ blocks-join (add (blocksOf p a) (blocksOf p b)) both-blocks)
+        ∙ ap (λ (l : List ℕ). join (wordSizes p) (encode p l))
+        (sym (ap (blocksOf p) sum-join) ∙ blocks-join (add (blocksOf p a) (blocksOf p b)) both-blocks)
         ∙ ap (join (wordSizes p)) (encode-add p (lawful p R .degrees) (blocksOf p a) (blocksOf p b))
-        ∙ join-add (wordSizes p) (encode p (blocksOf p a)) (encode p (blocksOf p b)) (small-words (encode p (blocksOf p a)) (ready a h)) (small-words (encode p (blocksOf p b)) (ready b j))
+        ∙ join-add (wordSizes p) (encode p (blocksOf p a)) (encode p (blocksOf p b)) (small-words (encode p (blocksOf p a)) (ready a h))
+        (small-words (encode p (blocksOf p b)) (ready b j))
         ∙ sym (ap₂ add (pageOf-eq p a) (pageOf-eq p b))

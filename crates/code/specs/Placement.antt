@@ -17,9 +17,11 @@ use Rattle.code.specs.declared.Parameters.{Parameters}
 use Rattle.code.specs.Accepted.{Rules, lawful, width-below}
 use Rattle.code.specs.Code.{carried, checkBits, checked, dataFrom, dataWords, encode, encodeFrom, level, remainder}
 use Rattle.code.specs.Encode.{checked-data, checked-low}
-use Rattle.code.specs.Layout.{Bytes, Fits, IsPage, bitFrom, blockBit, blockBits, blockOffset, blockSizes, blocksOf, coefficientOf, dataBits, dataOf, pageOf, wordSizes, wordsOf}
+use Rattle.code.specs.Layout.{Bytes, Fits, IsPage, bitFrom, blockBit, blockBits, blockOffset, blockSizes}
+use Rattle.code.specs.Layout.{blocksOf, coefficientOf, dataBits, dataOf, pageOf, wordSizes, wordsOf}
 use Rattle.code.specs.Lists.{join, range, split, sum}
-use Rattle.code.specs.Pages.{blockBits-eq, blockSizes-eq, blocks-blocks, blocksOf-eq, dataOf-eq, length-bits, length-blocks, length-data, page-has, page-is, page-words, room, whole, wordsOf-eq}
+use Rattle.code.specs.Pages.{blockBits-eq, blockSizes-eq, blocks-blocks, blocksOf-eq, dataOf-eq, length-bits}
+use Rattle.code.specs.Pages.{length-blocks, length-data, page-has, page-is, page-words, room, whole, wordsOf-eq}
 use Rattle.code.specs.Parameters.{stored, subWordBytes}
 use Rattle.code.specs.Steps.{data-cons, data-nil, encode-cons}
 
@@ -30,17 +32,21 @@ below : (k z : ℕ) → k < 8 * z → k / 8 < z
 below k z h = omega arith
 
 -- ---- bits of runs of bytes
-split-bit : (ks bs : List ℕ) → Bytes bs → (i k : ℕ) → k < 8 * getD ks i 0 → coefficient (getD (split ks bs) i 0) k ≡ bitFrom bs (sum (take i ks)) k
+split-bit : (ks bs : List ℕ) → Bytes bs → (i k : ℕ) → k < 8 * getD ks i 0
+    → coefficient (getD (split ks bs) i 0) k ≡ bitFrom bs (sum (take i ks)) k
 unfolding split sum
 split-bit [] bs h i k l = absurd (Nat.not-suc-le-zero l)
 split-bit (z ∷ ks) bs h zero k l =
     value-coefficient 8 eight (take z bs) (all-take (λ b. b < 256) z bs h) k
-    ∙ ap (λ (b : ℕ). coefficient b (k % 8)) (getD-take z bs (k / 8) 0 (below k z l) ∙ ap (λ (j : ℕ). getD bs j 0) (sym (Nat.zero-add (k / 8))))
+    ∙ ap (λ (b : ℕ). coefficient b (k % 8))
+    (getD-take z bs (k / 8) 0 (below k z l) ∙ ap (λ (j : ℕ). getD bs j 0) (sym (Nat.zero-add (k / 8))))
 split-bit (z ∷ ks) bs h (suc i) k l =
     split-bit ks (drop z bs) (all-drop (λ b. b < 256) z bs h) i k l
-    ∙ ap (λ (b : ℕ). coefficient b (k % 8)) (getD-drop z bs (sum (take i ks) + k / 8) 0 ∙ ap (λ (j : ℕ). getD bs j 0) (sym (Nat.add-assoc z (sum (take i ks)) (k / 8))))
+    ∙ ap (λ (b : ℕ). coefficient b (k % 8))
+    (getD-drop z bs (sum (take i ks) + k / 8) 0 ∙ ap (λ (j : ℕ). getD bs j 0) (sym (Nat.add-assoc z (sum (take i ks)) (k / 8))))
 
-join-bit : (ks xs : List ℕ) → length xs ≡ length ks → (i k : ℕ) → k < 8 * getD ks i 0 → bitFrom (join ks xs) (sum (take i ks)) k ≡ coefficient (getD xs i 0) k
+join-bit : (ks xs : List ℕ) → length xs ≡ length ks → (i k : ℕ) → k < 8 * getD ks i 0
+    → bitFrom (join ks xs) (sum (take i ks)) k ≡ coefficient (getD xs i 0) k
 unfolding join sum
 join-bit [] xs e i k l = absurd (Nat.not-suc-le-zero l)
 join-bit (z ∷ ks) [] e i k l = absurd (Nat.suc-ne-zero (length ks) (sym e))
@@ -49,7 +55,8 @@ join-bit (z ∷ ks) (x ∷ xs) e zero k l =
     ∙ List·getD-append (digits 8 z x) (join ks xs) 0 (k / 8) (rw (length-digits 8 z x) (below k z l)))
     ∙ digits-coefficient 8 eight z x k l
 join-bit (z ∷ ks) (x ∷ xs) e (suc i) k l =
-    ap (λ (b : ℕ). coefficient b (k % 8)) (ap (λ (j : ℕ). getD (digits 8 z x ++ join ks xs) j 0) (Nat.add-assoc z (sum (take i ks)) (k / 8) ∙ ap (λ (j : ℕ). j + (sum (take i ks) + k / 8)) (sym (length-digits 8 z x)))
+    ap (λ (b : ℕ). coefficient b (k % 8)) (ap (λ (j : ℕ). getD (digits 8 z x ++ join ks xs) j 0)
+    (Nat.add-assoc z (sum (take i ks)) (k / 8) ∙ ap (λ (j : ℕ). j + (sum (take i ks) + k / 8)) (sym (length-digits 8 z x)))
     ∙ getD-append-add (digits 8 z x) (join ks xs) (sum (take i ks) + k / 8) 0)
     ∙ join-bit ks xs (Nat.suc-inj e) i k l
 
@@ -64,7 +71,8 @@ pub getD-map-range : (f : ℕ → ℕ) (a k i : ℕ) → i < k → getD (map f (
 unfolding range
 getD-map-range f a zero i h = absurd (Nat.not-suc-le-zero h)
 getD-map-range f a (suc k) zero h = ap f (sym (Nat.add-zero a))
-getD-map-range f a (suc k) (suc i) h = getD-map-range f (suc a) k i (Nat.le-of-suc-le-suc h) ∙ ap f (Nat.suc-add a i ∙ sym (Nat.add-suc a i))
+getD-map-range f a (suc k) (suc i) h =
+    getD-map-range f (suc a) k i (Nat.le-of-suc-le-suc h) ∙ ap f (Nat.suc-add a i ∙ sym (Nat.add-suc a i))
 
 getD-map : (f : ℕ → ℕ) (l : List ℕ) (i : ℕ) → i < length l → getD (map f l) i 0 ≡ f (getD l i 0)
 getD-map f [] i h = absurd (Nat.not-suc-le-zero h)
@@ -78,20 +86,25 @@ high-coefficient c w r = ap (λ (y : ℕ). y % 2) (sym (shr-shr c w r))
 -- the data of word j + i, for any i: past the end both are 0
 pub data-at : (p : Parameters) (j i : ℕ) (cs : List ℕ) → getD (dataFrom p j cs) i 0 ≡ getD cs i 0 / 2 ^ checkBits p (j + i)
 data-at p j i [] = ap (λ (l : List ℕ). getD l i 0) (data-nil p j) ∙ sym (Nat.zero-div (2 ^ checkBits p (j + i)))
-data-at p j zero (c ∷ cs) = ap (λ (l : List ℕ). getD l 0 0) (data-cons p j c cs) ∙ ap (λ (k : ℕ). c / 2 ^ checkBits p k) (sym (Nat.add-zero j))
+data-at p j zero (c ∷ cs) =
+    ap (λ (l : List ℕ). getD l 0 0) (data-cons p j c cs) ∙ ap (λ (k : ℕ). c / 2 ^ checkBits p k) (sym (Nat.add-zero j))
 data-at p j (suc i) (c ∷ cs) =
-    ap (λ (l : List ℕ). getD l (suc i) 0) (data-cons p j c cs) ∙ data-at p (suc j) i cs ∙ ap (λ (k : ℕ). getD cs i 0 / 2 ^ checkBits p k) (Nat.suc-add j i ∙ sym (Nat.add-suc j i))
+    ap (λ (l : List ℕ). getD l (suc i) 0) (data-cons p j c cs) ∙ data-at p (suc j) i cs
+    ∙ ap (λ (k : ℕ). getD cs i 0 / 2 ^ checkBits p k) (Nat.suc-add j i ∙ sym (Nat.add-suc j i))
 
 -- the word j + i that encoding makes, from its data and the later words
 pub encode-at : (p : Parameters) (j i : ℕ) (ds : List ℕ) → i < length ds
     → getD (encodeFrom p j ds) i 0
-    ≡ checked p (level p (j + i)) (getD ds i 0 * 2 ^ checkBits p (j + i)) (carried (level p (j + i)) (j + i) (drop (suc i) (encodeFrom p j ds)))
+    ≡ checked p (level p (j + i)) (getD ds i 0 * 2 ^ checkBits p (j + i))
+    (carried (level p (j + i)) (j + i) (drop (suc i) (encodeFrom p j ds)))
 encode-at p j i [] h = absurd (Nat.not-suc-le-zero h)
 encode-at p j zero (d ∷ ds) h =
-    rw (encode-cons p j d ds) (ap (λ (k : ℕ). checked p (level p k) (d * 2 ^ checkBits p k) (carried (level p k) k (encodeFrom p (suc j) ds))) (sym (Nat.add-zero j)))
+    rw (encode-cons p j d ds)
+    (ap (λ (k : ℕ). checked p (level p k) (d * 2 ^ checkBits p k) (carried (level p k) k (encodeFrom p (suc j) ds))) (sym (Nat.add-zero j)))
 encode-at p j (suc i) (d ∷ ds) h =
     rw (encode-cons p j d ds) (encode-at p (suc j) i ds (Nat.le-of-suc-le-suc h)
-    ∙ ap (λ (k : ℕ). checked p (level p k) (getD ds i 0 * 2 ^ checkBits p k) (carried (level p k) k (drop (suc i) (encodeFrom p (suc j) ds)))) (Nat.suc-add j i ∙ sym (Nat.add-suc j i)))
+    ∙ ap (λ (k : ℕ). checked p (level p k) (getD ds i 0 * 2 ^ checkBits p k)
+    (carried (level p k) k (drop (suc i) (encodeFrom p (suc j) ds)))) (Nat.suc-add j i ∙ sym (Nat.add-suc j i)))
 
 module _ (p : Parameters) where
   pub page-size : (i : ℕ) → i < p .m → getD (wordSizes p) i 0 ≡ subWordBytes p
@@ -117,12 +130,15 @@ module _ (p : Parameters) (R : Rules p) where
   block-room i r h l = rw (block-size p i h) (Nat.lt-of-lt-of-le l (whole (dataBits p i)))
 
   -- the coefficient of x^k of sub-word i is bit k mod 8 of byte i × 2^q / 8 + k div 8
-  pub sub-word-bit : (x : List ℕ) → Bytes x → (i k : ℕ) → i < p .m → k < stored p → coefficient (getD (wordsOf p x) i 0) k ≡ coefficientOf p x i k
+  pub sub-word-bit : (x : List ℕ) → Bytes x → (i k : ℕ) → i < p .m → k < stored p
+      → coefficient (getD (wordsOf p x) i 0) k ≡ coefficientOf p x i k
   sub-word-bit x h i k l b =
-      rw (wordsOf-eq p x) (split-bit (wordSizes p) x h i k (rw (page-size p i l) (word-room k b))) ∙ ap (λ (o : ℕ). bitFrom x o k) (page-offset i l)
+      rw (wordsOf-eq p x) (split-bit (wordSizes p) x h i k (rw (page-size p i l) (word-room k b)))
+      ∙ ap (λ (o : ℕ). bitFrom x o k) (page-offset i l)
 
   -- bit r of block i is that of its number
-  pub block-bit : (x : List ℕ) → Bytes x → (i r : ℕ) → i < p .m → r < dataBits p i → coefficient (getD (blocksOf p x) i 0) r ≡ blockBit p x i r
+  pub block-bit : (x : List ℕ) → Bytes x → (i r : ℕ) → i < p .m → r < dataBits p i
+      → coefficient (getD (blocksOf p x) i 0) r ≡ blockBit p x i r
   block-bit x h i r l b =
       rw (blocksOf-eq p x) (split-bit (blockSizes p) x h i r (block-room i r l b)) ∙ ap (λ (o : ℕ). bitFrom x o r) (sym (offset-eq p i))
 
@@ -135,11 +151,13 @@ module _ (p : Parameters) (R : Rules p) where
 
   module _ (x : List ℕ) (h : Fits p x) where
     encoded-at : (i : ℕ) → i < p .m → getD (encode p (blocksOf p x)) i 0
-        ≡ checked p (level p i) (getD (blocksOf p x) i 0 * 2 ^ checkBits p i) (carried (level p i) i (drop (suc i) (encode p (blocksOf p x))))
+        ≡ checked p (level p i) (getD (blocksOf p x) i 0 * 2 ^ checkBits p i)
+        (carried (level p i) i (drop (suc i) (encode p (blocksOf p x))))
     unfolding encode
     encoded-at i l =
         encode-at p 0 i (blocksOf p x) (rw (blocks-blocks p R x h .many) l)
-        ∙ ap (λ (k : ℕ). checked p (level p k) (getD (blocksOf p x) i 0 * 2 ^ checkBits p k) (carried (level p k) k (drop (suc i) (encodeFrom p 0 (blocksOf p x))))) (Nat.zero-add i)
+        ∙ ap (λ (k : ℕ). checked p (level p k) (getD (blocksOf p x) i 0 * 2 ^ checkBits p k)
+        (carried (level p k) k (drop (suc i) (encodeFrom p 0 (blocksOf p x))))) (Nat.zero-add i)
 
     -- in the written page, bit r of block i is the coefficient of x^(w + r) of sub-word i
     pub written-bit : (i r : ℕ) → i < p .m → r < dataBits p i → coefficientOf p (pageOf p x) i (checkBits p i + r) ≡ blockBit p x i r
@@ -148,22 +166,28 @@ module _ (p : Parameters) (R : Rules p) where
         ∙ ap (λ (cs : List ℕ). coefficient (getD cs i 0) (checkBits p i + r)) (page-has p R x h)
         ∙ high-coefficient (getD (encode p (blocksOf p x)) i 0) (checkBits p i) r
         ∙ ap (λ (d : ℕ). coefficient d r) (ap (λ (c : ℕ). c / 2 ^ checkBits p i) (encoded-at i l)
-        ∙ checked-data p (lawful p R .degrees) (level p i) (level-low i) (getD (blocksOf p x) i 0) (carried (level p i) i (drop (suc i) (encode p (blocksOf p x)))))
+        ∙ checked-data p (lawful p R .degrees) (level p i) (level-low i) (getD (blocksOf p x) i 0)
+        (carried (level p i) i (drop (suc i) (encode p (blocksOf p x)))))
         ∙ block-bit x (h .bytes) i r l b
 
     -- its check bits are the w lowest places: the remainder of the data in their places with what the later words carry
     pub check-bits : (i : ℕ) → i < p .m → getD (wordsOf p (pageOf p x)) i 0 % 2 ^ checkBits p i
-        ≡ remainder p (level p i) (xor (getD (blocksOf p x) i 0 * 2 ^ checkBits p i) (carried (level p i) i (drop (suc i) (wordsOf p (pageOf p x)))))
+        ≡ remainder p (level p i)
+        (xor (getD (blocksOf p x) i 0 * 2 ^ checkBits p i) (carried (level p i) i (drop (suc i) (wordsOf p (pageOf p x)))))
     check-bits i l =
         rw (page-has p R x h) (ap (λ (c : ℕ). c % 2 ^ checkBits p i) (encoded-at i l)
-        ∙ checked-low p (lawful p R .degrees) (level p i) (level-low i) (getD (blocksOf p x) i 0) (carried (level p i) i (drop (suc i) (encode p (blocksOf p x)))))
+        ∙ checked-low p (lawful p R .degrees) (level p i) (level-low i) (getD (blocksOf p x) i 0)
+        (carried (level p i) i (drop (suc i) (encode p (blocksOf p x)))))
 
   -- in what read out gives, bit r of block i is the coefficient of x^(w + r) of sub-word i
-  pub read-bit : (x : List ℕ) → IsPage p x → (i r : ℕ) → i < p .m → r < dataBits p i → blockBit p (dataOf p x) i r ≡ coefficientOf p x i (checkBits p i + r)
+  pub read-bit : (x : List ℕ) → IsPage p x → (i r : ℕ) → i < p .m → r < dataBits p i
+      → blockBit p (dataOf p x) i r ≡ coefficientOf p x i (checkBits p i + r)
   unfolding dataWords
   read-bit x h i r l b =
       ap (λ (o : ℕ). bitFrom (dataOf p x) o r) (offset-eq p i)
-      ∙ rw (dataOf-eq p x) (join-bit (blockSizes p) (dataWords p (wordsOf p x)) (length-data p (wordsOf p x) ∙ page-words p R x h .many ∙ sym (length-blocks p)) i r (block-room i r l b))
-      ∙ ap (λ (d : ℕ). coefficient d r) (data-at p 0 i (wordsOf p x) ∙ ap (λ (k : ℕ). getD (wordsOf p x) i 0 / 2 ^ checkBits p k) (Nat.zero-add i))
+      ∙ rw (dataOf-eq p x) (join-bit (blockSizes p) (dataWords p (wordsOf p x))
+      (length-data p (wordsOf p x) ∙ page-words p R x h .many ∙ sym (length-blocks p)) i r (block-room i r l b))
+      ∙ ap (λ (d : ℕ). coefficient d r)
+      (data-at p 0 i (wordsOf p x) ∙ ap (λ (k : ℕ). getD (wordsOf p x) i 0 / 2 ^ checkBits p k) (Nat.zero-add i))
       ∙ sym (high-coefficient (getD (wordsOf p x) i 0) (checkBits p i) r)
       ∙ sub-word-bit x (h .bytes) i (checkBits p i + r) l (data-room i r b)

@@ -37,24 +37,27 @@ countBelow-eq n P = refl
 
 pub addBelow-ext : (n : ℕ) (f g : ℕ → ℕ) → ((k : ℕ) → k < n → f k ≡ g k) → addBelow n f ≡ addBelow n g
 addBelow-ext zero f g h = addBelow-zero f ∙ sym (addBelow-zero g)
-addBelow-ext (suc n) f g h = addBelow-suc n f ∙ ap₂ _+_ (addBelow-ext n f g (λ k l. h k (Nat.le-step l))) (h n (Nat.le-refl (suc n))) ∙ sym (addBelow-suc n g)
+addBelow-ext (suc n) f g h =
+    addBelow-suc n f ∙ ap₂ _+_ (addBelow-ext n f g (λ k l. h k (Nat.le-step l))) (h n (Nat.le-refl (suc n))) ∙ sym (addBelow-suc n g)
 
 pub countBelow-ext : (n : ℕ) (P Q : ℕ → Bool) → ((k : ℕ) → k < n → P k ≡ Q k) → countBelow n P ≡ countBelow n Q
 countBelow-ext n P Q h =
-    countBelow-eq n P ∙ addBelow-ext n (λ k. cond (P k) 1 0) (λ k. cond (Q k) 1 0) (λ k l. ap (λ (b : Bool). cond b 1 0) (h k l)) ∙ sym (countBelow-eq n Q)
+    countBelow-eq n P ∙ addBelow-ext n (λ k. cond (P k) 1 0) (λ k. cond (Q k) 1 0) (λ k l. ap (λ (b : Bool). cond b 1 0) (h k l))
+    ∙ sym (countBelow-eq n Q)
 
 addBelow-front : (n : ℕ) (f : ℕ → ℕ) → addBelow (suc n) f ≡ f 0 + addBelow n (λ k. f (suc k))
 addBelow-front zero f = addBelow-suc 0 f ∙ rw (addBelow-zero f, addBelow-zero (λ k. f (suc k))) (omega arith)
 addBelow-front (suc n) f =
-    addBelow-suc (suc n) f ∙ ap (λ (y : ℕ). y + f (suc n)) (addBelow-front n f) ∙ Nat.add-assoc (f 0) (addBelow n (λ k. f (suc k))) (f (suc n))
-    ∙ ap (λ (y : ℕ). f 0 + y) (sym (addBelow-suc n (λ k. f (suc k))))
+    addBelow-suc (suc n) f ∙ ap (λ (y : ℕ). y + f (suc n)) (addBelow-front n f)
+    ∙ Nat.add-assoc (f 0) (addBelow n (λ k. f (suc k))) (f (suc n)) ∙ ap (λ (y : ℕ). f 0 + y) (sym (addBelow-suc n (λ k. f (suc k))))
 
 -- ---- one word
 ones-weight : (n e : ℕ) → e < 2 ^ n → addBelow n (λ k. coefficient e k) ≡ weight e
 ones-weight zero e h = addBelow-zero (λ k. coefficient e k) ∙ sym (rw (lt-one h) weight-zero)
 ones-weight (suc n) e h =
     addBelow-front n (λ k. coefficient e k)
-    ∙ ap₂ _+_ (ap (λ (y : ℕ). y % 2) (Nat.div-one e)) (addBelow-ext n (λ k. coefficient e (suc k)) (λ k. coefficient (e / 2) k) (λ k l. ap (λ (y : ℕ). y % 2) (shr-half e k)) ∙ ones-weight n (e / 2) (half-lt e n h))
+    ∙ ap₂ _+_ (ap (λ (y : ℕ). y % 2) (Nat.div-one e)) (addBelow-ext n (λ k. coefficient e (suc k)) (λ k. coefficient (e / 2) k)
+    (λ k l. ap (λ (y : ℕ). y % 2) (shr-half e k)) ∙ ones-weight n (e / 2) (half-lt e n h))
     ∙ sym (weight-eq e)
 
 unequal : (a b : ℕ) → a < 2 → b < 2 → cond (not (eqb a b)) 1 0 ≡ (a + b) % 2
@@ -69,23 +72,27 @@ words-differ : (n c d : ℕ) → c < 2 ^ n → d < 2 ^ n → countBelow n (λ k.
 words-differ n c d h l =
     countBelow-eq n (λ k. not (eqb (coefficient c k) (coefficient d k)))
     ∙ addBelow-ext n (λ k. cond (not (eqb (coefficient c k) (coefficient d k))) 1 0) (λ k. coefficient (xor c d) k)
-    (λ k b. unequal (coefficient c k) (coefficient d k) (Nat.mod-lt (c / 2 ^ k) (suc-le-suc zero-le)) (Nat.mod-lt (d / 2 ^ k) (suc-le-suc zero-le)) ∙ sym (coefficient-xor c d k))
+    (λ k b. unequal (coefficient c k) (coefficient d k) (Nat.mod-lt (c / 2 ^ k) (suc-le-suc zero-le))
+    (Nat.mod-lt (d / 2 ^ k) (suc-le-suc zero-le)) ∙ sym (coefficient-xor c d k))
     ∙ ones-weight n (xor c d) (xor-lt n c d h l)
 
 -- ---- all words
 abbrev differing : ℕ → List ℕ → List ℕ → ℕ → ℕ
 differing n cs ds i = countBelow n (λ k. not (eqb (coefficient (getD cs i 0) k) (coefficient (getD ds i 0) k)))
 
-pages-differ : (n : ℕ) (cs ds : List ℕ) → length cs ≡ length ds → All (λ c. c < 2 ^ n) cs → All (λ c. c < 2 ^ n) ds → addBelow (length cs) (differing n cs ds) ≡ pageWeight (add cs ds)
+pages-differ : (n : ℕ) (cs ds : List ℕ) → length cs ≡ length ds → All (λ c. c < 2 ^ n) cs → All (λ c. c < 2 ^ n) ds
+    → addBelow (length cs) (differing n cs ds) ≡ pageWeight (add cs ds)
 pages-differ n [] [] e a b = addBelow-zero (differing n [] [])
 pages-differ n [] (d ∷ ds) e a b = absurd (Nat.suc-ne-zero (length ds) (sym e))
 pages-differ n (c ∷ cs) [] e a b = absurd (Nat.suc-ne-zero (length cs) e)
 pages-differ n (c ∷ cs) (d ∷ ds) e a b =
-    addBelow-front (length cs) (differing n (c ∷ cs) (d ∷ ds)) ∙ ap₂ _+_ (words-differ n c d (a .0) (b .0)) (pages-differ n cs ds (Nat.suc-inj e) (a .1) (b .1))
+    addBelow-front (length cs) (differing n (c ∷ cs) (d ∷ ds))
+    ∙ ap₂ _+_ (words-differ n c d (a .0) (b .0)) (pages-differ n cs ds (Nat.suc-inj e) (a .1) (b .1))
 
 -- two pages of the code that differ do so in at least the distance of places
 pub distance-places : (F : Field2) (α : F .K) (C : Parameters) → Lawful F α C → (cs ds : List ℕ) → length cs ≡ C.m → length ds ≡ C.m
-    → All (λ c. c < 2 ^ len C) cs → All (λ c. c < 2 ^ len C) ds → Passing C cs → Passing C ds → cs ≢ ds → distance C ≤ addBelow C.m (differing (len C) cs ds)
+    → All (λ c. c < 2 ^ len C) cs → All (λ c. c < 2 ^ len C) ds → Passing C cs → Passing C ds → cs ≢ ds
+    → distance C ≤ addBelow C.m (differing (len C) cs ds)
 distance-places F α C L cs ds e f a b M M′ h =
     Nat.le-trans (distance-member F α C L cs ds (e ∙ sym f) (Nat.le-of-eq e) a b M M′ h)
     (Nat.le-of-eq (sym (pages-differ (len C) cs ds (e ∙ sym f) a b) ∙ ap (λ (k : ℕ). addBelow k (differing (len C) cs ds)) e))

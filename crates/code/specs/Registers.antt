@@ -1,4 +1,5 @@
--- The register: fed a polynomial from the empty register, highest power first, cut into any widths, it holds the count and the remainder by g_a.
+-- The register: fed a polynomial from the empty register, highest power first, cut into any widths,
+-- it holds the count and the remainder by g_a.
 --   cut c Ls                  the polynomial c in parts of Ls coefficients, highest power first: pairs of a width and a number
 --   feedings p r parts        the register after the parts are fed in turn
 --   AllDone p r parts         no feeding of them is refused
@@ -69,7 +70,8 @@ module _ (g k : ℕ) (d : Deg g k) where
 
 -- c without its S lowest coefficients, in two parts
 part : (c L S : ℕ) → c / 2 ^ (L + S) * 2 ^ L + c / 2 ^ S % 2 ^ L ≡ c / 2 ^ S
-part c L S = ap (λ (y : ℕ). y * 2 ^ L + c / 2 ^ S % 2 ^ L) (ap (λ (e : ℕ). c / 2 ^ e) (Nat.add-comm L S) ∙ sym (shr-shr c S L)) ∙ split (c / 2 ^ S) L
+part c L S =
+    ap (λ (y : ℕ). y * 2 ^ L + c / 2 ^ S % 2 ^ L) (ap (λ (e : ℕ). c / 2 ^ e) (Nat.add-comm L S) ∙ sym (shr-shr c S L)) ∙ split (c / 2 ^ S) L
 
 module _ (p : Parameters) (A : Accepted p) (a : ℕ) (low : a ≤ p .v) where
   R : Rules p
@@ -91,13 +93,20 @@ module _ (p : Parameters) (A : Accepted p) (a : ℕ) (low : a ≤ p .v) where
   feed-none : (L u k f : ℕ) → Width L → u < 2 ^ L → k + L ≤ full p → feedRefusal p L (holding a k (remainder p a f)) u ≡ 0
   unfolding feedRefusal
   feed-none L u k f w h b =
-      or-zero (sheetRefusal p) (5 when badWidth L orElse 8 when leb (2 ^ L) u orElse 11 when ltb (full p) (k + L) orElse 12 when (ltb (p .v) a || leb (2 ^ degree p a) (value 64 (digits 64 12 (remainder p a f))))) A
-      (or-zero (5 when badWidth L) (8 when leb (2 ^ L) u orElse 11 when ltb (full p) (k + L) orElse 12 when (ltb (p .v) a || leb (2 ^ degree p a) (value 64 (digits 64 12 (remainder p a f))))) (off′ 5 (badWidth L) (width-good L w))
-      (or-zero (8 when leb (2 ^ L) u) (11 when ltb (full p) (k + L) orElse 12 when (ltb (p .v) a || leb (2 ^ degree p a) (value 64 (digits 64 12 (remainder p a f))))) (off′ 8 (leb (2 ^ L) u) (no (leb (2 ^ L) u) (leb→le (2 ^ L) u) (Nat.not-le-of-lt h)))
-      (or-zero (11 when ltb (full p) (k + L)) (12 when (ltb (p .v) a || leb (2 ^ degree p a) (value 64 (digits 64 12 (remainder p a f))))) (off′ 11 (ltb (full p) (k + L)) (no (ltb (full p) (k + L)) (ltb→lt (full p) (k + L)) (λ l. Nat.not-le-of-lt l b)))
+      or-zero (sheetRefusal p) (5 when badWidth L orElse 8 when leb (2 ^ L) u orElse 11 when ltb (full p) (k + L)
+      orElse 12 when (ltb (p .v) a || leb (2 ^ degree p a) (value 64 (digits 64 12 (remainder p a f))))) A
+      (or-zero (5 when badWidth L) (8 when leb (2 ^ L) u orElse 11 when ltb (full p) (k + L) orElse 12 when (ltb (p .v) a
+      || leb (2 ^ degree p a) (value 64 (digits 64 12 (remainder p a f))))) (off′ 5 (badWidth L) (width-good L w))
+      (or-zero (8 when leb (2 ^ L) u)
+      (11 when ltb (full p) (k + L) orElse 12 when (ltb (p .v) a || leb (2 ^ degree p a) (value 64 (digits 64 12 (remainder p a f)))))
+      (off′ 8 (leb (2 ^ L) u) (no (leb (2 ^ L) u) (leb→le (2 ^ L) u) (Nat.not-le-of-lt h)))
+      (or-zero (11 when ltb (full p) (k + L)) (12 when (ltb (p .v) a || leb (2 ^ degree p a) (value 64 (digits 64 12 (remainder p a f)))))
+      (off′ 11 (ltb (full p) (k + L)) (no (ltb (full p) (k + L)) (ltb→lt (full p) (k + L)) (λ l. Nat.not-le-of-lt l b)))
       (off′ 12 (ltb (p .v) a || leb (2 ^ degree p a) (value 64 (digits 64 12 (remainder p a f))))
-      (nor (ltb (p .v) a) (leb (2 ^ degree p a) (value 64 (digits 64 12 (remainder p a f)))) (no (ltb (p .v) a) (ltb→lt (p .v) a) (λ l. Nat.not-le-of-lt l low))
-      (rw (back f) (no (leb (2 ^ degree p a) (remainder p a f)) (leb→le (2 ^ degree p a) (remainder p a f)) (Nat.not-le-of-lt (rem-lt (gen p a) (degree p a) d f)))))))))
+      (nor (ltb (p .v) a) (leb (2 ^ degree p a) (value 64 (digits 64 12 (remainder p a f))))
+      (no (ltb (p .v) a) (ltb→lt (p .v) a) (λ l. Nat.not-le-of-lt l low))
+      (rw (back f) (no (leb (2 ^ degree p a) (remainder p a f)) (leb→le (2 ^ degree p a) (remainder p a f))
+      (Nat.not-le-of-lt (rem-lt (gen p a) (degree p a) d f)))))))))
     where
       nor : (x y : Bool) → T (not x) → T (not y) → T (not (x || y))
       nor true y s t = absurd s
@@ -105,12 +114,18 @@ module _ (p : Parameters) (A : Accepted p) (a : ℕ) (low : a ≤ p .v) where
 
   advance : (L u k f : ℕ) → u < 2 ^ L → advanced p L (holding a k (remainder p a f)) u ≡ holding a (k + L) (remainder p a (f * 2 ^ L + u))
   unfolding advanced
-  advance L u k f h = ap (λ (y : ℕ). holding a (k + L) y) (ap (λ (y : ℕ). remainder p a (xor (y * 2 ^ L) u)) (back f) ∙ rem-next (gen p a) (degree p a) d f L u h)
+  advance L u k f h =
+      ap (λ (y : ℕ). holding a (k + L) y)
+      (ap (λ (y : ℕ). remainder p a (xor (y * 2 ^ L) u)) (back f) ∙ rem-next (gen p a) (degree p a) d f L u h)
 
   fed-one : (L u k f : ℕ) → Width L → u < 2 ^ L → k + L ≤ full p
-      → fed p L (holding a k (remainder p a f)) u ≡ record { outcome = Outcome.Done; register = holding a (k + L) (remainder p a (f * 2 ^ L + u)) }
+      → fed p L (holding a k (remainder p a f)) u ≡ record {
+        outcome = Outcome.Done;
+        register = holding a (k + L) (remainder p a (f * 2 ^ L + u));
+      }
   unfolding fed
-  fed-one L u k f w h b = rw (feed-none L u k f w h b) (ap (λ (r : Register). record { outcome = Outcome.Done; register = r }) (advance L u k f h))
+  fed-one L u k f w h b =
+      rw (feed-none L u k f w h b) (ap (λ (r : Register). record { outcome = Outcome.Done; register = r }) (advance L u k f h))
 
   module _ (c : ℕ) where
     -- the register before the parts Ls
@@ -120,7 +135,8 @@ module _ (p : Parameters) (A : Accepted p) (a : ℕ) (low : a ≤ p .v) where
     step : (L k : ℕ) (Ls : List ℕ) → Width L → k + sum (L ∷ Ls) ≤ full p
         → fed p L (at k (L ∷ Ls)) (c / 2 ^ sum Ls % 2 ^ L) ≡ record { outcome = Outcome.Done; register = at (k + L) Ls }
     step L k Ls w h =
-        fed-one L (c / 2 ^ sum Ls % 2 ^ L) k (c / 2 ^ sum (L ∷ Ls)) w (Nat.mod-lt (c / 2 ^ sum Ls) (pow-pos L)) (omega (arith, sum-cons L Ls))
+        fed-one L (c / 2 ^ sum Ls % 2 ^ L) k (c / 2 ^ sum (L ∷ Ls)) w (Nat.mod-lt (c / 2 ^ sum Ls) (pow-pos L))
+        (omega (arith, sum-cons L Ls))
         ∙ ap (λ (f : ℕ). record { outcome = Outcome.Done; register = holding a (k + L) (remainder p a f) })
         (ap (λ (s : ℕ). c / 2 ^ s * 2 ^ L + c / 2 ^ sum Ls % 2 ^ L) (sum-cons L Ls) ∙ part c L (sum Ls))
 
@@ -132,7 +148,8 @@ module _ (p : Parameters) (A : Accepted p) (a : ℕ) (low : a ≤ p .v) where
     done-from k (L ∷ Ls) w h =
         (ap (λ (r : Fed). r .outcome) (step L k Ls (w .0) h), rw (step L k Ls (w .0) h) (done-from (k + L) Ls (w .1) (room-left L k Ls h)))
 
-    after-from : (k : ℕ) (Ls : List ℕ) → All Width Ls → k + sum Ls ≤ full p → feedings p (at k Ls) (cut c Ls) ≡ holding a (k + sum Ls) (remainder p a c)
+    after-from : (k : ℕ) (Ls : List ℕ) → All Width Ls → k + sum Ls ≤ full p
+        → feedings p (at k Ls) (cut c Ls) ≡ holding a (k + sum Ls) (remainder p a c)
     after-from k [] w h =
         let s : k ≡ k + sum [] = sym (ap (λ (y : ℕ). k + y) sum-nil ∙ Nat.add-zero k) in
         let f : c / 2 ^ sum [] ≡ c = ap (λ (y : ℕ). c / 2 ^ y) sum-nil ∙ Nat.div-one c in
@@ -149,11 +166,15 @@ module _ (p : Parameters) (A : Accepted p) (a : ℕ) (low : a ≤ p .v) where
     fed-done = rw begin (done-from c 0 Ls w (rw (Nat.zero-add (sum Ls)) h))
 
     pub fed-holds : feedings p (empty a) (cut c Ls) ≡ holding a (sum Ls) (remainder p a c)
-    fed-holds = rw begin (after-from c 0 Ls w (rw (Nat.zero-add (sum Ls)) h) ∙ ap (λ (s : ℕ). holding a s (remainder p a c)) (Nat.zero-add (sum Ls)))
+    fed-holds =
+        rw begin
+        (after-from c 0 Ls w (rw (Nat.zero-add (sum Ls)) h) ∙ ap (λ (s : ℕ). holding a s (remainder p a c)) (Nat.zero-add (sum Ls)))
 
   pub opened-empty : opened p a ≡ record { outcome = Outcome.Done; register = empty a }
   unfolding opened openRefusal
-  opened-empty = rw (or-zero (sheetRefusal p) (9 when ltb (p .v) a) A (off′ 9 (ltb (p .v) a) (no (ltb (p .v) a) (ltb→lt (p .v) a) (λ l. Nat.not-le-of-lt l low)))) refl
+  opened-empty =
+      rw (or-zero (sheetRefusal p) (9 when ltb (p .v) a) A
+      (off′ 9 (ltb (p .v) a) (no (ltb (p .v) a) (ltb→lt (p .v) a) (λ l. Nat.not-le-of-lt l low)))) refl
 
   -- the remainder's words give it back
   pub register-back : (f : ℕ) → value 64 (digits 64 12 (remainder p a f)) ≡ remainder p a f

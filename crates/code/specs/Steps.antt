@@ -11,7 +11,8 @@ use Rattle.field.specs.Fields.{fieldOf}
 use Rattle.generator.specs.Generator.{generator, width}
 use Rattle.code.specs.declared.Parameters.{Parameters}
 use Rattle.code.specs.Parameters.{len, strength}
-use Rattle.code.specs.Code.{gen, degree, remainder, level, checkBits, combine, nestedSum, nested, nestingPower, N, dataPlace, carried, check, checked, encodeFrom, dataFrom}
+use Rattle.code.specs.Code.{gen, degree, remainder, level, checkBits, combine, nestedSum, nested}
+use Rattle.code.specs.Code.{nestingPower, N, dataPlace, carried, check, checked, encodeFrom, dataFrom}
 
 abbrev pub Divides : Parameters → ℕ → ℕ → Type 0
 Divides C a f = remainder C a f ≡ 0

@@ -25,22 +25,27 @@ use Rattle.code.specs.Register.{Register}
 use Rattle.generator.specs.Generator as G
 use Rattle.code.specs.Answers.{read-as-judge}
 use Rattle.code.specs.Accepted.{Rules, accepted, degree-le, lawful, n-is, q-high, width-below, degree-of}
-use Rattle.code.specs.Buffers.{bytes-at, divides-up, divisor-deg, divisor-degree, divisor-times, length-syndromes, nested-back, remainder-back, row-back, short-back, short-differ, short-lt, syndromes-at}
-use Rattle.code.specs.Calls.{Judged, ReadOut, Written, asBytes, empty, judgeAnswer, leaves, nestedOf, nestedSyndromeList, outcome, subWordOf, syndromeList}
+use Rattle.code.specs.Buffers.{bytes-at, divides-up, divisor-deg, divisor-degree, divisor-times, length-syndromes}
+use Rattle.code.specs.Buffers.{nested-back, remainder-back, row-back, short-back, short-differ, short-lt, syndromes-at}
+use Rattle.code.specs.Calls.{Judged, ReadOut, Written, asBytes, empty, judgeAnswer, leaves}
+use Rattle.code.specs.Calls.{nestedOf, nestedSyndromeList, outcome, subWordOf, syndromeList}
 use Rattle.code.specs.Code.{IsMember, degree, distance, gen, least, level, nested, newton, remainder, syndromes, verdict}
-use Rattle.code.specs.Demands.{Alike, BufferLaws, Demand2, Demand3, Demands, GeneratorLaws, GeneratorOf, JudgeLaws, RegisterLaws, Rewrites, ShortLaws, Smallest, Sums, Vanishes, WriteLaws}
+use Rattle.code.specs.Demands.{Alike, BufferLaws, Demand2, Demand3, Demands, GeneratorLaws, GeneratorOf}
+use Rattle.code.specs.Demands.{JudgeLaws, RegisterLaws, Rewrites, ShortLaws, Smallest, Sums, Vanishes, WriteLaws}
 use Rattle.code.specs.Distance.{Passing, least-few, least-many}
 use Rattle.code.specs.Encode.{N-above, encode-member, member-encode}
 use Rattle.code.specs.Judge.{member-passing, multiple-iff, passing-member, verdict-member, verdict-nested, verdict-sub}
 use Rattle.code.specs.Layout.{Bytes, Fits, IsPage, blocksOf, coefficientOf, dataOf, differences, pageOf, wordSizes, wordsOf}
 use Rattle.code.specs.Lists.{addBelow, countBelow, join, sum}
 use Rattle.code.specs.Newton.{nesteds-of, newtons-of}
-use Rattle.code.specs.Pages.{IsWords, again-from, again-to, data-fit, join-words, page-back, page-has, page-is, page-words, sum-fits, sum-page}
+use Rattle.code.specs.Pages.{IsWords, again-from, again-to, data-fit, join-words}
+use Rattle.code.specs.Pages.{page-back, page-has, page-is, page-words, sum-fits, sum-page}
 use Rattle.code.specs.Parameters.{Accepted, full, len, stored, strength}
 use Rattle.code.specs.Placement.{check-bits, read-bit, sub-word-bit, written-bit}
 use Rattle.code.specs.Places.{addBelow-ext, countBelow-ext, distance-places}
 use Rattle.code.specs.Refusals.{writeRefusal}
-use Rattle.code.specs.Refused.{BlocksBuffer, PageBuffer, Width, judge-is, judged-page, read-is, read-leaves, write-alike, write-done, write-leaves}
+use Rattle.code.specs.Refused.{BlocksBuffer, PageBuffer, Width, judge-is, judged-page}
+use Rattle.code.specs.Refused.{read-is, read-leaves, write-alike, write-done, write-leaves}
 use Rattle.code.specs.Registers.{cut, fed-done, fed-holds, feedings, holding, opened-empty, register-back}
 use Rattle.code.specs.Steps.{Divides, degree-eq, gen-eq}
 
@@ -51,10 +56,12 @@ formula p b = b * (2 * strength p (p .v - b + 1) + 1)
 above : (v b : ℕ) → suc b ≤ v → v - suc b + 1 ≡ v - b
 above v b h = omega arith
 
-least-below : (p : Parameters) (k d : ℕ) → k ≤ p .v → d ≤ (p .v + 1) * (2 * strength p 0 + 1) → ((b : ℕ) → 1 ≤ b → b ≤ k → d ≤ formula p b) → d ≤ least p k
+least-below : (p : Parameters) (k d : ℕ) → k ≤ p .v → d ≤ (p .v + 1) * (2 * strength p 0 + 1) → ((b : ℕ) → 1 ≤ b → b ≤ k → d ≤ formula p b)
+    → d ≤ least p k
 least-below p zero d l h f = h
 least-below p (suc k) d l h f =
-    Nat.le-min (rw (above (p .v) k l) at (f (suc k) (suc-le-suc zero-le) (Nat.le-refl (suc k)))) (least-below p k d (Nat.le-of-suc-le l) h (λ b i j. f b i (Nat.le-step j)))
+    Nat.le-min (rw (above (p .v) k l) at (f (suc k) (suc-le-suc zero-le) (Nat.le-refl (suc k))))
+    (least-below p k d (Nat.le-of-suc-le l) h (λ b i j. f b i (Nat.le-step j)))
 
 smallest : (p : Parameters) → Smallest p
 unfolding distance
@@ -102,7 +109,10 @@ module _ (p : Parameters) (A : Accepted p) where
     of-degree = degree-of p R a h;
     degree-bound = degree-le p R a;
     degree-below = width-below p R a h;
-    multiples = λ c. ((λ M. silenced a c (lawful p R .roots a h c .0 (multiple-iff p R a h c .1 M))), (λ s. multiple-iff p R a h c .0 (lawful p R .roots a h c .1 (silent a c s))));
+    multiples = λ c. (
+      (λ M. silenced a c (lawful p R .roots a h c .0 (multiple-iff p R a h c .1 M))),
+      (λ s. multiple-iff p R a h c .0 (lawful p R .roots a h c .1 (silent a c s))),
+    );
     cyclic = multiple-iff p R a h (2 ^ len p + 1) .0 (rw (gen-eq p a, degree-eq p a, ← n-is p R) (G.generator-cyclic B (strength p a)));
     next = λ l. multiple-iff p R a h (gen p (a + 1)) .0 (divides-up p R a (a + 1) (omega arith) (omega arith));
     row = row-back p R A a h;
@@ -132,7 +142,8 @@ module _ (p : Parameters) (A : Accepted p) where
   all-small : (k c : ℕ) → All (λ x. x < 2 ^ 16) (syndromes p k c)
   all-small k c =
       at-all (λ x. x < 2 ^ 16) (syndromes p k c) (λ j l.
-      rw (syndromes-at p k c j (rw (length-syndromes p k c) at l)) (Nat.lt-of-lt-of-le (syndrome-lt (p .q) (R .known) c (suc j)) (pow-mono {j = 16} (Nat.le-trans (q-high (p .q) (R .known)) (lit≤ {m = 12} {n = 16} tt)))))
+      rw (syndromes-at p k c j (rw (length-syndromes p k c) at l)) (Nat.lt-of-lt-of-le (syndrome-lt (p .q) (R .known) c (suc j))
+      (pow-mono {j = 16} (Nat.le-trans (q-high (p .q) (R .known)) (lit≤ {m = 12} {n = 16} tt)))))
 
   buffers-are : (x : List ℕ) → BufferLaws p x
   unfolding syndromeList nestedSyndromeList
@@ -172,10 +183,12 @@ module _ (p : Parameters) (A : Accepted p) where
   page-passing : (a : List ℕ) → Fits p a → Passing p (wordsOf p (pageOf p a))
   page-passing a h = rw (page-has p R a h) (encode-member (B .field) (B .α) p (lawful p R) (blocksOf p a))
 
-  after-is : (L : ℕ) (a old after : List ℕ) (r : Outcome) → Width L → Fits p a → PageBuffer p old → Written p L a old after r → (r ≡ Outcome.Done) × (after ≡ pageOf p a)
+  after-is : (L : ℕ) (a old after : List ℕ) (r : Outcome) → Width L → Fits p a → PageBuffer p old → Written p L a old after r
+      → (r ≡ Outcome.Done) × (after ≡ pageOf p a)
   after-is L a old after r w h e W = (W .answers ∙ write-done p A L a old w h e, W .buffer ∙ write-leaves p A L a old w h e)
 
-  written-laws : (L : ℕ) (a old after : List ℕ) (r : Outcome) → Width L → Fits p a → PageBuffer p old → Written p L a old after r → WriteLaws p a after r
+  written-laws : (L : ℕ) (a old after : List ℕ) (r : Outcome) → Width L → Fits p a → PageBuffer p old → Written p L a old after r
+      → WriteLaws p a after r
   written-laws L a old after r w h e W =
       let x : IsPage p (pageOf p a) = page-is p R a h in
       let j : judgeAnswer p (pageOf p a) ≡ Verdict.Member = passing-judged (pageOf p a) x (page-passing a h) in
@@ -192,7 +205,8 @@ module _ (p : Parameters) (A : Accepted p) where
       }
 
   -- ---- the equal form
-  equal-form : (cs : List ℕ) → ((l : ℕ) → l < p .v → Multiple (gen p (p .v - l)) (nested p l cs)) ↔ ((l : ℕ) → l < p .v → Multiple (gen p (p .v - l)) (newton l cs))
+  equal-form : (cs : List ℕ) → ((l : ℕ) → l < p .v → Multiple (gen p (p .v - l)) (nested p l cs))
+      ↔ ((l : ℕ) → l < p .v → Multiple (gen p (p .v - l)) (newton l cs))
   equal-form cs = (
     (λ M l h. shown l (newton l cs) (newtons-of (B .field) (B .α) p (lawful p R) cs (λ l h. plain l (nested p l cs) (M l h)) l h)),
     (λ M l h. shown l (nested p l cs) (nesteds-of (B .field) (B .α) p (lawful p R) cs (λ l h. plain l (newton l cs) (M l h)) l h)),
@@ -213,7 +227,10 @@ module _ (p : Parameters) (A : Accepted p) where
       no-less = power-order (p .q) (R .known);
     };
     generator-laws = generators-are;
-    remainder-laws = λ a h c. record { below = rem-lt (gen p a) (degree p a) (degree-of p R a h) c; differs = rem-differ (gen p a) (degree p a) (degree-of p R a h) c };
+    remainder-laws = λ a h c. record {
+      below = rem-lt (gen p a) (degree p a) (degree-of p R a h) c;
+      differs = rem-differ (gen p a) (degree p a) (degree-of p R a h) c;
+    };
     short-laws = λ l h cs. shorts-are l cs;
     syndrome-laws = λ c j. record { is-sum = syndrome-sum (p .q) (R .known) (len p) c j; below = syndrome-lt (p .q) (R .known) c j };
     register-laws = registers-are;
@@ -234,14 +251,16 @@ module _ (p : Parameters) (A : Accepted p) where
   alike : (L M : ℕ) (a old old′ after after′ : List ℕ) (r r′ : Outcome) → Width L → Width M → length old ≡ length old′
       → Written p L a old after r → Written p M a old′ after′ r′ → Alike after after′ r r′
   alike L M a old old′ after after′ r r′ w w′ e W W′ =
-      let s : writeRefusal p L a (length old) ≡ writeRefusal p M a (length old′) = write-alike p L M w w′ a (length old) ∙ ap (writeRefusal p M a) e in
+      let s : writeRefusal p L a (length old) ≡ writeRefusal p M a (length old′) =
+      write-alike p L M w w′ a (length old) ∙ ap (writeRefusal p M a) e in
       record {
         answers = W .answers ∙ ap outcome s ∙ sym (W′ .answers);
-        pages = λ d. W .buffer ∙ refused-not-done (writeRefusal p L a (length old)) (pageOf p a) old old′ (sym (W .answers) ∙ d) ∙ ap (λ (k : ℕ). leaves k (pageOf p a) old′) s ∙ sym (W′ .buffer);
+        pages = λ d. W .buffer ∙ refused-not-done (writeRefusal p L a (length old)) (pageOf p a) old old′ (sym (W .answers) ∙ d)
+            ∙ ap (λ (k : ℕ). leaves k (pageOf p a) old′) s ∙ sym (W′ .buffer);
       }
 
-  sums : (K L M : ℕ) (a b old-a old-b old-sum page-a page-b page-sum : List ℕ) (r-a r-b r-sum : Outcome) → Width K → Width L → Width M → Fits p a → Fits p b
-      → PageBuffer p old-a → PageBuffer p old-b → PageBuffer p old-sum
+  sums : (K L M : ℕ) (a b old-a old-b old-sum page-a page-b page-sum : List ℕ) (r-a r-b r-sum : Outcome) → Width K → Width L → Width M
+      → Fits p a → Fits p b → PageBuffer p old-a → PageBuffer p old-b → PageBuffer p old-sum
       → Written p K a old-a page-a r-a → Written p L b old-b page-b r-b → Written p M (add a b) old-sum page-sum r-sum
       → Sums p a b page-a page-b page-sum r-a r-b r-sum
   sums K L M a b oa ob os pa pb ps ra rb rs wk wl wm h j ea eb es Wa Wb Ws =
@@ -263,7 +282,8 @@ module _ (p : Parameters) (A : Accepted p) where
     (λ e. passing-judged x h (member-encode (B .field) (B .α) p (lawful p R) (wordsOf p x) .1 (again-from p R x h e))),
   )
 
-  rewrites : (L : ℕ) (x old-blocks blocks old-page after : List ℕ) (j r : Verdict) (w : Outcome) → Width L → IsPage p x → BlocksBuffer p old-blocks → PageBuffer p old-page
+  rewrites : (L : ℕ) (x old-blocks blocks old-page after : List ℕ) (j r : Verdict) (w : Outcome) → Width L → IsPage p x
+      → BlocksBuffer p old-blocks → PageBuffer p old-page
       → Judged p x j → ReadOut p x old-blocks blocks r → Written p L blocks old-page after w → Rewrites x after j r w
   rewrites L x ob blocks op after j r o w h eb ep J O W =
       let b : blocks ≡ dataOf p x = O .buffer ∙ read-leaves p A x ob h eb in
@@ -274,15 +294,18 @@ module _ (p : Parameters) (A : Accepted p) where
 
   -- the places that the definition counts are those of the words
   differences-are : (x y : List ℕ) → IsPage p x → IsPage p y
-      → differences p x y ≡ addBelow (p .m) (λ i. countBelow (stored p) (λ k. not (eqb (coefficient (subWordOf p x i) k) (coefficient (subWordOf p y i) k))))
+      → differences p x y
+      ≡ addBelow (p .m) (λ i. countBelow (stored p) (λ k. not (eqb (coefficient (subWordOf p x i) k) (coefficient (subWordOf p y i) k))))
   unfolding differences
   differences-are x y h l =
       addBelow-ext (p .m) (λ i. countBelow (stored p) (λ k. not (eqb (coefficientOf p x i k) (coefficientOf p y i k))))
       (λ i. countBelow (stored p) (λ k. not (eqb (coefficient (subWordOf p x i) k) (coefficient (subWordOf p y i) k))))
-      (λ i b. countBelow-ext (stored p) (λ k. not (eqb (coefficientOf p x i k) (coefficientOf p y i k))) (λ k. not (eqb (coefficient (subWordOf p x i) k) (coefficient (subWordOf p y i) k)))
+      (λ i b. countBelow-ext (stored p) (λ k. not (eqb (coefficientOf p x i k) (coefficientOf p y i k)))
+      (λ k. not (eqb (coefficient (subWordOf p x i) k) (coefficient (subWordOf p y i) k)))
       (λ k c. ap₂ (λ (s t : ℕ). not (eqb s t)) (sym (sub-word-bit p R x (h .bytes) i k b c)) (sym (sub-word-bit p R y (l .bytes) i k b c))))
 
-  apart : (x y : List ℕ) → Bytes x → Bytes y → Judged p x Verdict.Member → Judged p y Verdict.Member → x ≢ y → distance p ≤ differences p x y
+  apart : (x y : List ℕ) → Bytes x → Bytes y → Judged p x Verdict.Member → Judged p y Verdict.Member → x ≢ y
+      → distance p ≤ differences p x y
   apart x y b c J K n =
       let e : judgeAnswer p x ≡ Verdict.Member = sym (J .answers) in
       let f : judgeAnswer p y ≡ Verdict.Member = sym (K .answers) in

@@ -40,7 +40,8 @@ module _ (F : Field2) where
   pub eval-nested : (C : Parameters) → 0 < len C → (x : K) → pow F x (len C) ≡ 𝟙 → (l : ℕ) (cs : List ℕ)
       → eval F (nested C l cs) x ≡ weigh x (λ i. pow F x (l * i)) 0 cs
   eval-nested C h x e l cs =
-      rw (nested-eq C l cs) (eval-rem F (2 ^ len C + 1) (len C) (unity-deg (len C) h) (combine (λ i. 2 ^ (l * i)) 0 cs) x (eval-unity F (len C) h x e)
+      rw (nested-eq C l cs)
+      (eval-rem F (2 ^ len C + 1) (len C) (unity-deg (len C) h) (combine (λ i. 2 ^ (l * i)) 0 cs) x (eval-unity F (len C) h x e)
       ∙ eval-combine x (λ i. 2 ^ (l * i)) 0 cs ∙ simp eval-monomial)
 
 -- ---- the hypotheses: generators by their roots, no clash

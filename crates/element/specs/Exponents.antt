@@ -52,7 +52,8 @@ module _ (q : ℕ) (known : Known q) where
 
   pub raise-num : (x : K) (k : ℕ) → num (pow field x k) ≡ raise q (num x) k
   raise-num x zero = ap num (pow-zero field x) ∙ num-one ∙ sym (raise-zero q (num x))
-  raise-num x (suc k) = ap num (pow-suc field x k) ∙ times-num q known x (pow field x k) ∙ ap (times q (num x)) (raise-num x k) ∙ sym (raise-suc q (num x) k)
+  raise-num x (suc k) =
+      ap num (pow-suc field x k) ∙ times-num q known x (pow field x k) ∙ ap (times q (num x)) (raise-num x k) ∙ sym (raise-suc q (num x) k)
 
   -- exponents count modulo n
   pub power-mod : (k : ℕ) → power q (k % (2 ^ q - 1)) ≡ power q k

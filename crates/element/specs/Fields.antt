@@ -139,4 +139,8 @@ field-sized f t =
     let a = and-true (known (f .q)) (agrees f (fieldAt (f .q))) t in
     let b = and-true (eqb (f .polynomial) (fieldPolynomial (f .q)) && eqb (f .size) (2 ^ f .q)) (eqb (f .order) (2 ^ f .q - 1)) (a .1) in
     let c = and-true (eqb (f .polynomial) (fieldPolynomial (f .q))) (eqb (f .size) (2 ^ f .q)) (b .0) in
-    record { known = known-is (f .q) (a .0); size = eqb-true (f .size) (2 ^ f .q) (c .1); order = eqb-true (f .order) (2 ^ f .q - 1) (b .1) }
+    record {
+      known = known-is (f .q) (a .0);
+      size = eqb-true (f .size) (2 ^ f .q) (c .1);
+      order = eqb-true (f .order) (2 ^ f .q - 1) (b .1);
+    }

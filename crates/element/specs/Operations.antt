@@ -31,7 +31,8 @@ unfoldable pub refusal : Field → ℕ → ℕ → ℕ
 unfolding isField
 refusal f a b = cond (isField f) (cond (ltb a (2 ^ f .q) && ltb b (2 ^ f .q)) 0 8) 1
 
-pub refusal-by : (f : Field) (a b : ℕ) (i x y : Bool) → isField f ≡ i → ltb a (2 ^ f .q) ≡ x → ltb b (2 ^ f .q) ≡ y → refusal f a b ≡ cond i (cond (x && y) 0 8) 1
+pub refusal-by : (f : Field) (a b : ℕ) (i x y : Bool) → isField f ≡ i → ltb a (2 ^ f .q) ≡ x → ltb b (2 ^ f .q) ≡ y
+    → refusal f a b ≡ cond i (cond (x && y) 0 8) 1
 unfolding refusal
 refusal-by f a b i x y ei ex ey = rw (ei, ex, ey) refl
 

@@ -13,7 +13,8 @@ use Rattle.polynomial.specs.Bits.{fold, fold-step, half-lt}
 use Rattle.polynomial.specs.Sums.{All}
 use Rattle.polynomial.specs.Xor.{bit-ind, halves}
 use Rattle.field.specs.Eval.{eval, eval-eq, eval-zero, bit, bit0, bit1}
-use Rattle.field.specs.Field.{Field2, ring, add-self, mul-comm, mul-one, mul-add, mul-zero, add-eq-zero, mul-eq-zero, pow, pow-zero, pow-suc, mul-pow}
+use Rattle.field.specs.Field.{Field2, ring, add-self, mul-comm, mul-one, mul-add, mul-zero}
+use Rattle.field.specs.Field.{add-eq-zero, mul-eq-zero, pow, pow-zero, pow-suc, mul-pow}
 use Rattle.field.specs.Vandermonde.{Distinct, sum, sum-nil, sum-cons, vandermonde}
 
 -- the number of ones
@@ -63,7 +64,12 @@ module _ (F : Field2) where
     sum-ones : (n c j : ℕ) (p : K) → c < 2 ^ n → sum F (ones n c p) j ≡ pow F p (suc j) ⊗ eval F c (pow F α (suc j))
     sum-ones zero c j p h = rw (ones-zero, lt-one h) (simp (sum-nil, eval-zero, ring))
     sum-ones (suc n) c j p h =
-        rw (ones-suc n c p, sum-add (c % 2) j p (ones n (c / 2) (p ⊗ α)) (omega arith), sum-ones n (c / 2) j (p ⊗ α) (half-lt c n h), eval-eq F c (pow F α (suc j)))
+        rw (
+          ones-suc n c p,
+          sum-add (c % 2) j p (ones n (c / 2) (p ⊗ α)) (omega arith),
+          sum-ones n (c / 2) j (p ⊗ α) (half-lt c n h),
+          eval-eq F c (pow F α (suc j)),
+        )
         (simp (mul-pow, ring))
 
     length-add : (b : ℕ) (p : K) (l : List (K × K)) → b < 2 → length (add-one-of b p l) ≡ b + length l
@@ -72,7 +78,8 @@ module _ (F : Field2) where
     length-ones : (n c : ℕ) (p : K) → c < 2 ^ n → length (ones n c p) ≡ weight c
     length-ones zero c p h = rw (ones-zero, lt-one h) (sym weight-zero)
     length-ones (suc n) c p h =
-        rw (ones-suc n c p, length-add (c % 2) p (ones n (c / 2) (p ⊗ α)) (omega arith), length-ones n (c / 2) (p ⊗ α) (half-lt c n h)) (sym (weight-eq c))
+        rw (ones-suc n c p, length-add (c % 2) p (ones n (c / 2) (p ⊗ α)) (omega arith), length-ones n (c / 2) (p ⊗ α) (half-lt c n h))
+        (sym (weight-eq c))
 
     nonzero : (x y : K) → x ≢ 𝟘 → y ≢ 𝟘 → x ⊗ y ≢ 𝟘
     nonzero x y hx hy e = hx (mul-eq-zero F x y e hy)
@@ -109,7 +116,8 @@ module _ (F : Field2) where
         ne : (p : K) → p ≢ 𝟘 → (i : ℕ) → 0 < i → i < n → p ⊗ pow F α i ≢ p
         ne p p0 i h l e =
             order i h l (add-eq-zero F (pow F α i) 𝟙
-            (mul-eq-zero F (pow F α i ⊕ 𝟙) p (mul-comm F (pow F α i ⊕ 𝟙) p ∙ mul-add F p (pow F α i) 𝟙 ∙ rw (e, mul-one F p) (add-self F p)) p0))
+            (mul-eq-zero F (pow F α i ⊕ 𝟙) p
+            (mul-comm F (pow F α i ⊕ 𝟙) p ∙ mul-add F p (pow F α i) 𝟙 ∙ rw (e, mul-one F p) (add-self F p)) p0))
 
         all-ne : (m c s : ℕ) (p : K) → p ≢ 𝟘 → 0 < s → s + m ≤ n → All (λ q. q .0 ≢ p) (ones m c (p ⊗ pow F α s))
         all-ne zero c s p p0 hs h = rw (ones-zero c (p ⊗ pow F α s)) tt

@@ -92,7 +92,8 @@ module _ (q : ℕ) (known : Known q) where
 
   pub evaluate-num : (f : ℕ) (x : K) → num (eval field f x) ≡ evaluate q f (num x)
   evaluate-num f x =
-      bin-ind (λ (n : ℕ). num (eval field n x) ≡ evaluate q n (num x)) (ap num (eval-zero field x) ∙ num-zero ∙ sym (evaluate-zero q (num x)))
+      bin-ind (λ (n : ℕ). num (eval field n x) ≡ evaluate q n (num x))
+      (ap num (eval-zero field x) ∙ num-zero ∙ sym (evaluate-zero q (num x)))
       (λ n ih. ap num (eval-eq field n x) ∙ num-add (bit field (n % 2)) (x ⊗ eval field (n / 2) x)
       ∙ ap₂ xor (bit-num n) (times-num x (eval field (n / 2) x) ∙ ap (times q (num x)) ih) ∙ sym (evaluate-eq q n (num x))) f
 
@@ -124,7 +125,8 @@ module _ (q : ℕ) (known : Known q) where
   -- ---- a syndrome is the sum of c_k α^(j k)
   num-total : (n : ℕ) (f : ℕ → K) (g : ℕ → ℕ) → ((k : ℕ) → num (f k) ≡ g k) → num (total field n f) ≡ sumBelow n g
   num-total zero f g h = ap num (total-zero field f) ∙ num-zero ∙ sym (sumBelow-zero g)
-  num-total (suc n) f g h = ap num (total-suc field n f) ∙ num-add (total field n f) (f n) ∙ ap₂ xor (num-total n f g h) (h n) ∙ sym (sumBelow-suc n g)
+  num-total (suc n) f g h =
+      ap num (total-suc field n f) ∙ num-add (total field n f) (f n) ∙ ap₂ xor (num-total n f g h) (h n) ∙ sym (sumBelow-suc n g)
 
   bit-times : (c : ℕ) (y : K) → num (bit field (c % 2) ⊗ y) ≡ c % 2 * num y
   bit-times c y =
@@ -135,4 +137,5 @@ module _ (q : ℕ) (known : Known q) where
   syndrome-sum n c j h =
       sym (syndrome-num c j) ∙ ap num (eval-total field n c (pow field α j) h)
       ∙ num-total n (λ k. bit field (coefficient c k) ⊗ pow field (pow field α j) k) (λ k. coefficient c k * power q (j * k))
-      (λ k. bit-times (c / 2 ^ k) (pow field (pow field α j) k) ∙ ap (λ (y : ℕ). coefficient c k * y) (ap num (sym (pow-mul field α j k)) ∙ power-num (j * k)))
+      (λ k. bit-times (c / 2 ^ k) (pow field (pow field α j) k)
+      ∙ ap (λ (y : ℕ). coefficient c k * y) (ap num (sym (pow-mul field α j k)) ∙ power-num (j * k)))

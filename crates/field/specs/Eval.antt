@@ -63,7 +63,8 @@ module _ (F : Field2) where
   eval-dbl a x = eval-eq (a * 2) x ∙ simp (dbl-half, dbl-odd, bit0, ring)
 
   eval-bit : (n b : ℕ) (x : K) → eval (n % 2 * b) x ≡ bit (n % 2) ⊗ eval b x
-  eval-bit n b x = odd-ind (λ (c : ℕ). eval (c * b) x ≡ bit c ⊗ eval b x) (simp (N.zero-mul, eval-zero, bit0, ring)) (simp (N.one-mul, bit1, ring)) n
+  eval-bit n b x =
+      odd-ind (λ (c : ℕ). eval (c * b) x ≡ bit c ⊗ eval b x) (simp (N.zero-mul, eval-zero, bit0, ring)) (simp (N.one-mul, bit1, ring)) n
 
   pub eval-clmul : (a b : ℕ) (x : K) → eval (clmul a b) x ≡ eval a x ⊗ eval b x
   eval-clmul a b x =
@@ -136,7 +137,8 @@ module _ (F : Field2) where
   low-suc : (c n : ℕ) → c % 2 ^ suc n ≡ xor (c % 2 ^ n) (coefficient c n * 2 ^ n)
   low-suc c n =
       let e : 1 + n ≡ suc n = omega arith in
-      rw e at (mod-pow-add c 1 n) ∙ sym (B.xor-shifted (coefficient c n) n (c % 2 ^ n) (N.mod-lt c (pow-pos n))) ∙ xor-is (coefficient c n * 2 ^ n) (c % 2 ^ n) ∙ xor-comm (coefficient c n * 2 ^ n) (c % 2 ^ n)
+      rw e at (mod-pow-add c 1 n) ∙ sym (B.xor-shifted (coefficient c n) n (c % 2 ^ n) (N.mod-lt c (pow-pos n)))
+      ∙ xor-is (coefficient c n * 2 ^ n) (c % 2 ^ n) ∙ xor-comm (coefficient c n * 2 ^ n) (c % 2 ^ n)
 
   bit-eval : (n : ℕ) (x : K) → eval (n % 2) x ≡ bit (n % 2)
   bit-eval n x = odd-ind (λ (c : ℕ). eval c x ≡ bit c) (eval-zero x ∙ sym bit0) (eval-one x ∙ sym bit1) n
@@ -145,8 +147,8 @@ module _ (F : Field2) where
   eval-low c x zero = ap (λ (y : ℕ). eval y x) (N.mod-one c) ∙ eval-zero x ∙ sym (total-zero (λ k. bit (coefficient c k) ⊗ pow F x k))
   eval-low c x (suc n) =
       ap (λ (y : ℕ). eval y x) (low-suc c n) ∙ eval-xor (c % 2 ^ n) (coefficient c n * 2 ^ n) x
-      ∙ ap₂ _⊕_ (eval-low c x n) (eval-shift (coefficient c n) n x ∙ ap (λ (y : K). pow F x n ⊗ y) (bit-eval (c / 2 ^ n) x) ∙ mul-comm F (pow F x n) (bit (coefficient c n)))
-      ∙ sym (total-suc n (λ k. bit (coefficient c k) ⊗ pow F x k))
+      ∙ ap₂ _⊕_ (eval-low c x n) (eval-shift (coefficient c n) n x ∙ ap (λ (y : K). pow F x n ⊗ y) (bit-eval (c / 2 ^ n) x)
+      ∙ mul-comm F (pow F x n) (bit (coefficient c n))) ∙ sym (total-suc n (λ k. bit (coefficient c k) ⊗ pow F x k))
 
   -- c(x) = Σ c_k x^k, k < n
   pub eval-total : (n c : ℕ) (x : K) → c < 2 ^ n → eval c x ≡ total n (λ k. bit (coefficient c k) ⊗ pow F x k)

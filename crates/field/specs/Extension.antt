@@ -68,7 +68,8 @@ module _ (g k : ℕ) (d : Deg g k) (pos : 0 < k) (nf : NoFactor g (2 ^ k)) where
     ⊕-comm = λ a b. el-eq (xor-comm (a .0) (b .0));
     ⊕-zero = λ a. el-eq (xor-zero-r (a .0));
     ⊕-self = λ a. el-eq (xor-self (a .0));
-    ⊗-assoc = λ a b c. el-eq (rem-clmul-l g k d (clmul (a .0) (b .0)) (c .0) ∙ ap (rem g k) (clmul-assoc (a .0) (b .0) (c .0)) ∙ sym (rem-clmul-r g k d (a .0) (clmul (b .0) (c .0))));
+    ⊗-assoc = λ a b c. el-eq (rem-clmul-l g k d (clmul (a .0) (b .0)) (c .0) ∙ ap (rem g k) (clmul-assoc (a .0) (b .0) (c .0))
+        ∙ sym (rem-clmul-r g k d (a .0) (clmul (b .0) (c .0))));
     ⊗-comm = λ a b. el-eq (ap (rem g k) (clmul-comm (a .0) (b .0)));
     ⊗-one = λ a. el-eq (ap (rem g k) (clmul-one-r (a .0)) ∙ rem-small g k d (a .0) (lt a));
     ⊗-⊕ = λ a b c. el-eq (ap (rem g k) (clmul-xor-r (a .0) (b .0) (c .0)) ∙ rem-xor g k d (clmul (a .0) (b .0)) (clmul (a .0) (c .0)));

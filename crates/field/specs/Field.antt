@@ -82,7 +82,24 @@ module _ (F : Field2) where
   zero-mul a = mul-comm 𝟘 a ∙ mul-zero a
 
   -- what a commutative ring of characteristic 2 proves
-  pub ruleset ring = (add-assoc, add-comm, add-left-comm, add-zero, zero-add, add-self, add-cancel, mul-assoc, mul-comm, mul-left-comm, mul-one, one-mul, mul-add, add-mul, mul-zero, zero-mul)
+  pub ruleset ring = (
+    add-assoc,
+    add-comm,
+    add-left-comm,
+    add-zero,
+    zero-add,
+    add-self,
+    add-cancel,
+    mul-assoc,
+    mul-comm,
+    mul-left-comm,
+    mul-one,
+    one-mul,
+    mul-add,
+    add-mul,
+    mul-zero,
+    zero-mul,
+  )
 
   pub add-eq-zero : (a b : K) → a ⊕ b ≡ 𝟘 → a ≡ b
   add-eq-zero a b e = sym (add-zero a) ∙ rw (← e) (add-cancel a b)

@@ -89,7 +89,8 @@ module _ (g q n : ℕ) (d : Deg g q) (size : 2 ^ q ≡ suc n) (two : 1 < q) (nf 
 
   pub before : (m i j : ℕ) → T (cycle g q m (pow F x i .0)) → i ≤ j → j < i + m → pow F x j .0 ≢ 1
   before zero i j t h l = absurd (not-suc-le-zero {n = 0} (omega arith))
-  before (suc m) i j t h l = go (λ k. before m (suc i) j (rw (next i) (cycle-suc g q m (pow F x i .0) t .1)) k (omega arith)) (eq-or-lt-of-le h)
+  before (suc m) i j t h l =
+      go (λ k. before m (suc i) j (rw (next i) (cycle-suc g q m (pow F x i .0) t .1)) k (omega arith)) (eq-or-lt-of-le h)
     where
       go : (i < j → pow F x j .0 ≢ 1) → (i ≡ j) ⊎ (i < j) → pow F x j .0 ≢ 1
       go ih (inl e) = rw (← e) (cycle-suc g q m (pow F x i .0) t .0)

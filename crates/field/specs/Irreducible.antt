@@ -5,13 +5,15 @@ use mathlib.Core.Path.{_≡_, sym, ap, _∙_}
 use mathlib.Core.Logic.{_≢_, _⊎_, inl, inr}
 use mathlib.Core.Bool.{Bool, true, false, not, _&&_, _||_}
 use Prim.Native.Nat.{ℕ, zero, suc, _+_, _-_, _^_, _<_}
-use native.Mathlib.Nat.{le-refl, lt-of-lt-of-le, not-suc-le-zero, eq-zero-or-pos, lt-of-not-le, not-le-of-lt, le-of-suc-le-suc, eq-or-lt-of-le}
+use native.Mathlib.Nat.{le-refl, lt-of-lt-of-le, not-suc-le-zero, eq-zero-or-pos}
+use native.Mathlib.Nat.{lt-of-not-le, not-le-of-lt, le-of-suc-le-suc, eq-or-lt-of-le}
 use native.Mathlib.Decide.{decLt}
 use native.Mathlib.Omega.{arith}
 use lib.Pow.{pow-pos, pow-mono}
 use lib.Dec.{T, leb, eqb, leb→le, eqb-refl, T-not}
 use Rattle.polynomial.specs.Clmul.{clmul, clmul-xor-l, clmul-zero-l, clmul-one-l, clmul-one-r, clmul-comm, clmul-assoc, clmul-left-comm}
-use Rattle.polynomial.specs.Division.{Deg, deg, deg-is, deg-mul, lt-of-deg, rem, division, rem-lt, rem-small, rem-xor, rem-multiple, rem-zero-iff, le-of-deg, deg-unique}
+use Rattle.polynomial.specs.Division.{Deg, deg, deg-is, deg-mul, lt-of-deg, rem, division, rem-lt}
+use Rattle.polynomial.specs.Division.{rem-small, rem-xor, rem-multiple, rem-zero-iff, le-of-deg, deg-unique}
 use Rattle.polynomial.specs.Xor.{xor, xors, xor-zero-l}
 
 abbrev pub NoFactor : ℕ → ℕ → Type 0
@@ -21,7 +23,8 @@ module _ (g k : ℕ) (d : Deg g k) (nf : NoFactor g (2 ^ k)) where
   turn : (a q r v : ℕ) → g ≡ xor (clmul q a) r → rem g k (clmul r v) ≡ 1 → rem g k (clmul a (clmul q v)) ≡ 1
   turn a q r v e h =
       let p : clmul a (clmul q v) ≡ xor (clmul v g) (clmul r v) =
-      sym (ap (λ (x : ℕ). xor (clmul v x) (clmul r v)) e ∙ rw (clmul-comm v (xor (clmul q a) r)) (simp (clmul-xor-l, clmul-assoc, xors) (clmul-left-comm q a v))) in
+      sym (ap (λ (x : ℕ). xor (clmul v x) (clmul r v)) e
+      ∙ rw (clmul-comm v (xor (clmul q a) r)) (simp (clmul-xor-l, clmul-assoc, xors) (clmul-left-comm q a v))) in
       ap (rem g k) p ∙ rem-xor g k d (clmul v g) (clmul r v) ∙ rw (rem-multiple g k d v, h) (xor-zero-l 1)
 
   abbrev Inv : ℕ → Type 0
@@ -42,7 +45,10 @@ module _ (g k : ℕ) (d : Deg g k) (nf : NoFactor g (2 ^ k)) where
       rlt = lt-of-lt-of-le (rem-lt a (deg a) (deg-is a p) g) (le-of-deg (deg a) (deg-is a p))
 
       step : Inv r → Inv a
-      step v = (clmul (division a (deg a) (deg-is a p) g .0) (v .0), turn a (division a (deg a) (deg-is a p) g .0) r (v .0) (division a (deg a) (deg-is a p) g .1) (v .1))
+      step v = (
+        clmul (division a (deg a) (deg-is a p) g .0) (v .0),
+        turn a (division a (deg a) (deg-is a p) g .0) r (v .0) (division a (deg a) (deg-is a p) g .1) (v .1),
+      )
 
       go : ((r : ℕ) → r < n → 0 < r → r < 2 ^ k → Inv r) → (1 ≡ a) ⊎ (1 < a) → Inv a
       go ih (inl e) = (1, rw (clmul-one-r a, ← e) (rem-small g k d 1 (omega arith)))
@@ -124,5 +130,6 @@ test-is g (suc n) t a h l e = go (λ t m. test-is g n t a h m e) (eq-or-lt-of-le
     here (inr s) p = T-not (eqb (rem n (deg n) g) 0) s (rw (sym (ap (λ (x : ℕ). rem x (deg x) g) p) ∙ e) (eqb-refl 0))
 
     go : (T (test g n) → a < n → ⊥) → (a ≡ n) ⊎ (a < n) → ⊥
-    go ih (inl p) = here (or-cases (leb n 1) (not (eqb (rem n (deg n) g) 0)) (both (leb n 1 || not (eqb (rem n (deg n) g) 0)) (test g n) c .0)) p
+    go ih (inl p) =
+        here (or-cases (leb n 1) (not (eqb (rem n (deg n) g) 0)) (both (leb n 1 || not (eqb (rem n (deg n) g) 0)) (test g n) c .0)) p
     go ih (inr m) = ih (both (leb n 1 || not (eqb (rem n (deg n) g) 0)) (test g n) c .1) m

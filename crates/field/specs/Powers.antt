@@ -33,10 +33,14 @@ module _ (B : BinaryField) where
   pow-n a = rw (N.mul-comm a n) (pow-mul field α n a ∙ rw whole (pow-one field a))
 
   pub pow-mod : (a : ℕ) → pow field α (a % n) ≡ pow field α a
-  pow-mod a = sym (ap (pow field α) (sym (div-add-mod' a n)) ∙ pow-add field α (a / n * n) (a % n) ∙ rw (pow-n (a / n)) (one-mul field (pow field α (a % n))))
+  pow-mod a =
+      sym (ap (pow field α) (sym (div-add-mod' a n)) ∙ pow-add field α (a / n * n) (a % n)
+      ∙ rw (pow-n (a / n)) (one-mul field (pow field α (a % n))))
 
   pow-le : (a b : ℕ) → a < n → pow field α a ≡ pow field α b → a ≤ b
-  pow-le a b h e = le-of-suc-le-suc (lt-of-not-le (λ l. order (a - b) (omega arith) (omega arith) (cancel field (pow field α b) (pow field α (a - b)) (pow≢zero field α α≢0 b) (sym (pow-add field α b (a - b)) ∙ rw (w l) e))))
+  pow-le a b h e =
+      le-of-suc-le-suc (lt-of-not-le (λ l. order (a - b) (omega arith) (omega arith)
+      (cancel field (pow field α b) (pow field α (a - b)) (pow≢zero field α α≢0 b) (sym (pow-add field α b (a - b)) ∙ rw (w l) e))))
     where
       w : b < a → b + (a - b) ≡ a
       w l = omega arith
@@ -55,4 +59,5 @@ module _ (B : BinaryField) where
       step : eval field f (pow field α (a * 2 ^ s % n)) ≡ 𝟘 → eval field f (pow field α (a * 2 ^ suc s % n)) ≡ 𝟘
       step ih =
           let h : eval field f (pow field α (a * 2 ^ s)) ≡ 𝟘 = rw (pow-mod (a * 2 ^ s)) at ih in
-          rw (pow-mod (a * 2 ^ suc s), w, pow-add field α (a * 2 ^ s) (a * 2 ^ s), eval-sq field f (pow field α (a * 2 ^ s)), h) (mul-zero field 𝟘)
+          rw (pow-mod (a * 2 ^ suc s), w, pow-add field α (a * 2 ^ s) (a * 2 ^ s), eval-sq field f (pow field α (a * 2 ^ s)), h)
+          (mul-zero field 𝟘)

@@ -66,7 +66,8 @@ module _ (F : Field2) where
   Apart [] = Unit {0}
   Apart (x ∷ xs) = All (λ y. y ≢ x) xs × Apart xs
 
-  others : (r c : K) (l xs : List K) → value (c ∷ l) r ≡ 𝟘 → All (λ y. y ≢ r) xs → All (λ x. value (c ∷ l) x ≡ 𝟘) xs → All (λ x. value (quotient r l) x ≡ 𝟘) xs
+  others : (r c : K) (l xs : List K) → value (c ∷ l) r ≡ 𝟘 → All (λ y. y ≢ r) xs → All (λ x. value (c ∷ l) x ≡ 𝟘) xs
+      → All (λ x. value (quotient r l) x ≡ 𝟘) xs
   others r c l [] e a v = tt
   others r c l (x ∷ xs) e a v = (here, others r c l xs e (a .1) (v .1))
     where

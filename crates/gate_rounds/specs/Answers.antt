@@ -37,5 +37,6 @@ agree false true f g = absurd (never (g refl))
 agree false false f g = refl
 
 -- a verdict and a comparison that agree are found alike
-pub alike-found : (P : Type 0) (r : Verdict) (b s : Bool) → b ≡ isMember r → ((r ≡ Verdict.Member) ↔ P) → (s ≡ true → P) × (P → s ≡ true) → Bool·beq b s ≡ true
+pub alike-found : (P : Type 0) (r : Verdict) (b s : Bool) → b ≡ isMember r → ((r ≡ Verdict.Member) ↔ P) → (s ≡ true → P) × (P → s ≡ true)
+    → Bool·beq b s ≡ true
 alike-found P r b s e f g = agree b s (λ t. g .1 (f .0 (is-member r (sym e ∙ t)))) (λ t. e ∙ ap isMember (f .1 (g .0 t)))

@@ -28,9 +28,11 @@ module _ (a b : List ℕ) where
   pub summed-next : (s : List ℕ) (i : ℕ) → i < length s → Summed a b s i → Summed a b (set s i (bitXor (getD a i 0) (getD b i 0))) (i + 1)
   summed-next s i h t = record {
     long = length-set s i _ ∙ t .long;
-    sums = below-more _ _ (λ k l. getD-set-other s i k _ 0 (λ e. Nat.lt-irrefl i (rw e at l)) ∙ t .sums k l) (getD-set-same s i _ 0 h ∙ xor-is (getD a i 0) (getD b i 0));
+    sums = below-more _ _ (λ k l. getD-set-other s i k _ 0 (λ e. Nat.lt-irrefl i (rw e at l)) ∙ t .sums k l)
+        (getD-set-same s i _ 0 h ∙ xor-is (getD a i 0) (getD b i 0));
   }
 
   pub summed-all : (s : List ℕ) (i : ℕ) → length a ≡ length b → length s ≤ i → Summed a b s i → s ≡ add a b
   summed-all s i e h t =
-      ext-getD 0 s (add a b) (t .long ∙ sym (length-add a b e)) (λ k l. t .sums k (Nat.lt-of-lt-of-le l h) ∙ sym (getD-add a b e k (rw (t .long) at l)))
+      ext-getD 0 s (add a b) (t .long ∙ sym (length-add a b e))
+      (λ k l. t .sums k (Nat.lt-of-lt-of-le l h) ∙ sym (getD-add a b e k (rw (t .long) at l)))

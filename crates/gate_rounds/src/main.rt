@@ -1,4 +1,5 @@
-// Pages written at several widths, judged, read out and written again. Each equality is expected as the program runs, and proved of every run:
+// Pages written at several widths, judged, read out and written again.
+// Each equality is expected as the program runs, and proved of every run:
 // from what the calls promise and the theorems on the promises, and nothing of how a page is made.
 ghost use mathlib.Core.Path.{_≡_};
 ghost use Prim.Native.Nat.{_≤_};
@@ -92,7 +93,8 @@ fn round(
     back: &mut [u8],
     again: &mut [u8],
 )
-    requires { ⌜ Accepted p × Width l × Width m × Fits p (now blocks) × PageBuffer p (now page) × BlocksBuffer p (now back) × PageBuffer p (now again) ⌝ }
+    requires { ⌜ Accepted p × Width l × Width m × Fits p (now blocks) × PageBuffer p (now page) × BlocksBuffer p (now back)
+        × PageBuffer p (now again) ⌝ }
     ensures { λ x. ⌜ IsPage p (now (page .exit)) × (judgeAnswer p (now (page .exit)) ≡ Verdict.Member) ⌝ }
 {
     put(p, l, blocks, page);
@@ -119,7 +121,8 @@ fn sums(
     xy: &mut [u8],
     sum: &mut [u8],
 )
-    requires { ⌜ Accepted p × Width k × Width l × Width m × Fits p (now a) × Fits p (now b) × BlocksBuffer p (now ab) × PageBuffer p (now x) × PageBuffer p (now y) × PageBuffer p (now xy) × PageBuffer p (now sum) ⌝ }
+    requires { ⌜ Accepted p × Width k × Width l × Width m × Fits p (now a) × Fits p (now b) × BlocksBuffer p (now ab) × PageBuffer p (now x)
+        × PageBuffer p (now y) × PageBuffer p (now xy) × PageBuffer p (now sum) ⌝ }
 {
     add_bytes(a, b, ab);
     put(p, k, a, x);
@@ -175,7 +178,8 @@ fn on(
     z: &mut [u8],
     sum: &mut [u8],
 )
-    requires { ⌜ Accepted p × Fits p (now a) × Fits p (now b) × BlocksBuffer p (now ab) × PageBuffer p (now x) × PageBuffer p (now y) × PageBuffer p (now z) × PageBuffer p (now sum) ⌝ }
+    requires { ⌜ Accepted p × Fits p (now a) × Fits p (now b) × BlocksBuffer p (now ab) × PageBuffer p (now x) × PageBuffer p (now y)
+        × PageBuffer p (now z) × PageBuffer p (now sum) ⌝ }
 {
     widths(p, a, b, sum, x, y);
     round_again(p, a, ab, x, y);

@@ -1,7 +1,8 @@
 // Runs the calls on records from standard input and writes what they give.
-//   record   32 bytes: call, q, m, v, t0 to t3, index, second index, width, 0, page length, buffer length (two bytes each, low first), u, count (eight bytes each);
-//            then the page's bytes, for a writing the blocks', for a feeding the register's 96
-//   answer   the refusal's number or 0, then what the call gives, and the lent buffer whole; of a verdict 0, 32 or 64, then the word's index
+//   record   32 bytes: call, q, m, v, t0 to t3, index, second index, width, 0, page length, buffer length (two bytes each, low first), u,
+//            count (eight bytes each); then the page's bytes, for a writing the blocks', for a feeding the register's 96
+//   answer   the refusal's number or 0, then what the call gives, and the lent buffer whole;
+//            of a verdict 0, 32 or 64, then the word's index
 use code::Nesting;
 use code::Outcome;
 use code::Parameters;

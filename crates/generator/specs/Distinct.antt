@@ -132,8 +132,13 @@ distinct-mem [] a m = rw distinct-nil at m
 distinct-mem (x ∷ l) a m = go (distinct-mem l) a (rw (distinct-cons x l) at m)
   where
     go : ((a : ℕ) → Mem a (distinct l) → Mem a l) → (a : ℕ) → Mem a (add x (distinct l)) → Mem a (x ∷ l)
-    go ih a = add-cases (λ k. Mem a k → Mem a (x ∷ l)) x (distinct l) (λ k m. inr (ih a m)) (λ k. λ m. elim m [ inl e ↦ inl e | inr h ↦ inr (ih a h) ])
+    go ih a =
+        add-cases (λ k. Mem a k → Mem a (x ∷ l)) x (distinct l) (λ k m. inr (ih a m))
+        (λ k. λ m. elim m [ inl e ↦ inl e | inr h ↦ inr (ih a h) ])
 
 pub once-join : (l k : List ℕ) → Once l → Once k → ((a : ℕ) → Mem a l → Mem a k → ⊥) → Once (l ++ k)
 once-join [] k o p d = p
-once-join (x ∷ l) k o p d = ((λ h. mem-join (λ a. a ≡ x → ⊥) l k (λ a m e. o .0 (rw (← e) m)) (λ a m e. d x (inl refl) (rw (← e) m)) x h refl), once-join l k (o .1) p (λ a m h. d a (inr m) h))
+once-join (x ∷ l) k o p d = (
+  (λ h. mem-join (λ a. a ≡ x → ⊥) l k (λ a m e. o .0 (rw (← e) m)) (λ a m e. d x (inl refl) (rw (← e) m)) x h refl),
+  once-join l k (o .1) p (λ a m h. d a (inr m) h),
+)

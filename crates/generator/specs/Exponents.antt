@@ -8,15 +8,18 @@ use mathlib.Core.Path.{_≡_, refl, sym, ap, _∙_}
 use mathlib.Core.Logic.{_⊎_, inl, inr}
 use mathlib.Core.List.{List, [], _∷_, _++_}
 use Prim.Native.Nat.{ℕ, zero, suc, _+_, _-_, _*_, _/_, _%_, _^_, _≤_, _<_, zero-le, suc-le-suc}
-use native.Mathlib.Nat.{le-refl, not-suc-le-zero, le-of-suc-le-suc, eq-or-lt-of-le, mod-lt, mod-eq-of-lt, mul-assoc, mul-one, pow-suc, pow-zero, div-add-mod', add-mul-mod-self-right, mod-mod, zero-mul, zero-mod}
+use native.Mathlib.Nat.{le-refl, not-suc-le-zero, le-of-suc-le-suc, eq-or-lt-of-le, mod-lt, mod-eq-of-lt, mul-assoc}
+use native.Mathlib.Nat.{mul-one, pow-suc, pow-zero, div-add-mod', add-mul-mod-self-right, mod-mod, zero-mul, zero-mod}
 use native.Mathlib.Omega.{arith}
 use lib.ListN.{length}
 use lib.Pow.{pow-add}
-use Rattle.generator.specs.Distinct.{Mem, Once, mem-left, mem-right, mem-join, distinct, distinct-once, mem-distinct, distinct-mem, once-join}
+use Rattle.generator.specs.Distinct.{Mem, Once, mem-left, mem-right, mem-join, distinct}
+use Rattle.generator.specs.Distinct.{distinct-once, mem-distinct, distinct-mem, once-join}
 
 -- ---- products modulo n
 pub mod-mul-l : (a b n : ℕ) → (a % n) * b % n ≡ a * b % n
-mod-mul-l a b n = sym (ap (λ (x : ℕ). x * b % n) (sym (div-add-mod' a n)) ∙ ap (λ (x : ℕ). x % n) e ∙ add-mul-mod-self-right ((a % n) * b) (a / n * b) n)
+mod-mul-l a b n =
+    sym (ap (λ (x : ℕ). x * b % n) (sym (div-add-mod' a n)) ∙ ap (λ (x : ℕ). x % n) e ∙ add-mul-mod-self-right ((a % n) * b) (a / n * b) n)
   where
     e : (a / n * n + a % n) * b ≡ (a % n) * b + a / n * b * n
     e = omega arith
@@ -74,11 +77,13 @@ pub values-mem : (n q m j s : ℕ) → 0 < j → j ≤ m → s < q → Mem (j * 
 values-mem n q zero j s p h l = absurd (not-suc-le-zero {n = 0} (omega arith))
 values-mem n q (suc m) j s p h l = rw (values-suc n q m) (go (λ k. values-mem n q m j s p (le-of-suc-le-suc k) l) (eq-or-lt-of-le h))
   where
-    go : (j < suc m → Mem (j * 2 ^ s % n) (values n q m)) → (j ≡ suc m) ⊎ (j < suc m) → Mem (j * 2 ^ s % n) (row n (suc m) q ++ values n q m)
+    go : (j < suc m → Mem (j * 2 ^ s % n) (values n q m)) → (j ≡ suc m) ⊎ (j < suc m)
+        → Mem (j * 2 ^ s % n) (row n (suc m) q ++ values n q m)
     go ih (inl e) = mem-left (j * 2 ^ s % n) (row n (suc m) q) (values n q m) (rw e (row-mem n (suc m) q s l))
     go ih (inr k) = mem-right (j * 2 ^ s % n) (row n (suc m) q) (values n q m) (ih k)
 
-pub values-ind : (P : ℕ → Type 0) (n q m : ℕ) → ((j s : ℕ) → 0 < j → j ≤ m → s < q → P (j * 2 ^ s % n)) → (a : ℕ) → Mem a (values n q m) → P a
+pub values-ind : (P : ℕ → Type 0) (n q m : ℕ) → ((j s : ℕ) → 0 < j → j ≤ m → s < q → P (j * 2 ^ s % n)) → (a : ℕ)
+    → Mem a (values n q m) → P a
 values-ind P n q zero f a m = absurd (rw (values-zero n q) at m)
 values-ind P n q (suc k) f a m =
     mem-join P (row n (suc k) q) (values n q k) (row-ind P n (suc k) q (λ s l. f (suc k) s (suc-le-suc zero-le) (le-refl (suc k)) l))
@@ -113,7 +118,8 @@ pub exponents-mem : (n q t j s : ℕ) → 0 < j → j ≤ lastRoot t → s < q �
 unfolding exponents
 exponents-mem n q t j s p h l = mem-distinct (j * 2 ^ s % n) (values n q (lastRoot t)) (values-mem n q (lastRoot t) j s p h l)
 
-pub exponents-ind : (P : ℕ → Type 0) (n q t : ℕ) → ((j s : ℕ) → 0 < j → j ≤ lastRoot t → s < q → P (j * 2 ^ s % n)) → (a : ℕ) → Mem a (exponents n q t) → P a
+pub exponents-ind : (P : ℕ → Type 0) (n q t : ℕ) → ((j s : ℕ) → 0 < j → j ≤ lastRoot t → s < q → P (j * 2 ^ s % n)) → (a : ℕ)
+    → Mem a (exponents n q t) → P a
 unfolding exponents
 exponents-ind P n q t f a m = values-ind P n q (lastRoot t) f a (distinct-mem (values n q (lastRoot t)) a m)
 
@@ -165,7 +171,8 @@ module _ (n q : ℕ) (size : 2 ^ q ≡ suc n) (pos : 0 < n) where
   orbit-exponents t = record {
     once = exponents-once n q t;
     below = exponents-ind (λ a. a < n) n q t (λ j s p h l. mod-lt (j * 2 ^ s) pos);
-    twice = exponents-ind (λ a. Mem (a * 2 % n) (exponents n q t)) n q t (λ j s p h l. row-twice (exponents n q t) j (λ r k. exponents-mem n q t j r p h k) s l);
+    twice = exponents-ind (λ a. Mem (a * 2 % n) (exponents n q t)) n q t
+        (λ j s p h l. row-twice (exponents n q t) j (λ r k. exponents-mem n q t j r p h k) s l);
   }
 
   -- j itself
@@ -180,7 +187,9 @@ module _ (n q : ℕ) (size : 2 ^ q ≡ suc n) (pos : 0 < n) where
   -- and back
   back : (j s : ℕ) → s < q → j < n → (j * 2 ^ s % n) * 2 ^ (q - s) % n ≡ j
   back j s l h =
-      mod-mul-l (j * 2 ^ s) (2 ^ (q - s)) n ∙ ap (λ (x : ℕ). x % n) (mul-assoc j (2 ^ s) (2 ^ (q - s)) ∙ ap (λ (x : ℕ). j * x) (sym (pow-add 2 s (q - s)) ∙ ap (λ (x : ℕ). 2 ^ x) e)) ∙ around j ∙ self j h
+      mod-mul-l (j * 2 ^ s) (2 ^ (q - s)) n ∙ ap (λ (x : ℕ). x % n)
+      (mul-assoc j (2 ^ s) (2 ^ (q - s)) ∙ ap (λ (x : ℕ). j * x) (sym (pow-add 2 s (q - s)) ∙ ap (λ (x : ℕ). 2 ^ x) e))
+      ∙ around j ∙ self j h
     where
       e : s + (q - s) ≡ q
       e = omega arith
@@ -210,7 +219,8 @@ pub orbit-join : (n : ℕ) (E D : List ℕ) → Orbit n E → Orbit n D → ((a 
 orbit-join n E D o p d = record {
   once = once-join E D (o .once) (p .once) d;
   below = mem-join (λ a. a < n) E D (o .below) (p .below);
-  twice = mem-join (λ a. Mem (a * 2 % n) (E ++ D)) E D (λ a m. mem-left (a * 2 % n) E D (o .twice a m)) (λ a m. mem-right (a * 2 % n) E D (p .twice a m));
+  twice = mem-join (λ a. Mem (a * 2 % n) (E ++ D)) E D (λ a m. mem-left (a * 2 % n) E D (o .twice a m))
+      (λ a m. mem-right (a * 2 % n) E D (p .twice a m));
 }
 
 -- 1 to m

@@ -1,6 +1,7 @@
 -- The generators' factors: generator t + 1 is generator t times factor t.
 --   factor B t          the minimal polynomial of α^(2t + 1) where 2t + 1 leads its coset, else 1
---   IsFactor b q j m    m is known as the factor of j = 2t + 1 by numbers: b says that j leads its coset, and then m has its degree and its root
+--   IsFactor b q j m    m is known as the factor of j = 2t + 1 by numbers:
+--                       b says that j leads its coset, and then m has its degree and its root
 use mathlib.Core.Path.{_≡_, refl, sym, ap, ap₂, _∙_}
 use mathlib.Core.Bool.{Bool, true, false}
 use Prim.Native.Nat.{ℕ, suc, _-_, _*_, _^_, _<_}
@@ -30,7 +31,10 @@ factor-eq B t = refl
 pub generator-factor : (B : BinaryField) (t : ℕ) → suc (2 * t) < B .n → generator B (suc t) ≡ clmul (generator B t) (factor B t)
 generator-factor B t h = generator-next B t h ∙ by (leader (B .n) (B .q) (suc (2 * t))) ∙ ap (clmul (generator B t)) (sym (factor-eq B t))
   where
-    by : (b : Bool) → elim b [ true ↦ clmul (generator B t) (minimal B (suc (2 * t))) | false ↦ generator B t ] ≡ clmul (generator B t) (factorBy b (minimal B (suc (2 * t))))
+    by : (b : Bool) → elim b [
+      | true ↦ clmul (generator B t) (minimal B (suc (2 * t)))
+      | false ↦ generator B t
+    ] ≡ clmul (generator B t) (factorBy b (minimal B (suc (2 * t))))
     by true = refl
     by false = sym (clmul-one-r (generator B t))
 
@@ -48,7 +52,8 @@ module _ (q : ℕ) (known : Known q) where
   pub factor-is : (t m : ℕ) → IsFactor (leader (2 ^ q - 1) q (suc (2 * t))) q (suc (2 * t)) m → m ≡ factor (fieldOf q) t
   factor-is t m h =
       by (leader (2 ^ q - 1) q (suc (2 * t))) h
-      ∙ ap₂ (λ (n e : ℕ). factorBy (leader n e (suc (2 * t))) (minimal (fieldOf q) (suc (2 * t)))) (sym (fieldOf-length q known)) (sym (fieldOf-exponent q known))
+      ∙ ap₂ (λ (n e : ℕ). factorBy (leader n e (suc (2 * t))) (minimal (fieldOf q) (suc (2 * t)))) (sym (fieldOf-length q known))
+      (sym (fieldOf-exponent q known))
       ∙ sym (factor-eq (fieldOf q) t)
     where
       by : (b : Bool) → IsFactor b q (suc (2 * t)) m → m ≡ factorBy b (minimal (fieldOf q) (suc (2 * t)))

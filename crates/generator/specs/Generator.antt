@@ -20,9 +20,11 @@ use Rattle.field.specs.Eval.{eval, eval-xor, eval-root, eval-unity, eval-ones}
 use Rattle.field.specs.Field.{Field2, ring, add-self, mul-comm, mul-eq-zero, add-eq-zero, pow, pow-swap, pow-one}
 use Rattle.field.specs.Fields.{BinaryField}
 use Rattle.field.specs.Powers.{pow-mod, n-pos, eval-double}
-use Rattle.generator.specs.Exponents.{coset, coset-self, coset-ind, exponents, exponents-ind, exponents-pos, exponents-self, Orbit, orbit-coset, orbit-exponents, orbit-join, upto, upto-mem, length-upto}
+use Rattle.generator.specs.Exponents.{coset, coset-self, coset-ind, exponents, exponents-ind, exponents-pos, exponents-self}
+use Rattle.generator.specs.Exponents.{Orbit, orbit-coset, orbit-exponents, orbit-join, upto, upto-mem, length-upto}
 use Rattle.generator.specs.Distinct.{Mem, mem-join, mem-map, map-mem}
-use Rattle.generator.specs.Monic.{mval, product, product-root, length-product, at-most, product-bits, vanish, binary, eval-binary, deg-binary}
+use Rattle.generator.specs.Monic.{mval, product, product-root, length-product, at-most}
+use Rattle.generator.specs.Monic.{product-bits, vanish, binary, eval-binary, deg-binary}
 use Rattle.generator.specs.Points.{points, points-apart, points-sq}
 
 module _ (B : BinaryField) where
@@ -49,11 +51,13 @@ module _ (B : BinaryField) where
     pub withRoots-deg : Deg (withRoots E) (length E)
     withRoots-deg =
         rw (withRoots-eq E) (rw (length-product field (points B E) ∙ length-map E (pow field α)) at
-        (deg-binary field num num-zero num-one (product field (points B E)) (product-bits field (points B E) (points-apart B E o) (points-sq B E o))))
+        (deg-binary field num num-zero num-one (product field (points B E))
+        (product-bits field (points B E) (points-apart B E o) (points-sq B E o))))
 
     pub withRoots-root : (e : ℕ) → Mem e E → eval field (withRoots E) (pow field α e) ≡ 𝟘
     withRoots-root e m =
-        rw (withRoots-eq E) (eval-binary field num num-zero num-one (product field (points B E)) (pow field α e) (product-bits field (points B E) (points-apart B E o) (points-sq B E o))
+        rw (withRoots-eq E) (eval-binary field num num-zero num-one (product field (points B E)) (pow field α e)
+        (product-bits field (points B E) (points-apart B E o) (points-sq B E o))
         ∙ product-root field (points B E) (pow field α e) (mem-map (pow field α) e E m))
 
     -- what vanishes on E is a multiple
@@ -71,7 +75,8 @@ module _ (B : BinaryField) where
         rest : (e : ℕ) → Mem e E → eval field r (pow field α e) ≡ 𝟘
         rest e m =
             let p : eval field f (pow field α e) ≡ eval field (clmul c (withRoots E)) (pow field α e) ⊕ eval field r (pow field α e) =
-            ap (λ (x : ℕ). eval field x (pow field α e)) (division (withRoots E) (length E) withRoots-deg f .1) ∙ eval-xor field (clmul c (withRoots E)) r (pow field α e) in
+            ap (λ (x : ℕ). eval field x (pow field α e)) (division (withRoots E) (length E) withRoots-deg f .1)
+            ∙ eval-xor field (clmul c (withRoots E)) r (pow field α e) in
             sym (p ∙ rw (eval-root field c (withRoots E) (pow field α e) (withRoots-root e m)) (simp ring)) ∙ h e m
 
     -- and so is what vanishes there only
@@ -85,21 +90,27 @@ module _ (B : BinaryField) where
     length-le D h =
         rw (length-map E (pow field α), length-product field (points B D) ∙ length-map D (pow field α)) at
         (at-most field (points B E) (product field (points B D)) (points-apart B E o)
-        (map-mem (λ x. mval field (product field (points B D)) x ≡ 𝟘) (pow field α) E (λ e m. product-root field (points B D) (pow field α e) (mem-map (pow field α) e D (h e m)))))
+        (map-mem (λ x. mval field (product field (points B D)) x ≡ 𝟘) (pow field α) E
+        (λ e m. product-root field (points B D) (pow field α e) (mem-map (pow field α) e D (h e m)))))
 
   -- the same exponents, in whatever order
-  pub withRoots-same : (E D : List ℕ) → Orbit n E → Orbit n D → ((e : ℕ) → Mem e E → Mem e D) → ((e : ℕ) → Mem e D → Mem e E) → withRoots D ≡ withRoots E
+  pub withRoots-same : (E D : List ℕ) → Orbit n E → Orbit n D → ((e : ℕ) → Mem e E → Mem e D) → ((e : ℕ) → Mem e D → Mem e E)
+      → withRoots D ≡ withRoots E
   withRoots-same E D o p h k =
-      multiple-same (withRoots E) (length E) (withRoots D) (withRoots-deg E o) (withRoots-least E o (withRoots D) (λ e m. withRoots-root D p e (h e m)))
+      multiple-same (withRoots E) (length E) (withRoots D) (withRoots-deg E o)
+      (withRoots-least E o (withRoots D) (λ e m. withRoots-root D p e (h e m)))
       (rw (le-antisymm (length-le E o D h) (length-le D p E k)) (withRoots-deg D p))
 
   -- two sets of exponents that share none
-  pub withRoots-join : (E D : List ℕ) → Orbit n E → Orbit n D → ((a : ℕ) → Mem a E → Mem a D → ⊥) → clmul (withRoots E) (withRoots D) ≡ withRoots (E ++ D)
+  pub withRoots-join : (E D : List ℕ) → Orbit n E → Orbit n D → ((a : ℕ) → Mem a E → Mem a D → ⊥)
+      → clmul (withRoots E) (withRoots D) ≡ withRoots (E ++ D)
   withRoots-join E D o p d =
-      multiple-same (withRoots (E ++ D)) (length (E ++ D)) (clmul (withRoots E) (withRoots D)) (withRoots-deg (E ++ D) (orbit-join n E D o p d))
+      multiple-same (withRoots (E ++ D)) (length (E ++ D)) (clmul (withRoots E) (withRoots D))
+      (withRoots-deg (E ++ D) (orbit-join n E D o p d))
       (withRoots-least (E ++ D) (orbit-join n E D o p d) (clmul (withRoots E) (withRoots D))
       (mem-join (λ e. eval field (clmul (withRoots E) (withRoots D)) (pow field α e) ≡ 𝟘) E D
-      (λ e m. rw (clmul-comm (withRoots E) (withRoots D)) (eval-root field (withRoots D) (withRoots E) (pow field α e) (withRoots-root E o e m)))
+      (λ e m.
+      rw (clmul-comm (withRoots E) (withRoots D)) (eval-root field (withRoots D) (withRoots E) (pow field α e) (withRoots-root E o e m)))
       (λ e m. eval-root field (withRoots E) (withRoots D) (pow field α e) (withRoots-root D p e m))))
       (rw (length-append E D) (deg-mul (length E) (length D) (withRoots E) (withRoots D) (withRoots-deg E o) (withRoots-deg D p)))
 
@@ -149,7 +160,8 @@ module _ (B : BinaryField) where
     where
       there : rem (generator t) (width t) f ≡ 0 → HasRoots t f
       there z j p h =
-          rw (← pow-mod B j) (withRoots-multiple (exponents n q t) (orbit t) f (rw (generator-eq t, width-eq t) at z) (j % n) (exponents-self n q size (n-pos B) t j p h))
+          rw (← pow-mod B j) (withRoots-multiple (exponents n q t) (orbit t) f (rw (generator-eq t, width-eq t) at z) (j % n)
+          (exponents-self n q size (n-pos B) t j p h))
 
       back : HasRoots t f → rem (generator t) (width t) f ≡ 0
       back r =
@@ -169,7 +181,8 @@ module _ (B : BinaryField) where
   infixl 65 _⊕_
   infixl 70 _⊗_
   pub deg-generator : (t : ℕ) → deg (generator B t) ≡ width B t
-  deg-generator t = deg-unique (generator B t) (deg (generator B t)) (width B t) (deg-is (generator B t) (generator-pos B t)) (generator-deg B t)
+  deg-generator t =
+      deg-unique (generator B t) (deg (generator B t)) (width B t) (deg-is (generator B t) (generator-pos B t)) (generator-deg B t)
 
   low : (t f : ℕ) → 0 < f → HasRoots B t f → width B t ≤ deg f
   low t f p r = multiple-deg (generator B t) (width B t) f (generator-deg B t) (generator-iff B t f .1 r) (deg f) (deg-is f p)
@@ -181,7 +194,8 @@ module _ (B : BinaryField) where
   pub generator-only : (t g : ℕ) → IsGenerator B t g → g ≡ generator B t
   generator-only t g i =
       multiple-same (generator B t) (width B t) g (generator-deg B t) (generator-iff B t g .1 (i .roots))
-      (rw (le-antisymm (rw (deg-generator t) at (i .least (generator B t) (generator-pos B t) (generator-roots B t))) (low t g (i .nonzero) (i .roots))) at (deg-is g (i .nonzero)))
+      (rw (le-antisymm (rw (deg-generator t) at (i .least (generator B t) (generator-pos B t) (generator-roots B t)))
+      (low t g (i .nonzero) (i .roots))) at (deg-is g (i .nonzero)))
 
   pub generator-unique : (t g h : ℕ) → IsGenerator B t g → IsGenerator B t h → g ≡ h
   generator-unique t g h i k = generator-only t g i ∙ sym (generator-only t h k)
@@ -204,14 +218,16 @@ module _ (B : BinaryField) where
       ones : (j : ℕ) → 0 < j → j < n → eval field (2 ^ n - 1) (pow field α j) ≡ 𝟘
       ones j p h =
           mul-eq-zero field (eval field (2 ^ n - 1) (pow field α j)) (pow field α j ⊕ 𝟙)
-          (mul-comm field (eval field (2 ^ n - 1) (pow field α j)) (pow field α j ⊕ 𝟙) ∙ eval-ones field n (pow field α j) ∙ rw (unity-at j) (add-self field 𝟙))
+          (mul-comm field (eval field (2 ^ n - 1) (pow field α j)) (pow field α j ⊕ 𝟙) ∙ eval-ones field n (pow field α j)
+          ∙ rw (unity-at j) (add-self field 𝟙))
           (λ e. order j p h (add-eq-zero field (pow field α j) 𝟙 e))
 
   -- ---- below n: no exponent is 0
   pub width-lt : (t : ℕ) → 2 * t ≤ n - 1 → width B t ≤ n - 1
   width-lt t h =
       rw (width-eq B t, ← length-upto (n - 1)) (length-le B (exponents n q t) (orbit-exponents n q size (n-pos B) t) (upto (n - 1))
-      (λ e m. upto-mem (n - 1) e (exponents-pos n q size (n-pos B) t (omega (arith, n-pos B)) e m) (omega (arith, orbit-exponents n q size (n-pos B) t .below e m))))
+      (λ e m. upto-mem (n - 1) e (exponents-pos n q size (n-pos B) t (omega (arith, n-pos B)) e m)
+      (omega (arith, orbit-exponents n q size (n-pos B) t .below e m))))
 
   -- ---- minimal polynomials: the multiples of `minimal j` are what vanishes at α^j
   pub minimal-deg : (j : ℕ) → Deg (minimal B j) (length (coset n q j))
@@ -220,6 +236,8 @@ module _ (B : BinaryField) where
   pub minimal-iff : (j f : ℕ) → (rem (minimal B j) (length (coset n q j)) f ≡ 0) ↔ (eval field f (pow field α j) ≡ 𝟘)
   minimal-iff j f =
       rw (minimal-eq B j) (
-        (λ z. rw (← pow-mod B j) (withRoots-multiple B (coset n q j) (orbit-coset n q size (n-pos B) j) f z (j % n) (coset-self n q size (n-pos B) j))),
-        (λ r. withRoots-least B (coset n q j) (orbit-coset n q size (n-pos B) j) f (coset-ind (λ e. eval field f (pow field α e) ≡ 𝟘) n q j (λ s l. eval-double B f j r s))),
+        (λ z. rw (← pow-mod B j)
+            (withRoots-multiple B (coset n q j) (orbit-coset n q size (n-pos B) j) f z (j % n) (coset-self n q size (n-pos B) j))),
+        (λ r. withRoots-least B (coset n q j) (orbit-coset n q size (n-pos B) j) f
+            (coset-ind (λ e. eval field f (pow field α e) ≡ 𝟘) n q j (λ s l. eval-double B f j r s))),
       )

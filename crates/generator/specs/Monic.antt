@@ -43,7 +43,8 @@ module _ (F : Field2) where
   times r p [] = (p ⊕ r) ∷ []
   times r p (c ∷ l) = (p ⊕ r ⊗ c) ∷ times r c l
 
-  times-step : (r p c : K) (l : List K) (x : K) → mval (times r c l) x ≡ c ⊕ (x ⊕ r) ⊗ mval l x → mval (times r p (c ∷ l)) x ≡ p ⊕ (x ⊕ r) ⊗ mval (c ∷ l) x
+  times-step : (r p c : K) (l : List K) (x : K) → mval (times r c l) x ≡ c ⊕ (x ⊕ r) ⊗ mval l x
+      → mval (times r p (c ∷ l)) x ≡ p ⊕ (x ⊕ r) ⊗ mval (c ∷ l) x
   times-step r p c l x ih = mval-cons (p ⊕ r ⊗ c) (times r c l) x ∙ rw ih (simp (mval-cons, ring))
 
   mval-times : (r p : K) (l : List K) (x : K) → mval (times r p l) x ≡ p ⊕ (x ⊕ r) ⊗ mval l x
@@ -97,7 +98,8 @@ module _ (F : Field2) where
 
   pub at-most : (xs l : List K) → Apart F xs → ((x : K) → Mem x xs → mval l x ≡ 𝟘) → length xs ≤ length l
   at-most xs l a h =
-      le-of-suc-le-suc (rw (length-full l) at (few-roots F xs (full l) a (all-of (λ x. value F (full l) x ≡ 𝟘) xs (λ x m. value-full l x ∙ h x m)) (full-not l)))
+      le-of-suc-le-suc (rw (length-full l) at
+      (few-roots F xs (full l) a (all-of (λ x. value F (full l) x ≡ 𝟘) xs (λ x m. value-full l x ∙ h x m)) (full-not l)))
 
   -- ---- the coefficients squared
   abbrev sq : K → K
@@ -135,7 +137,8 @@ module _ (F : Field2) where
       map-all (λ c. c ≡ 𝟘) off (product xs)
       (roots F (map sq xs) (map off (product xs)) (apart-sq xs a)
       (all-of (λ y. value F (map off (product xs)) y ≡ 𝟘) (map sq xs) (map-mem (λ y. value F (map off (product xs)) y ≡ 𝟘) sq xs
-      (λ x m. mval-off (product xs) (x ⊗ x) ∙ rw (product-root xs (x ⊗ x) (h x m), mval-sq (product xs) x, product-root xs x m) (simp ring))))
+      (λ x m. mval-off (product xs) (x ⊗ x)
+      ∙ rw (product-root xs (x ⊗ x) (h x m), mval-sq (product xs) x, product-root xs x m) (simp ring))))
       (omega (arith, length-map xs sq, length-map (product xs) off, length-product xs)))
 
   abbrev pub Bit : K → Type 0
@@ -166,7 +169,8 @@ module _ (F : Field2) where
 
   value-coeffs : (m f : ℕ) (x : K) → f < 2 ^ m → value F (coeffs m f) x ≡ eval F f x
   value-coeffs zero f x h = value-nil F x ∙ sym (rw (lt-one h) (eval-zero F x))
-  value-coeffs (suc m) f x h = value-cons F (bit F (f % 2)) (coeffs m (f / 2)) x ∙ rw (value-coeffs m (f / 2) x (half-lt f m h)) (sym (eval-eq F f x))
+  value-coeffs (suc m) f x h =
+      value-cons F (bit F (f % 2)) (coeffs m (f / 2)) x ∙ rw (value-coeffs m (f / 2) x (half-lt f m h)) (sym (eval-eq F f x))
 
   bit-zero : (b : ℕ) → bit F b ≡ 𝟘 → b ≡ 0
   unfolding bit
@@ -180,7 +184,8 @@ module _ (F : Field2) where
   pub vanish : (xs : List K) (f : ℕ) → Apart F xs → f < 2 ^ length xs → ((x : K) → Mem x xs → eval F f x ≡ 𝟘) → f ≡ 0
   vanish xs f a l h =
       coeffs-zero (length xs) f l (roots F xs (coeffs (length xs) f) a
-      (all-of (λ x. value F (coeffs (length xs) f) x ≡ 𝟘) xs (λ x m. value-coeffs (length xs) f x l ∙ h x m)) (le-of-eq (length-coeffs (length xs) f)))
+      (all-of (λ x. value F (coeffs (length xs) f) x ≡ 𝟘) xs (λ x m. value-coeffs (length xs) f x l ∙ h x m))
+      (le-of-eq (length-coeffs (length xs) f)))
 
   -- ---- coefficients that are all 0 or 1, read as a binary polynomial
   module _ (num : K → ℕ) where
@@ -222,4 +227,6 @@ module _ (F : Field2) where
 
       pub deg-binary : (l : List K) → All Bit l → Deg (binary l) (length l)
       deg-binary [] h = rw binary-nil (div-one 1)
-      deg-binary (c ∷ l) h = rw (binary-cons c l) (shr-half (binary l * 2 + num c) (length l) ∙ rw (half (num c) (binary l) (num-lt c (h .0))) (deg-binary l (h .1)))
+      deg-binary (c ∷ l) h =
+          rw (binary-cons c l)
+          (shr-half (binary l * 2 + num c) (length l) ∙ rw (half (num c) (binary l) (num-lt c (h .0))) (deg-binary l (h .1)))

@@ -23,15 +23,19 @@ module _ (B : BinaryField) where
 
   apart-go : (E : List ℕ) → Once E → ((e : ℕ) → Mem e E → e < n) → Apart field (points E)
   apart-go [] o b = tt
-  apart-go (x ∷ E) o b =
-      (all-of (λ y. y ≢ pow field α x) (points E) (map-mem (λ y. y ≢ pow field α x) (pow field α) E (λ a m e. o .0 (rw (pow-inj B a x (b a (inr m)) (b x (inl refl)) e) at m))), apart-go E (o .1) (λ a m. b a (inr m)))
+  apart-go (x ∷ E) o b = (
+    all-of (λ y. y ≢ pow field α x) (points E)
+        (map-mem (λ y. y ≢ pow field α x) (pow field α) E (λ a m e. o .0 (rw (pow-inj B a x (b a (inr m)) (b x (inl refl)) e) at m))),
+    apart-go E (o .1) (λ a m. b a (inr m)),
+  )
 
   module _ (E : List ℕ) (o : Orbit n E) where
     pub points-apart : Apart field (points E)
     points-apart = apart-go E (o .once) (o .below)
 
     pub points-sq : (x : K) → Mem x (points E) → Mem (x ⊗ x) (points E)
-    points-sq = map-mem (λ x. Mem (x ⊗ x) (points E)) (pow field α) E (λ a m. rw (sq a) at (mem-map (pow field α) (a * 2 % n) E (o .twice a m)))
+    points-sq =
+        map-mem (λ x. Mem (x ⊗ x) (points E)) (pow field α) E (λ a m. rw (sq a) at (mem-map (pow field α) (a * 2 % n) E (o .twice a m)))
       where
         sq : (a : ℕ) → pow field α (a * 2 % n) ≡ pow field α a ⊗ pow field α a
         sq a = pow-mod B (a * 2) ∙ ap (pow field α) w ∙ pow-add field α a a

@@ -34,7 +34,8 @@ module _ (k : ℕ) where
   unfolding numbersIn
   numbers-half h f = rw (le-leb k 256 h, eq-eqb (k % 2) 0 f) refl
 
-  by-tests : (b c : Bool) → leb k 256 ≡ b → eqb (k % 2) 0 ≡ c → (cond b (cond c (k / 2) 0) 0 ≡ 0) ⊎ ((k ≤ 256) × (k ≡ 2 * cond b (cond c (k / 2) 0) 0))
+  by-tests : (b c : Bool) → leb k 256 ≡ b → eqb (k % 2) 0 ≡ c
+      → (cond b (cond c (k / 2) 0) 0 ≡ 0) ⊎ ((k ≤ 256) × (k ≡ 2 * cond b (cond c (k / 2) 0) 0))
   by-tests false c d e = inl refl
   by-tests true false d e = inl refl
   by-tests true true d e = inr (leb-true k 256 d, omega (arith, eqb-true (k % 2) 0 e))
@@ -78,7 +79,8 @@ two-digits : (x : ℕ) → x % 256 ∷ x / 256 % 256 ∷ [] ≡ digits 8 2 x
 unfolding digits
 two-digits x = refl
 
-pub put-law : (l : List ℕ) (at x : ℕ) → at + 2 ≤ length l → set (set l at (x % 256)) (at + 1) (x / 256 % 256) ≡ take at l ++ digits 8 2 x ++ drop (at + 2) l
+pub put-law : (l : List ℕ) (at x : ℕ) → at + 2 ≤ length l
+    → set (set l at (x % 256)) (at + 1) (x / 256 % 256) ≡ take at l ++ digits 8 2 x ++ drop (at + 2) l
 put-law l at x h =
     ap (λ (k : ℕ). set (set l at (x % 256)) k (x / 256 % 256)) (add-one at) ∙ sets-eq (x % 256 ∷ x / 256 % 256 ∷ []) l at h
     ∙ ap (λ (d : List ℕ). take at l ++ d ++ drop (at + 2) l) (two-digits x)
@@ -95,10 +97,12 @@ bytes-cons x l = refl
 bytes-next : (xs : List ℕ) (i : ℕ) → i < length xs → asBytes (take (suc i) xs) ≡ asBytes (take i xs) ++ digits 8 2 (getD xs i 0)
 bytes-next [] i h = absurd (Nat.not-suc-le-zero h)
 bytes-next (x ∷ xs) zero h =
-    bytes-cons x [] ∙ ap (λ (l : List ℕ). digits 8 2 x ++ l) bytes-nil ∙ append-nil (digits 8 2 x) ∙ ap (λ (l : List ℕ). l ++ digits 8 2 x) (sym bytes-nil)
+    bytes-cons x [] ∙ ap (λ (l : List ℕ). digits 8 2 x ++ l) bytes-nil ∙ append-nil (digits 8 2 x)
+    ∙ ap (λ (l : List ℕ). l ++ digits 8 2 x) (sym bytes-nil)
 bytes-next (x ∷ xs) (suc i) h =
     bytes-cons x (take (suc i) xs) ∙ ap (λ (l : List ℕ). digits 8 2 x ++ l) (bytes-next xs i (Nat.le-of-suc-le-suc h))
-    ∙ sym (append-assoc (digits 8 2 x) (asBytes (take i xs)) (digits 8 2 (getD xs i 0))) ∙ ap (λ (l : List ℕ). l ++ digits 8 2 (getD xs i 0)) (sym (bytes-cons x (take i xs)))
+    ∙ sym (append-assoc (digits 8 2 x) (asBytes (take i xs)) (digits 8 2 (getD xs i 0)))
+    ∙ ap (λ (l : List ℕ). l ++ digits 8 2 (getD xs i 0)) (sym (bytes-cons x (take i xs)))
 
 pub record Stored (xs : List ℕ) (i : ℕ) (l : List ℕ) : Type 0 where
   pub exact : length l ≡ 2 * length xs
@@ -108,19 +112,23 @@ pub record Stored (xs : List ℕ) (i : ℕ) (l : List ℕ) : Type 0 where
 pub stored-start : (xs l : List ℕ) → length l ≡ 2 * length xs → Stored xs 0 l
 stored-start xs l e = record { exact = e; high = zero-le; front = sym bytes-nil }
 
-pub stored-next : (xs l l′ : List ℕ) (i : ℕ) → Stored xs i l → i < length xs → length l′ ≡ length l → l′ ≡ take (2 * i) l ++ digits 8 2 (getD xs i 0) ++ drop (2 * i + 2) l → Stored xs (i + 1) l′
+pub stored-next : (xs l l′ : List ℕ) (i : ℕ) → Stored xs i l → i < length xs → length l′ ≡ length l
+    → l′ ≡ take (2 * i) l ++ digits 8 2 (getD xs i 0) ++ drop (2 * i + 2) l → Stored xs (i + 1) l′
 stored-next xs l l′ i s h k e = record { exact = k ∙ s .exact; high = omega arith; front = front }
   where
     two : 2 * (i + 1) ≡ 2 * i + 2
     two = omega arith
 
     reach : length (take (2 * i) l ++ digits 8 2 (getD xs i 0)) ≡ 2 * i + 2
-    reach = length-append (take (2 * i) l) (digits 8 2 (getD xs i 0)) ∙ ap₂ _+_ (length-take-le (2 * i) l (omega (arith, s .exact))) (length-digits 8 2 (getD xs i 0))
+    reach =
+        length-append (take (2 * i) l) (digits 8 2 (getD xs i 0))
+        ∙ ap₂ _+_ (length-take-le (2 * i) l (omega (arith, s .exact))) (length-digits 8 2 (getD xs i 0))
 
     front : take (2 * (i + 1)) l′ ≡ asBytes (take (i + 1) xs)
     front =
         ap₂ take two e ∙ take-at (take (2 * i) l ++ digits 8 2 (getD xs i 0)) (drop (2 * i + 2) l) (2 * i + 2) reach
-        ∙ ap (λ (d : List ℕ). d ++ digits 8 2 (getD xs i 0)) (s .front) ∙ sym (bytes-next xs i h) ∙ ap (λ (n : ℕ). asBytes (take n xs)) (sym (add-one i))
+        ∙ ap (λ (d : List ℕ). d ++ digits 8 2 (getD xs i 0)) (s .front) ∙ sym (bytes-next xs i h)
+        ∙ ap (λ (n : ℕ). asBytes (take n xs)) (sym (add-one i))
 
 pub stored-all : (xs l : List ℕ) (i : ℕ) → Stored xs i l → length xs ≤ i → l ≡ asBytes xs
 stored-all xs l i s h = sym (take-all (2 * i) l (omega (arith, s .exact))) ∙ s .front ∙ ap asBytes (take-all i xs h)

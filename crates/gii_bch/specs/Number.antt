@@ -22,7 +22,8 @@ use Rattle.code.specs.Refused.{judge-le, read-le, read-links}
 use Rattle.refusal.specs.Judging.{judge-zero}
 
 -- ---- the number of an outcome
-pub made-number : (k : ℕ) (result old after : List ℕ) (r : Outcome) (n : ℕ) → Made k result old after r → n ≡ outcomeNumber r → MadeC k result old after n
+pub made-number : (k : ℕ) (result old after : List ℕ) (r : Outcome) (n : ℕ) → Made k result old after r → n ≡ outcomeNumber r
+    → MadeC k result old after n
 made-number k result old after r n o e = record { answers = e ∙ o .number; small = o .small; buffer = o .buffer }
 
 -- ---- a verdict's number is below 128
@@ -33,7 +34,8 @@ number-by false false f m g v d e h k = omega arith
 
 number-low : (p : Parameters) → Accepted p → (cs : List ℕ) → failingNumber p cs < 128
 unfolding failingNumber
-number-low p A cs = number-by (ltb (failing p cs) (p .m)) (ltb (failingNested p cs) (p .v)) (failing p cs) (p .m) (failingNested p cs) (p .v)
+number-low p A cs =
+    number-by (ltb (failing p cs) (p .m)) (ltb (failingNested p cs) (p .v)) (failing p cs) (p .m) (failingNested p cs) (p .v)
     refl refl (accepted p A .m-high) (accepted p A .v-high)
 
 answer-low : (r n : ℕ) → r ≤ lastRefusal → (r ≡ 0 → n < 128) → (r orElse n) < 128
@@ -43,7 +45,9 @@ answer-low (suc r) n h k = omega arith
 module _ (p : Parameters) (x : List ℕ) where
   judge-low : judgeNumber p x < 128
   unfolding judgeNumber
-  judge-low = answer-low (judgeRefusal p x) (failingNumber p (wordsOf p x)) (judge-le p x) (λ z. number-low p (judge-zero p x z .accepted) (wordsOf p x))
+  judge-low =
+      answer-low (judgeRefusal p x) (failingNumber p (wordsOf p x)) (judge-le p x)
+      (λ z. number-low p (judge-zero p x z .accepted) (wordsOf p x))
 
   pub judged-low : (r : Verdict) → Judged p x r → verdictNumber r < 128
   judged-low r j = rw (j .number) judge-low
@@ -60,7 +64,9 @@ module _ (p : Parameters) (x : List ℕ) where
 
     read-low : readNumber p x b < 128
     unfolding readNumber
-    read-low = answer-low (readRefusal p x (length b)) (failingNumber p (wordsOf p x)) (read-le p x (length b)) (λ z. number-low p (read-accepted z) (wordsOf p x))
+    read-low =
+        answer-low (readRefusal p x (length b)) (failingNumber p (wordsOf p x)) (read-le p x (length b))
+        (λ z. number-low p (read-accepted z) (wordsOf p x))
 
     pub read-out-low : (after : List ℕ) (r : Verdict) → ReadOut p x b after r → verdictNumber r < 128
     read-out-low after r o = rw (o .number) read-low

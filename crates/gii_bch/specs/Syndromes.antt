@@ -54,7 +54,10 @@ record Many (e : ℕ) : Type 0 where
 level-many : (p : Parameters) → Accepted p → (a : ℕ) → a ≤ p .v → Many (2 * strength p a)
 level-many p A a h =
     let R : Rules p = accepted p A in
-    record { low = omega (arith, R .t-low, rising p R 0 a zero-le h); high = omega (arith, R .high, rising p R a (p .v) h (Nat.le-refl (p .v))) }
+    record {
+      low = omega (arith, R .t-low, rising p R 0 a zero-le h);
+      high = omega (arith, R .high, rising p R a (p .v) h (Nat.le-refl (p .v)));
+    }
 
 level-le : (nested : Bool) (p : Parameters) (i : ℕ) → levelAt nested p i ≤ p .v
 level-le true p i = Nat.sub-le (p .v) i
@@ -66,21 +69,24 @@ module _ (p : Parameters) (x : List ℕ) (i words e : ℕ) (E : Accepted p → M
   unfolding wordRefusal
   list-alike k = go (Nat.eq-zero-or-pos (judgeRefusal p x))
     where
-      go : (judgeRefusal p x ≡ 0) ⊎ (0 < judgeRefusal p x) → wordRefusal p x i words (numbersIn k) (1 * e) ≡ wordRefusal p x i words k (2 * e)
+      go : (judgeRefusal p x ≡ 0) ⊎ (0 < judgeRefusal p x)
+          → wordRefusal p x i words (numbersIn k) (1 * e) ≡ wordRefusal p x i words k (2 * e)
       go (inl z) =
           let m = E (judge-zero p x z .accepted) in
           ap (λ (n : ℕ). wordRefusal p x i words (numbersIn k) n) (Nat.one-mul e)
           ∙ ap (λ (b : Bool). judgeRefusal p x orElse 9 when leb words i orElse 10 when not b) (numbers-exact k e (m .low) (m .high))
       go (inr h) =
           let f : judgeRefusal p x ≡ 0 → ⊥ = λ z. Nat.lt-irrefl 0 (rw z at h) in
-          sym (word-page p x i words (numbersIn k) (1 * e) (judgeRefusal p x) refl f) ∙ word-page p x i words k (2 * e) (judgeRefusal p x) refl f
+          sym (word-page p x i words (numbersIn k) (1 * e) (judgeRefusal p x) refl f)
+          ∙ word-page p x i words k (2 * e) (judgeRefusal p x) refl f
 
 leaves-alike : (r : ℕ) (xs ys zs old : List ℕ) → xs ≡ leaves r ys zs → leaves r (asBytes xs) old ≡ leaves r (asBytes ys) old
 leaves-alike zero xs ys zs old e = ap asBytes e
 leaves-alike (suc r) xs ys zs old e = refl
 
 -- ---- the call on numbers took xs, of the length that the bytes `old` fix, to ys; n is its answer's number
-module _ (nested : Bool) (p : Parameters) (x : List ℕ) (i : ℕ) (old xs ys : List ℕ) (o : Outcome) (n : ℕ) (l : length xs ≡ numbersIn (length old)) (m : ListMade nested p x i xs ys o) (f : n ≡ outcomeNumber o) where
+module _ (nested : Bool) (p : Parameters) (x : List ℕ) (i : ℕ) (old xs ys : List ℕ) (o : Outcome) (n : ℕ)
+    (l : length xs ≡ numbersIn (length old)) (m : ListMade nested p x i xs ys o) (f : n ≡ outcomeNumber o) where
   abbrev e : ℕ
   e = 2 * strength p (levelAt nested p i)
 
@@ -88,7 +94,9 @@ module _ (nested : Bool) (p : Parameters) (x : List ℕ) (i : ℕ) (old xs ys : 
   E A = level-many p A (levelAt nested p i) (level-le nested p i)
 
   refusal : n ≡ listRefusal 2 nested p x i (length old)
-  refusal = f ∙ m .number ∙ ap (λ (k : ℕ). wordRefusal p x i (wordCount nested p) k (1 * e)) l ∙ list-alike p x i (wordCount nested p) e E (length old)
+  refusal =
+      f ∙ m .number ∙ ap (λ (k : ℕ). wordRefusal p x i (wordCount nested p) k (1 * e)) l
+      ∙ list-alike p x i (wordCount nested p) e E (length old)
 
   -- the bytes' length, where nothing is refused
   pub list-room : ((k : ℕ) → getD x k 0 < 2 ^ 8) → length ys ≡ length xs → n ≡ 0 → length old ≡ 2 * length ys
@@ -102,5 +110,7 @@ module _ (nested : Bool) (p : Parameters) (x : List ℕ) (i : ℕ) (old xs ys : 
   list-made after g = record {
     answers = refusal;
     small = word-le p x i (wordCount nested p) (length old) (2 * e);
-    buffer = g ∙ leaves-alike n ys (listOf nested p x i) xs old (m .buffer ∙ ap (λ (r : ℕ). leaves r (listOf nested p x i) xs) (sym (f ∙ m .number))) ∙ ap (λ (r : ℕ). leaves r (asBytes (listOf nested p x i)) old) refusal;
+    buffer = g ∙ leaves-alike n ys
+        (listOf nested p x i) xs old (m .buffer ∙ ap (λ (r : ℕ). leaves r (listOf nested p x i) xs) (sym (f ∙ m .number)))
+        ∙ ap (λ (r : ℕ). leaves r (asBytes (listOf nested p x i)) old) refusal;
   }

@@ -20,7 +20,8 @@ use Rattle.kernels.specs.Table.{Reduced, RemainderBy, lowered}
 use Rattle.kernels.specs.Value.{Bounded, same-at, set-xor, take-lt, take-mod, take-more, take-more-set}
 
 -- ---- words copied one place higher
-pub next-turn : (src dst : List ℕ) (i : ℕ) → i < length src → i + 1 < length dst → value 64 (take (i + 1) dst) ≡ value 64 (take i src) * 2 ^ 64
+pub next-turn : (src dst : List ℕ) (i : ℕ) → i < length src → i + 1 < length dst
+    → value 64 (take (i + 1) dst) ≡ value 64 (take i src) * 2 ^ 64
     → value 64 (take (i + 1 + 1) (set dst (i + 1) (getD src i 0))) ≡ value 64 (take (i + 1) src) * 2 ^ 64
 next-turn src dst i h l e =
     take-more-set 64 dst (i + 1) (getD src i 0) l ∙ ap₂ _+_ up e
@@ -30,14 +31,17 @@ next-turn src dst i h l e =
     j = omega arith
 
     up : getD src i 0 * 2 ^ (64 * (i + 1)) ≡ getD src i 0 * 2 ^ (64 * i) * 2 ^ 64
-    up = ap (λ (n : ℕ). getD src i 0 * 2 ^ n) j ∙ ap (λ (n : ℕ). getD src i 0 * n) (pow-add 2 (64 * i) 64) ∙ sym (Nat.mul-assoc (getD src i 0) (2 ^ (64 * i)) (2 ^ 64))
+    up =
+        ap (λ (n : ℕ). getD src i 0 * 2 ^ n) j ∙ ap (λ (n : ℕ). getD src i 0 * n) (pow-add 2 (64 * i) 64)
+        ∙ sym (Nat.mul-assoc (getD src i 0) (2 ^ (64 * i)) (2 ^ 64))
 
 -- the words that are 0 need no copy
-pub next-start : (r : List ℕ) (f : ℕ) → Bounded 64 r → length r ≡ 13 → f ≤ 11 → value 64 r % 2 ^ (64 * f) ≡ 0 → value 64 (take (f + 1) (replicate 12 0)) ≡ value 64 (take f r) * 2 ^ 64
+pub next-start : (r : List ℕ) (f : ℕ) → Bounded 64 r → length r ≡ 13 → f ≤ 11 → value 64 r % 2 ^ (64 * f) ≡ 0
+    → value 64 (take (f + 1) (replicate 12 0)) ≡ value 64 (take f r) * 2 ^ 64
 next-start r f b h l z = zeros-clear 12 (f + 1) ∙ sym (rw (take-mod 64 r b f (omega arith), z) (Nat.zero-mul (2 ^ 64)))
 
-pub next-clear : (r v m : List ℕ) (f : ℕ) → Bounded 64 r → length r ≡ 13 → f ≤ 11 → value 64 r % 2 ^ (64 * f) ≡ 0 → take (f + 1) v ≡ take (f + 1) (replicate 12 0) → take f m ≡ take f v
-    → take f r ≡ take f m
+pub next-clear : (r v m : List ℕ) (f : ℕ) → Bounded 64 r → length r ≡ 13 → f ≤ 11 → value 64 r % 2 ^ (64 * f) ≡ 0
+    → take (f + 1) v ≡ take (f + 1) (replicate 12 0) → take f m ≡ take f v → take f r ≡ take f m
 next-clear r v m f b h l z e g =
     same (take f r) (take-mod 64 r b f (omega arith) ∙ z) (length-take-le f r (omega arith))
     ∙ sym (g ∙ sym (take-take f (f + 1) v (omega arith)) ∙ ap (take f) e ∙ take-take f (f + 1) (replicate 12 0) (omega arith)
@@ -46,34 +50,43 @@ next-clear r v m f b h l z e g =
     same : (x : List ℕ) → value 64 x ≡ 0 → length x ≡ f → x ≡ replicate f 0
     same x y k = zeros x y ∙ ap (λ (n : ℕ). replicate n 0) k
 
--- ---- a step by a word: v is r's lower 11 words one place higher; with the remainder of what passes x^768 and u added it is m, which is copied back
-pub word-step : (t r v m r′ : List ℕ) (u : ℕ) → Bounded 64 r → length r ≡ 13 → value 64 r < 2 ^ D → Bounded 64 r′ → length r′ ≡ 13 → length m ≡ 12
-    → getD r 12 0 ≡ 0 → value 64 v ≡ value 64 (take 11 r) * 2 ^ 64 → TopAdded t (value 64 v) (bitXor (getD r 11 0) u) (value 64 m) → Copied r r′ m 12
+-- ---- a step by a word: v is r's lower 11 words one place higher;
+-- with the remainder of what passes x^768 and u added it is m, which is copied back
+pub word-step : (t r v m r′ : List ℕ) (u : ℕ) → Bounded 64 r → length r ≡ 13 → value 64 r < 2 ^ D → Bounded 64 r′ → length r′ ≡ 13
+    → length m ≡ 12 → getD r 12 0 ≡ 0 → value 64 v ≡ value 64 (take 11 r) * 2 ^ 64
+    → TopAdded t (value 64 v) (bitXor (getD r 11 0) u) (value 64 m) → Copied r r′ m 12
     → Reduced t (xor (value 64 r * 2 ^ 64) (u * 2 ^ D)) (value 64 r′)
 word-step t r v m r′ u b h s b′ h′ k z e q p = record {
   small = rw back (low-lt r′ b′ h′);
   rest = λ G T.
-      back ∙ ap (value 64) (p .done ∙ take-all 12 m (omega arith)) ∙ q G T ∙ ap (λ (x : ℕ). xor (value 64 v) (rem G D (x * 2 ^ D))) (xor-is (getD r 11 0) u)
+      back ∙ ap (value 64) (p .done ∙ take-all 12 m (omega arith)) ∙ q G T
+      ∙ ap (λ (x : ℕ). xor (value 64 v) (rem G D (x * 2 ^ D))) (xor-is (getD r 11 0) u)
       ∙ rem-top G D (T .deg) (xor (getD r 11 0) u) (value 64 v) low ∙ ap (rem G D) sum;
 }
   where
     back : value 64 r′ ≡ value 64 (take 12 r′)
-    back = by-top r′ h′ ∙ ap (λ (x : ℕ). x * 2 ^ D + value 64 (take 12 r′)) (same-at r′ r 12 (p .left) ∙ z) ∙ rw (Nat.zero-mul (2 ^ D)) (Nat.zero-add (value 64 (take 12 r′)))
+    back =
+        by-top r′ h′ ∙ ap (λ (x : ℕ). x * 2 ^ D + value 64 (take 12 r′)) (same-at r′ r 12 (p .left) ∙ z)
+        ∙ rw (Nat.zero-mul (2 ^ D)) (Nat.zero-add (value 64 (take 12 r′)))
 
     low : value 64 v < 2 ^ D
     low = rw (e, pow-D) (shl-lt (64 * 11) 64 (take-lt 64 r b 11 (omega arith)))
 
     lower : value 64 r ≡ getD r 11 0 * 2 ^ (64 * 11) + value 64 (take 11 r)
-    lower = by-top r h ∙ ap (λ (x : ℕ). x * 2 ^ D + value 64 (take 12 r)) z ∙ rw (Nat.zero-mul (2 ^ D)) (Nat.zero-add (value 64 (take 12 r))) ∙ take-more 64 r 11 (omega arith)
+    lower =
+        by-top r h ∙ ap (λ (x : ℕ). x * 2 ^ D + value 64 (take 12 r)) z ∙ rw (Nat.zero-mul (2 ^ D)) (Nat.zero-add (value 64 (take 12 r)))
+        ∙ take-more 64 r 11 (omega arith)
 
     up : value 64 r * 2 ^ 64 ≡ getD r 11 0 * 2 ^ D + value 64 v
     up =
         ap (λ (x : ℕ). x * 2 ^ 64) lower ∙ Nat.add-mul (getD r 11 0 * 2 ^ (64 * 11)) (value 64 (take 11 r)) (2 ^ 64)
-        ∙ ap₂ _+_ (Nat.mul-assoc (getD r 11 0) (2 ^ (64 * 11)) (2 ^ 64) ∙ ap (λ (x : ℕ). getD r 11 0 * x) (sym (pow-add 2 (64 * 11) 64) ∙ sym pow-D)) (sym e)
+        ∙ ap₂ _+_ (Nat.mul-assoc (getD r 11 0) (2 ^ (64 * 11)) (2 ^ 64)
+        ∙ ap (λ (x : ℕ). getD r 11 0 * x) (sym (pow-add 2 (64 * 11) 64) ∙ sym pow-D)) (sym e)
 
     sum : xor (getD r 11 0) u * 2 ^ D + value 64 v ≡ xor (value 64 r * 2 ^ 64) (u * 2 ^ D)
     sum =
-        sym (ap₂ xor up (sym (Nat.add-zero (u * 2 ^ D))) ∙ xor-block D (getD r 11 0) u (value 64 v) 0 low (pow-pos D) ∙ ap (λ (x : ℕ). xor (getD r 11 0) u * 2 ^ D + x) (xor-zero-r (value 64 v)))
+        sym (ap₂ xor up (sym (Nat.add-zero (u * 2 ^ D))) ∙ xor-block D (getD r 11 0) u (value 64 v) 0 low (pow-pos D)
+        ∙ ap (λ (x : ℕ). xor (getD r 11 0) u * 2 ^ D + x) (xor-zero-r (value 64 v)))
 
 -- ---- a step by l places: u is added below x^768 and moved up
 pub part-lt : (x u l : ℕ) → x < 2 ^ D → u < 2 ^ l → l ≤ 64 → xor x (u * 2 ^ (768 - l)) < 2 ^ D
@@ -85,13 +98,15 @@ pub part-step : (x y z u l : ℕ) → l ≤ 64 → y ≡ xor x (u * 2 ^ (768 - l
 part-step x y z u l h e f =
     let g : (768 - l) + l ≡ D = omega (arith, D-is) in
     f ∙ ap (λ (n : ℕ). n * 2 ^ l) e ∙ xor-shl l x (u * 2 ^ (768 - l))
-    ∙ ap (xor (x * 2 ^ l)) (Nat.mul-assoc u (2 ^ (768 - l)) (2 ^ l) ∙ ap (λ (n : ℕ). u * n) (sym (pow-add 2 (768 - l) l) ∙ ap (λ (n : ℕ). 2 ^ n) g))
+    ∙ ap (xor (x * 2 ^ l))
+    (Nat.mul-assoc u (2 ^ (768 - l)) (2 ^ l) ∙ ap (λ (n : ℕ). u * n) (sym (pow-add 2 (768 - l) l) ∙ ap (λ (n : ℕ). 2 ^ n) g))
 
 -- a multiple of x^p stays one
 pub low-top : (x u l p : ℕ) → p < 768 → x % 2 ^ p ≡ 0 → xor (x * 2 ^ l) (u * 2 ^ D) % 2 ^ p ≡ 0
 low-top x u l p h z =
     let e : (D - p) + p ≡ D = omega (arith, D-is) in
-    ap (λ (n : ℕ). xor (x * 2 ^ l) n % 2 ^ p) (ap (λ (n : ℕ). u * 2 ^ n) (sym e) ∙ ap (λ (n : ℕ). u * n) (pow-add 2 (D - p) p) ∙ sym (Nat.mul-assoc u (2 ^ (D - p)) (2 ^ p)))
+    ap (λ (n : ℕ). xor (x * 2 ^ l) n % 2 ^ p)
+    (ap (λ (n : ℕ). u * 2 ^ n) (sym e) ∙ ap (λ (n : ℕ). u * n) (pow-add 2 (D - p) p) ∙ sym (Nat.mul-assoc u (2 ^ (D - p)) (2 ^ p)))
     ∙ low-fed x (u * 2 ^ (D - p)) l p z
 
 -- fed to a register of 0
@@ -99,12 +114,14 @@ pub from-zero : (t : List ℕ) (n k y r : ℕ) → n ≡ 0 → Reduced t (xor (n
 from-zero t n k y r z q = rw (z, Nat.zero-mul (2 ^ k), xor-zero-l y) at q
 
 -- ---- words added from the lowest on
-pub low-turn : (r : List ℕ) (n x j i k v : ℕ) → Bounded 64 r → j < length r → i ≤ 64 → i + 64 * j ≡ k → v ≡ x / 2 ^ (64 * j) % 2 ^ i → value 64 r ≡ xor n (x % 2 ^ (64 * j))
-    → value 64 (set r j (bitXor (getD r j 0) v)) ≡ xor n (x % 2 ^ k)
+pub low-turn : (r : List ℕ) (n x j i k v : ℕ) → Bounded 64 r → j < length r → i ≤ 64 → i + 64 * j ≡ k → v ≡ x / 2 ^ (64 * j) % 2 ^ i
+    → value 64 r ≡ xor n (x % 2 ^ (64 * j)) → value 64 (set r j (bitXor (getD r j 0) v)) ≡ xor n (x % 2 ^ k)
 low-turn r n x j i k v b h l g e f =
-    ap (λ (y : ℕ). value 64 (set r j y)) (xor-is (getD r j 0) v) ∙ set-xor 64 r b j v h (Nat.lt-of-lt-of-le (rw e (Nat.mod-lt (x / 2 ^ (64 * j)) (pow-pos i))) (pow-mono {j = 64} l))
+    ap (λ (y : ℕ). value 64 (set r j y)) (xor-is (getD r j 0) v)
+    ∙ set-xor 64 r b j v h (Nat.lt-of-lt-of-le (rw e (Nat.mod-lt (x / 2 ^ (64 * j)) (pow-pos i))) (pow-mono {j = 64} l))
     ∙ ap₂ (λ (y z : ℕ). xor y (z * 2 ^ (64 * j))) f e ∙ xor-assoc n (x % 2 ^ (64 * j)) (x / 2 ^ (64 * j) % 2 ^ i * 2 ^ (64 * j))
-    ∙ ap (xor n) (xor-comm (x % 2 ^ (64 * j)) (x / 2 ^ (64 * j) % 2 ^ i * 2 ^ (64 * j)) ∙ sym (part x i (64 * j)) ∙ ap (λ (m : ℕ). x % 2 ^ m) g)
+    ∙ ap (xor n)
+    (xor-comm (x % 2 ^ (64 * j)) (x / 2 ^ (64 * j) % 2 ^ i * 2 ^ (64 * j)) ∙ sym (part x i (64 * j)) ∙ ap (λ (m : ℕ). x % 2 ^ m) g)
 
 -- ---- the whole remainder
 pub short-rest : (t : List ℕ) (p n f z r : ℕ) → p < 768 → n ≤ 768 - p → z ≡ 0 → r ≡ xor z (f % 2 ^ n) → RemainderBy t p (f % 2 ^ n) r
@@ -113,10 +130,12 @@ short-rest t p n f z r h l e g =
     let o : D - p ≡ 768 - p = omega (arith, D-is) in
     record {
       small = rw (s, o) (Nat.lt-of-lt-of-le (Nat.mod-lt f (pow-pos n)) (pow-mono {i = n} {j = 768 - p} l));
-      rest = λ v w d k T. s ∙ sym (rem-small v w d (f % 2 ^ n) (Nat.lt-of-lt-of-le (Nat.mod-lt f (pow-pos n)) (pow-mono {i = n} {j = w} (omega (arith, D-is)))));
+      rest = λ v w d k T. s ∙ sym
+          (rem-small v w d (f % 2 ^ n) (Nat.lt-of-lt-of-le (Nat.mod-lt f (pow-pos n)) (pow-mono {i = n} {j = w} (omega (arith, D-is)))));
     }
 
-pub whole-rest : (t : List ℕ) (p n w f r q x : ℕ) → p < 768 → w ≡ 768 - p → w ≤ n → Reduced t (f % 2 ^ n / 2 ^ w * 2 ^ D) r → q ≡ r / 2 ^ p → x ≡ xor q (f % 2 ^ w) → RemainderBy t p (f % 2 ^ n) x
+pub whole-rest : (t : List ℕ) (p n w f r q x : ℕ) → p < 768 → w ≡ 768 - p → w ≤ n → Reduced t (f % 2 ^ n / 2 ^ w * 2 ^ D) r → q ≡ r / 2 ^ p
+    → x ≡ xor q (f % 2 ^ w) → RemainderBy t p (f % 2 ^ n) x
 whole-rest t p n w f r q x h e l a b c =
     record {
       small = rw (c, o) (xor-lt w q (f % 2 ^ w) (rw (b, ← o) (R .small)) (Nat.mod-lt f (pow-pos w)));
@@ -144,4 +163,6 @@ whole-rest t p n w f r q x h e l a b c =
     below = ap (λ (y : ℕ). f % 2 ^ y % 2 ^ w) (sym m) ∙ mod-mod-pow f (n - w) w
 
     sum : xor (f % 2 ^ n / 2 ^ w * 2 ^ w) (f % 2 ^ w) ≡ f % 2 ^ n
-    sum = sym (join (f % 2 ^ n / 2 ^ w) w (f % 2 ^ w) (Nat.mod-lt f (pow-pos w))) ∙ ap (λ (y : ℕ). f % 2 ^ n / 2 ^ w * 2 ^ w + y) (sym below) ∙ split (f % 2 ^ n) w
+    sum =
+        sym (join (f % 2 ^ n / 2 ^ w) w (f % 2 ^ w) (Nat.mod-lt f (pow-pos w))) ∙ ap (λ (y : ℕ). f % 2 ^ n / 2 ^ w * 2 ^ w + y) (sym below)
+        ∙ split (f % 2 ^ n) w

@@ -21,15 +21,18 @@ xor-field : (x v c p : ℕ) → v < 2 ^ c → xor x (v * 2 ^ p) ≡ x / 2 ^ (p +
 xor-field x v c p h =
     ap₂ xor (sym (split x p)) (sym (add-zero (v * 2 ^ p))) ∙ xor-block p (x / 2 ^ p) v (x % 2 ^ p) 0 (mod-lt x (pow-pos p)) (pow-pos p)
     ∙ ap₂ (λ (a b : ℕ). a * 2 ^ p + b)
-    (ap₂ xor (sym (split (x / 2 ^ p) c)) (sym (rw (zero-mul (2 ^ c)) (zero-add v))) ∙ xor-block c (x / 2 ^ p / 2 ^ c) 0 (x / 2 ^ p % 2 ^ c) v (mod-lt (x / 2 ^ p) (pow-pos c)) h
+    (ap₂ xor (sym (split (x / 2 ^ p) c)) (sym (rw (zero-mul (2 ^ c)) (zero-add v)))
+    ∙ xor-block c (x / 2 ^ p / 2 ^ c) 0 (x / 2 ^ p % 2 ^ c) v (mod-lt (x / 2 ^ p) (pow-pos c)) h
     ∙ ap₂ (λ (a b : ℕ). a * 2 ^ c + b) (xor-zero-r (x / 2 ^ p / 2 ^ c) ∙ shr-shr x p c) refl)
     (xor-zero-r (x % 2 ^ p))
     ∙ ap (λ (n : ℕ). n + x % 2 ^ p) (add-mul (x / 2 ^ (p + c) * 2 ^ c) (xor (x / 2 ^ p % 2 ^ c) v) (2 ^ p)
-    ∙ ap (λ (n : ℕ). n + xor (x / 2 ^ p % 2 ^ c) v * 2 ^ p) (mul-assoc (x / 2 ^ (p + c)) (2 ^ c) (2 ^ p) ∙ ap (λ (n : ℕ). x / 2 ^ (p + c) * n) (sym (pow-add 2 c p) ∙ ap (λ (n : ℕ). 2 ^ n) (add-comm c p))))
+    ∙ ap (λ (n : ℕ). n + xor (x / 2 ^ p % 2 ^ c) v * 2 ^ p) (mul-assoc (x / 2 ^ (p + c)) (2 ^ c) (2 ^ p)
+    ∙ ap (λ (n : ℕ). x / 2 ^ (p + c) * n) (sym (pow-add 2 c p) ∙ ap (λ (n : ℕ). 2 ^ n) (add-comm c p))))
     ∙ add-assoc (x / 2 ^ (p + c) * 2 ^ (p + c)) (xor (x / 2 ^ p % 2 ^ c) v * 2 ^ p) (x % 2 ^ p)
 
 -- a word is read, has v added and is put back
-pub add-word-law : (l l′ : List ℕ) (at v w : ℕ) → Bounded 8 l → at + 8 ≤ length l → length l′ ≡ length l → v < 2 ^ 64 → w ≡ value 8 l / 2 ^ (8 * at) % 2 ^ 64
+pub add-word-law : (l l′ : List ℕ) (at v w : ℕ) → Bounded 8 l → at + 8 ≤ length l → length l′ ≡ length l → v < 2 ^ 64
+    → w ≡ value 8 l / 2 ^ (8 * at) % 2 ^ 64
     → l′ ≡ take at l ++ digits 8 8 (bitXor w v) ++ drop (at + 8) l → value 8 l′ ≡ xor (value 8 l) (v * 2 ^ (8 * at))
 add-word-law l l′ at v w b h k hv e f =
     value-split 8 (at + 8) l′ (omega arith)
@@ -49,14 +52,15 @@ up-bytes x at i =
     ap (λ (n : ℕ). x * 2 ^ n) k ∙ ap (λ (n : ℕ). x * n) (pow-add 2 (8 * i) (8 * at)) ∙ sym (mul-assoc x (2 ^ (8 * i)) (2 ^ (8 * at)))
 
 -- j bytes of y from byte i on are added beside the i below, all from byte `at` on
-pub bytes-law : (a₀ a a′ at y i j n v : ℕ) → i + j ≡ n → a ≡ xor a₀ (y % 2 ^ (8 * i) * 2 ^ (8 * at)) → v ≡ y / 2 ^ (8 * i) % 2 ^ (8 * j) → a′ ≡ xor a (v * 2 ^ (8 * (at + i)))
-    → a′ ≡ xor a₀ (y % 2 ^ (8 * n) * 2 ^ (8 * at))
+pub bytes-law : (a₀ a a′ at y i j n v : ℕ) → i + j ≡ n → a ≡ xor a₀ (y % 2 ^ (8 * i) * 2 ^ (8 * at)) → v ≡ y / 2 ^ (8 * i) % 2 ^ (8 * j)
+    → a′ ≡ xor a (v * 2 ^ (8 * (at + i))) → a′ ≡ xor a₀ (y % 2 ^ (8 * n) * 2 ^ (8 * at))
 bytes-law a₀ a a′ at y i j n v h e d f =
     let g : 8 * j + 8 * i ≡ 8 * n = omega arith in
     f ∙ ap₂ xor e (up-bytes v at i ∙ ap (λ (x : ℕ). x * 2 ^ (8 * i) * 2 ^ (8 * at)) d)
     ∙ xor-assoc a₀ (y % 2 ^ (8 * i) * 2 ^ (8 * at)) (y / 2 ^ (8 * i) % 2 ^ (8 * j) * 2 ^ (8 * i) * 2 ^ (8 * at))
     ∙ ap (xor a₀) (sym (xor-shl (8 * at) (y % 2 ^ (8 * i)) (y / 2 ^ (8 * i) % 2 ^ (8 * j) * 2 ^ (8 * i)))
-    ∙ ap (λ (x : ℕ). x * 2 ^ (8 * at)) (xor-comm (y % 2 ^ (8 * i)) (y / 2 ^ (8 * i) % 2 ^ (8 * j) * 2 ^ (8 * i)) ∙ sym (part y (8 * j) (8 * i)) ∙ ap (λ (m : ℕ). y % 2 ^ m) g))
+    ∙ ap (λ (x : ℕ). x * 2 ^ (8 * at))
+    (xor-comm (y % 2 ^ (8 * i)) (y / 2 ^ (8 * i) % 2 ^ (8 * j) * 2 ^ (8 * i)) ∙ sym (part y (8 * j) (8 * i)) ∙ ap (λ (m : ℕ). y % 2 ^ m) g))
 
 -- ---- words of y, from the lowest on
 pub record Added (l₀ l : List ℕ) (at y i : ℕ) : Type 0 where
@@ -71,8 +75,8 @@ added-start l at y h = record {
   done = sym (rw (mod-one y, zero-mul (2 ^ (8 * at))) (xor-zero-r (value 8 l)));
 }
 
-pub added-word : (l₀ l l′ : List ℕ) (at y k v : ℕ) → value 8 l′ ≡ xor (value 8 l) (v * 2 ^ (8 * (at + 8 * k))) → at + 8 * k + 8 ≤ length l → length l′ ≡ length l
-    → v ≡ y / 2 ^ (8 * (8 * k)) % 2 ^ 64 → Added l₀ l at y (8 * k) → Added l₀ l′ at y (8 * (k + 1))
+pub added-word : (l₀ l l′ : List ℕ) (at y k v : ℕ) → value 8 l′ ≡ xor (value 8 l) (v * 2 ^ (8 * (at + 8 * k))) → at + 8 * k + 8 ≤ length l
+    → length l′ ≡ length l → v ≡ y / 2 ^ (8 * (8 * k)) % 2 ^ 64 → Added l₀ l at y (8 * k) → Added l₀ l′ at y (8 * (k + 1))
 added-word l₀ l l′ at y k v f h g e p = record {
   within = omega arith;
   same = g ∙ p .same;
@@ -80,9 +84,10 @@ added-word l₀ l l′ at y k v f h g e p = record {
 }
 
 -- the same from byte 0 on
-pub added-low-word : (l₀ l l′ : List ℕ) (y k v : ℕ) → value 8 l′ ≡ xor (value 8 l) (v * 2 ^ (8 * (8 * k))) → 8 * k + 8 ≤ length l → length l′ ≡ length l
-    → v ≡ y / 2 ^ (8 * (8 * k)) % 2 ^ 64 → Added l₀ l 0 y (8 * k) → Added l₀ l′ 0 y (8 * (k + 1))
-added-low-word l₀ l l′ y k v f h g e p = added-word l₀ l l′ 0 y k v (f ∙ ap (λ (n : ℕ). xor (value 8 l) (v * 2 ^ (8 * n))) (sym (zero-add (8 * k)))) (omega arith) g e p
+pub added-low-word : (l₀ l l′ : List ℕ) (y k v : ℕ) → value 8 l′ ≡ xor (value 8 l) (v * 2 ^ (8 * (8 * k))) → 8 * k + 8 ≤ length l
+    → length l′ ≡ length l → v ≡ y / 2 ^ (8 * (8 * k)) % 2 ^ 64 → Added l₀ l 0 y (8 * k) → Added l₀ l′ 0 y (8 * (k + 1))
+added-low-word l₀ l l′ y k v f h g e p =
+    added-word l₀ l l′ 0 y k v (f ∙ ap (λ (n : ℕ). xor (value 8 l) (v * 2 ^ (8 * n))) (sym (zero-add (8 * k)))) (omega arith) g e p
 
 pub added-low-done : (l₀ l : List ℕ) (y k n : ℕ) → k ≡ n → Added l₀ l 0 y (8 * k) → value 8 l ≡ xor (value 8 l₀) (y % 2 ^ (8 * (8 * n)))
 added-low-done l₀ l y k n e p = p .done ∙ ap (xor (value 8 l₀)) (mul-one (y % 2 ^ (8 * (8 * k))) ∙ ap (λ (m : ℕ). y % 2 ^ (8 * (8 * m))) e)
@@ -95,20 +100,23 @@ next-bits z p q i c v h e = e ∙ ap (λ (n : ℕ). n % 2 ^ c) (ap (λ (n : ℕ)
 pub all-law : (a₀ a y m n : ℕ) → m ≡ n → a ≡ xor a₀ (y / 1 % 2 ^ (8 * m) * 1) → a ≡ xor a₀ (y % 2 ^ (8 * n))
 all-law a₀ a y m n h e = e ∙ ap (xor a₀) (mul-one (y / 1 % 2 ^ (8 * m)) ∙ ap₂ (λ (x k : ℕ). x % 2 ^ (8 * k)) (div-one y) h)
 
-part-law : (a₀ a a′ y i j n v : ℕ) → i + j ≡ n → a ≡ xor a₀ (y % 2 ^ (8 * i)) → v ≡ y / 2 ^ (8 * i) % 2 ^ (8 * j) → a′ ≡ xor a (v * 2 ^ (8 * i)) → a′ ≡ xor a₀ (y % 2 ^ (8 * n))
+part-law : (a₀ a a′ y i j n v : ℕ) → i + j ≡ n → a ≡ xor a₀ (y % 2 ^ (8 * i)) → v ≡ y / 2 ^ (8 * i) % 2 ^ (8 * j)
+    → a′ ≡ xor a (v * 2 ^ (8 * i)) → a′ ≡ xor a₀ (y % 2 ^ (8 * n))
 part-law a₀ a a′ y i j n v h e d f =
-    bytes-law a₀ a a′ 0 y i j n v h (e ∙ ap (xor a₀) (sym (mul-one (y % 2 ^ (8 * i))))) d (rw zero-add f) ∙ ap (xor a₀) (mul-one (y % 2 ^ (8 * n)))
+    bytes-law a₀ a a′ 0 y i j n v h (e ∙ ap (xor a₀) (sym (mul-one (y % 2 ^ (8 * i))))) d (rw zero-add f)
+    ∙ ap (xor a₀) (mul-one (y % 2 ^ (8 * n)))
 
 -- x as it stands: j bytes, and the k that are left
-pub low-law : (x r j k n a₀ a₁ a₂ : ℕ) → r ≡ 8 * j → j + k ≡ n → a₁ ≡ xor a₀ (x % 2 ^ (8 * j)) → a₂ ≡ xor a₁ (x * 1 / 2 ^ r % 2 ^ (8 * k) * 2 ^ (8 * j))
-    → a₂ ≡ xor a₀ (x % 2 ^ (8 * n))
+pub low-law : (x r j k n a₀ a₁ a₂ : ℕ) → r ≡ 8 * j → j + k ≡ n → a₁ ≡ xor a₀ (x % 2 ^ (8 * j))
+    → a₂ ≡ xor a₁ (x * 1 / 2 ^ r % 2 ^ (8 * k) * 2 ^ (8 * j)) → a₂ ≡ xor a₀ (x % 2 ^ (8 * n))
 low-law x r j k n a₀ a₁ a₂ f g e₁ e₂ = part-law a₀ a₁ a₂ x j k n _ g e₁ (ap₂ (λ (y m : ℕ). y / 2 ^ m % 2 ^ (8 * k)) (mul-one x) f) e₂
 
 pub up-none : (a₀ a x s n : ℕ) → s ≡ 0 → a ≡ xor a₀ (x % 2 ^ n) → a ≡ xor a₀ (x * 2 ^ s % 2 ^ n)
 up-none a₀ a x s n z e = e ∙ ap (λ (y : ℕ). xor a₀ (y % 2 ^ n)) (sym (ap (λ (k : ℕ). x * 2 ^ k) z ∙ mul-one x))
 
 -- x moved up by s: i bytes, j bytes that begin with x's bit p, and the k that are left
-pub up-law : (x s p i j k n a₀ a₁ a₂ a₃ : ℕ) → s + p ≡ 8 * i → i + j + k ≡ n → a₁ ≡ xor a₀ (x * 2 ^ s / 1 % 2 ^ (8 * i) * 1) → a₂ ≡ xor a₁ (x / 2 ^ p % 2 ^ (8 * j) * 2 ^ (8 * i))
+pub up-law : (x s p i j k n a₀ a₁ a₂ a₃ : ℕ) → s + p ≡ 8 * i → i + j + k ≡ n → a₁ ≡ xor a₀ (x * 2 ^ s / 1 % 2 ^ (8 * i) * 1)
+    → a₂ ≡ xor a₁ (x / 2 ^ p % 2 ^ (8 * j) * 2 ^ (8 * i))
     → a₃ ≡ xor a₂ (x * 2 ^ s / 2 ^ (8 * (i + j)) % 2 ^ (8 * k) * 2 ^ (8 * (i + j))) → a₃ ≡ xor a₀ (x * 2 ^ s % 2 ^ (8 * n))
 up-law x s p i j k n a₀ a₁ a₂ a₃ h g e₁ e₂ e₃ =
     part-law a₀ a₂ a₃ (x * 2 ^ s) (i + j) k n _ g
@@ -120,8 +128,8 @@ up-law x s p i j k n a₀ a₁ a₂ a₃ h g e₁ e₂ e₃ =
     q = omega arith
 
 -- x moved down by w: j bytes, and the k that are left
-pub down-law : (x w q r j k n a₁ a₂ : ℕ) → q ≡ w → r ≡ w + 8 * j → j + k ≡ n → a₁ ≡ xor 0 (x / 2 ^ q % 2 ^ (8 * j) * 1) → a₂ ≡ xor a₁ (x * 1 / 2 ^ r % 2 ^ (8 * k) * 2 ^ (8 * j))
-    → a₂ ≡ x / 2 ^ w % 2 ^ (8 * n)
+pub down-law : (x w q r j k n a₁ a₂ : ℕ) → q ≡ w → r ≡ w + 8 * j → j + k ≡ n → a₁ ≡ xor 0 (x / 2 ^ q % 2 ^ (8 * j) * 1)
+    → a₂ ≡ xor a₁ (x * 1 / 2 ^ r % 2 ^ (8 * k) * 2 ^ (8 * j)) → a₂ ≡ x / 2 ^ w % 2 ^ (8 * n)
 down-law x w q r j k n a₁ a₂ f h g e₁ e₂ =
     part-law 0 a₁ a₂ (x / 2 ^ w) j k n _ g (e₁ ∙ ap (xor 0) (mul-one (x / 2 ^ q % 2 ^ (8 * j)) ∙ ap (λ (m : ℕ). x / 2 ^ m % 2 ^ (8 * j)) f))
     (next-bits x w r j (8 * k) _ h (ap (λ (m : ℕ). m / 2 ^ r % 2 ^ (8 * k)) (mul-one x))) e₂
@@ -156,10 +164,12 @@ adding-turn l₀ l at v i u b z p =
       within = simp length-set (omega arith);
       left = simp length-set (shr-lt (8 * (length l - (i + 1))) 8 (rw (room h) (p .left)));
       done =
-          ap₂ xor (ap (λ (x : ℕ). value 8 (set l i x)) (xor-is (getD l i 0) (u % 256)) ∙ set-xor 8 l b i (u % 256) h (mod-lt u (pow-pos 8))) (up-bytes (u / 256) i 1)
+          ap₂ xor (ap (λ (x : ℕ). value 8 (set l i x)) (xor-is (getD l i 0) (u % 256)) ∙ set-xor 8 l b i (u % 256) h (mod-lt u (pow-pos 8)))
+          (up-bytes (u / 256) i 1)
           ∙ xor-assoc (value 8 l) (u % 256 * 2 ^ (8 * i)) (u / 256 * 256 * 2 ^ (8 * i))
           ∙ ap (xor (value 8 l)) (sym (xor-shl (8 * i) (u % 256) (u / 256 * 256))
-          ∙ ap (λ (x : ℕ). x * 2 ^ (8 * i)) (xor-comm (u % 256) (u / 256 * 256) ∙ sym (join (u / 256) 8 (u % 256) (mod-lt u (pow-pos 8))) ∙ split u 8))
+          ∙ ap (λ (x : ℕ). x * 2 ^ (8 * i))
+          (xor-comm (u % 256) (u / 256 * 256) ∙ sym (join (u / 256) 8 (u % 256) (mod-lt u (pow-pos 8))) ∙ split u 8))
           ∙ p .done;
     }
   where

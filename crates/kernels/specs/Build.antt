@@ -57,7 +57,8 @@ pub record Putting (t₀ t : List ℕ) (at j n : ℕ) : Type 0 where
   pub before : take at t ≡ take at t₀
   pub done : value 64 (take j (drop at t)) ≡ n
 
-next-word : (t₀ t : List ℕ) (at j v n : ℕ) → at + j < length t → Putting t₀ t at j n → Putting t₀ (set t (at + j) v) at (j + 1) (v * 2 ^ (64 * j) + n)
+next-word : (t₀ t : List ℕ) (at j v n : ℕ) → at + j < length t → Putting t₀ t at j n
+    → Putting t₀ (set t (at + j) v) at (j + 1) (v * 2 ^ (64 * j) + n)
 next-word t₀ t at j v n h p = record {
   before = take-set-le at t (at + j) v (omega arith) ∙ p .before;
   done =
@@ -69,7 +70,8 @@ pub put-start : (t : List ℕ) (at : ℕ) → Putting t t at 0 0
 put-start t at = record { before = refl; done = value-nil 64 }
 
 pub clear-turn : (t₀ t : List ℕ) (at j : ℕ) → at + j < length t → Putting t₀ t at j 0 → Putting t₀ (set t (at + j) 0) at (j + 1) 0
-clear-turn t₀ t at j h p = subst (Putting t₀ (set t (at + j) 0) at (j + 1)) (rw (zero-mul (2 ^ (64 * j))) refl) (next-word t₀ t at j 0 0 h p)
+clear-turn t₀ t at j h p =
+    subst (Putting t₀ (set t (at + j) 0) at (j + 1)) (rw (zero-mul (2 ^ (64 * j))) refl) (next-word t₀ t at j 0 0 h p)
 
 pub put-done : (t₀ t : List ℕ) (at j n : ℕ) → j ≡ 12 → Putting t₀ t at j n → Put t₀ t at n
 unfolding rowAt
@@ -79,8 +81,8 @@ put-done t₀ t at j n e p = record { here = rw e at (p .done); below = same-row
 abbrev pub sums : List ℕ → ℕ → List ℕ → ℕ → ℕ
 sums t from e j = xor (value 64 (take j (drop from t))) (value 64 (take j e))
 
-pub put-turn : (t₀ t e : List ℕ) (from to j : ℕ) → Bounded 64 t → Bounded 64 e → length t ≡ length t₀ → from + 12 ≤ to → to + j < length t → j < 12 → j < length e
-    → Putting t₀ t to j (sums t₀ from e j)
+pub put-turn : (t₀ t e : List ℕ) (from to j : ℕ) → Bounded 64 t → Bounded 64 e → length t ≡ length t₀ → from + 12 ≤ to → to + j < length t
+    → j < 12 → j < length e → Putting t₀ t to j (sums t₀ from e j)
     → Putting t₀ (set t (to + j) (bitXor (getD t (from + j) 0) (getD e j 0))) to (j + 1) (sums t₀ from e (j + 1))
 put-turn t₀ t e from to j d de hl hf ht hj he p =
     subst (Putting t₀ (set t (to + j) v) to (j + 1)) sum-is (next-word t₀ t to j v (sums t₀ from e j) ht p)
@@ -98,24 +100,31 @@ put-turn t₀ t e from to j d de hl hf ht hj he p =
     read : (i : ℕ) → i ≤ 12 → sums t₀ from e i ≡ sums t from e i
     read i h =
         ap (λ (x : ℕ). xor x (value 64 (take i e)))
-        (ap (value 64) (sym (window i from to t₀ (omega arith)) ∙ ap (λ (l : List ℕ). take i (drop from l)) (sym (p .before)) ∙ window i from to t (omega arith)))
+        (ap (value 64) (sym (window i from to t₀ (omega arith)) ∙ ap (λ (l : List ℕ). take i (drop from l)) (sym (p .before))
+        ∙ window i from to t (omega arith)))
 
     long : j < length (drop from t)
     long = rw (length-drop from t) (omega arith)
 
     small : sums t from e j < 2 ^ (64 * j)
-    small = xor-lt (64 * j) _ _ (take-lt 64 (drop from t) (bounded-drop 64 t d from) j (Nat.le-of-lt long)) (take-lt 64 e de j (Nat.le-of-lt he))
+    small =
+        xor-lt (64 * j) _ _ (take-lt 64 (drop from t) (bounded-drop 64 t d from) j (Nat.le-of-lt long))
+        (take-lt 64 e de j (Nat.le-of-lt he))
 
     sum-is : v * 2 ^ (64 * j) + sums t₀ from e j ≡ sums t₀ from e (j + 1)
     sum-is =
-        ap₂ (λ (x y : ℕ). x * 2 ^ (64 * j) + y) (ap (λ (x : ℕ). bitXor x b) (sym (getD-drop from t j 0)) ∙ xor-is a b) (read j (omega arith))
+        ap₂ (λ (x y : ℕ). x * 2 ^ (64 * j) + y) (ap (λ (x : ℕ). bitXor x b) (sym (getD-drop from t j 0)) ∙ xor-is a b)
+        (read j (omega arith))
         ∙ join (xor a b) (64 * j) (sums t from e j) small
-        ∙ rw (xor-shl (64 * j) a b) (sym (read (j + 1) (omega arith) ∙ ap₂ xor (take-xor 64 (drop from t) (bounded-drop 64 t d from) j long) (take-xor 64 e de j he) ∙ simp xors))
+        ∙ rw (xor-shl (64 * j) a b) (sym (read (j + 1) (omega arith)
+        ∙ ap₂ xor (take-xor 64 (drop from t) (bounded-drop 64 t d from) j long) (take-xor 64 e de j he) ∙ simp xors))
 
-pub put-end : (t₀ t e : List ℕ) (from to j : ℕ) → j ≡ 12 → length e ≡ 13 → getD e 12 0 ≡ 0 → Putting t₀ t to j (sums t₀ from e j) → Put t₀ t to (xor (rowAt t₀ from) (value 64 e))
+pub put-end : (t₀ t e : List ℕ) (from to j : ℕ) → j ≡ 12 → length e ≡ 13 → getD e 12 0 ≡ 0 → Putting t₀ t to j (sums t₀ from e j)
+    → Put t₀ t to (xor (rowAt t₀ from) (value 64 e))
 unfolding rowAt
 put-end t₀ t e from to j h he z p =
-    subst (Put t₀ t to) (rw h (ap (xor (value 64 (take 12 (drop from t₀)))) (sym (by-top e he ∙ rw (z, zero-mul, zero-add) refl)))) (put-done t₀ t to j (sums t₀ from e j) h p)
+    subst (Put t₀ t to) (rw h (ap (xor (value 64 (take 12 (drop from t₀)))) (sym (by-top e he ∙ rw (z, zero-mul, zero-add) refl))))
+    (put-done t₀ t to j (sums t₀ from e j) h p)
 
 -- ---- `fill`: b of m rows are there
 pub record Filled (t t′ : List ℕ) (base m e b : ℕ) : Type 0 where
@@ -125,8 +134,8 @@ pub record Filled (t t′ : List ℕ) (base m e b : ℕ) : Type 0 where
 pub fill-start : (t : List ℕ) (base m e : ℕ) → Filled t t base m e 0
 fill-start t base m e = record { fresh = λ i h. absurd (Nat.not-suc-le-zero h); old = λ n h. refl }
 
-pub fill-turn : (t₀ t t′ : List ℕ) (base m e b : ℕ) → b < m → Filled t₀ t base m e b → Put t t′ ((base + m + b) * 12) (xor (rowAt t ((base + b) * 12)) e)
-    → Filled t₀ t′ base m e (b + 1)
+pub fill-turn : (t₀ t t′ : List ℕ) (base m e b : ℕ) → b < m → Filled t₀ t base m e b
+    → Put t t′ ((base + m + b) * 12) (xor (rowAt t ((base + b) * 12)) e) → Filled t₀ t′ base m e (b + 1)
 unfolding row
 fill-turn t₀ t t′ base m e b h f p = record {
   fresh =
@@ -148,12 +157,14 @@ few s m e h = rw e (pow-mono {i = s} {j = 3} (omega arith))
 
 -- ---- `times_x`
 module _ (G : ℕ) (d : Deg G D) where
-  pub times-low : (e : List ℕ) (n : ℕ) → Bounded 64 e → length e ≡ 13 → value 64 e ≡ n * 2 ^ 1 → getD e 12 0 ≡ 0 → value 64 e ≡ rem G D (n * 2)
+  pub times-low : (e : List ℕ) (n : ℕ) → Bounded 64 e → length e ≡ 13 → value 64 e ≡ n * 2 ^ 1 → getD e 12 0 ≡ 0
+      → value 64 e ≡ rem G D (n * 2)
   times-low e n de he h z =
       let s : value 64 e < 2 ^ D = rw (by-top e he, z, zero-mul, zero-add) (low-lt e de he) in
       sym (rem-small G D d (value 64 e) s) ∙ ap (rem G D) h
 
-  pub times-high : (e : List ℕ) (n g : ℕ) → Bounded 64 e → length e ≡ 13 → value 64 e ≡ n * 2 ^ 1 → n < 2 ^ D → (getD e 12 0 ≡ 0 → ⊥) → g ≡ G → xor (value 64 e) g ≡ rem G D (n * 2)
+  pub times-high : (e : List ℕ) (n g : ℕ) → Bounded 64 e → length e ≡ 13 → value 64 e ≡ n * 2 ^ 1 → n < 2 ^ D → (getD e 12 0 ≡ 0 → ⊥)
+      → g ≡ G → xor (value 64 e) g ≡ rem G D (n * 2)
   times-high e n g de he h hn z eg =
       rw (h, eg) (sym (rem-same G D d (n * 2) one))
     where
@@ -179,9 +190,11 @@ module _ (G : ℕ) (d : Deg G D) where
   }
 
   double : (s b : ℕ) → b < 2 ^ s → xor b (2 ^ s) ≡ 2 ^ s + b
-  double s b h = xor-comm b (2 ^ s) ∙ sym (ap (λ (x : ℕ). x + b) (sym (one-mul (2 ^ s))) ∙ join 1 s b h ∙ ap (λ (x : ℕ). xor x b) (one-mul (2 ^ s)))
+  double s b h =
+      xor-comm b (2 ^ s) ∙ sym (ap (λ (x : ℕ). x + b) (sym (one-mul (2 ^ s))) ∙ join 1 s b h ∙ ap (λ (x : ℕ). xor x b) (one-mul (2 ^ s)))
 
-  pub block-turn : (t₀ t t′ : List ℕ) (k s m e e′ : ℕ) → Blocking G t₀ t k s m e → Filled t t′ (k * 16) m e m → e′ ≡ rem G D (e * 2) → Blocking G t₀ t′ k (s + 1) (m * 2) e′
+  pub block-turn : (t₀ t t′ : List ℕ) (k s m e e′ : ℕ) → Blocking G t₀ t k s m e → Filled t t′ (k * 16) m e m → e′ ≡ rem G D (e * 2)
+      → Blocking G t₀ t′ k (s + 1) (m * 2) e′
   block-turn t₀ t t′ k s m e e′ p f h = record {
     power = ap (λ (x : ℕ). x * 2) (p .power) ∙ sym (Nat.pow-suc 2 s) ∙ ap (λ (n : ℕ). 2 ^ n) (sym (add-one s));
     base =
@@ -210,7 +223,8 @@ block-done G t₀ t₁ t k s m e h put p =
     record {
       rows = λ b l. p .rows b (omega arith);
       below = λ n l. p .below n l ∙ put .below (n * 12) (omega arith);
-      further = p .base ∙ ap (λ (x : ℕ). rem G D (x * 2 ^ D)) (ap (λ (x : ℕ). x * 2 ^ (4 * k)) sixteen ∙ sym (pow-add 2 4 (4 * k)) ∙ ap (λ (n : ℕ). 2 ^ n) (four k));
+      further = p .base ∙ ap (λ (x : ℕ). rem G D (x * 2 ^ D))
+          (ap (λ (x : ℕ). x * 2 ^ (4 * k)) sixteen ∙ sym (pow-add 2 4 (4 * k)) ∙ ap (λ (n : ℕ). 2 ^ n) (four k));
     }
   where
     four : (k : ℕ) → 4 + 4 * k ≡ 4 * (k + 1)

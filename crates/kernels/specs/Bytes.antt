@@ -30,7 +30,8 @@ module _ (s : List ℕ) (b : Bounded 8 s) where
       omega arith
     where
       next : (i j : ℕ) → i + 1 ≡ j → value 8 (drop (at + i) s) ≡ value 8 (drop (at + j) s) * 256 + getD s (at + i) 0
-      next i j e = digit-at 8 s (at + i) ∙ ap (λ (n : ℕ). value 8 (drop n s) * 256 + getD s (at + i) 0) (add-assoc at i 1 ∙ ap (λ (n : ℕ). at + n) e)
+      next i j e =
+          digit-at 8 s (at + i) ∙ ap (λ (n : ℕ). value 8 (drop n s) * 256 + getD s (at + i) 0) (add-assoc at i 1 ∙ ap (λ (n : ℕ). at + n) e)
 
   eight-lt : (at : ℕ) → eight s at < 2 ^ 64
   eight-lt at =
@@ -56,7 +57,8 @@ module _ (s : List ℕ) (b : Bounded 8 s) where
 pub word-law : (x at s c : ℕ) → s < 64 → s ≤ c
     → x / 2 ^ (8 * at) % 2 ^ 64 / 2 ^ s + moved (x / 2 ^ (8 * (at + 8)) % 2 ^ c) (63 - s) ≡ x / 2 ^ (8 * at + s) % 2 ^ 64
 word-law x at s c h k =
-    ap (λ (n : ℕ). x / 2 ^ (8 * at) % 2 ^ 64 / 2 ^ s + moved (n % 2 ^ c) (63 - s)) (ap (λ (n : ℕ). x / 2 ^ n) g ∙ sym (shr-shr x (8 * at) 64))
+    ap (λ (n : ℕ). x / 2 ^ (8 * at) % 2 ^ 64 / 2 ^ s + moved (n % 2 ^ c) (63 - s))
+    (ap (λ (n : ℕ). x / 2 ^ n) g ∙ sym (shr-shr x (8 * at) 64))
     ∙ window s h (x / 2 ^ (8 * at)) c k ∙ ap (λ (n : ℕ). n % 2 ^ 64) (shr-shr x (8 * at) s)
   where
     g : 8 * (at + 8) ≡ 8 * at + 64
@@ -64,11 +66,13 @@ word-law x at s c h k =
 
 -- the c bits of x from place `pos` on, out of a word and the byte above
 pub bits-law : (x pos c : ℕ) → c ≤ 64
-    → (x / 2 ^ (8 * (pos / 8)) % 2 ^ 64 / 2 ^ (pos % 8) + moved (x / 2 ^ (8 * (pos / 8 + 8)) % 2 ^ 8) (63 - pos % 8)) * 2 ^ (64 - c) % 2 ^ 64 / 2 ^ (64 - c)
+    → (x / 2 ^ (8 * (pos / 8)) % 2 ^ 64 / 2 ^ (pos % 8) + moved (x / 2 ^ (8 * (pos / 8 + 8)) % 2 ^ 8) (63 - pos % 8)) * 2 ^ (64 - c)
+    % 2 ^ 64 / 2 ^ (64 - c)
     ≡ x / 2 ^ pos % 2 ^ c
 bits-law x pos c h =
     mask _ c h
-    ∙ ap (λ (n : ℕ). n % 2 ^ c) (word-law x (pos / 8) (pos % 8) 8 (omega arith) (omega arith) ∙ ap₂ (λ (m n : ℕ). x / 2 ^ m % 2 ^ n) f (sym e))
+    ∙ ap (λ (n : ℕ). n % 2 ^ c)
+    (word-law x (pos / 8) (pos % 8) 8 (omega arith) (omega arith) ∙ ap₂ (λ (m n : ℕ). x / 2 ^ m % 2 ^ n) f (sym e))
     ∙ mod-mod-pow (x / 2 ^ pos) (64 - c) c
   where
     e : (64 - c) + c ≡ 64

@@ -12,7 +12,8 @@ use Rattle.polynomial.specs.Division.{Deg, deg-is, deg-unique, deg}
 use Rattle.kernels.specs.Value.{Bounded, value-nil, take-more, take-lt}
 
 -- the words above i are 0, and so is word i
-pub degree-next : (r : List ℕ) (i : ℕ) → i < length r → getD r i 0 ≡ 0 → value 64 r ≡ value 64 (take (i + 1) r) → value 64 r ≡ value 64 (take i r)
+pub degree-next : (r : List ℕ) (i : ℕ) → i < length r → getD r i 0 ≡ 0 → value 64 r ≡ value 64 (take (i + 1) r)
+    → value 64 r ≡ value 64 (take i r)
 degree-next r i h z e = e ∙ take-more 64 r i h ∙ rw (z, zero-mul) (zero-add (value 64 (take i r)))
 
 -- there is one below
@@ -36,12 +37,13 @@ zeros-lt x z h =
     let t = word-degree x z h in
     omega (arith, t .1)
 
-pub degree-law : (r : List ℕ) (i : ℕ) → Bounded 64 r → i < length r → (getD r i 0 ≡ 0 → ⊥) → 0 < value 64 r → value 64 r ≡ value 64 (take (i + 1) r)
-    → 64 * i + (63 - leadingZeros 64 (getD r i 0)) ≡ deg (value 64 r)
+pub degree-law : (r : List ℕ) (i : ℕ) → Bounded 64 r → i < length r → (getD r i 0 ≡ 0 → ⊥) → 0 < value 64 r
+    → value 64 r ≡ value 64 (take (i + 1) r) → 64 * i + (63 - leadingZeros 64 (getD r i 0)) ≡ deg (value 64 r)
 degree-law r i b h z p e =
     let t = word-degree (getD r i 0) z (b i) in
     let k : 63 - leadingZeros 64 (getD r i 0) ≡ t .0 = omega (arith, t .1) in
     ap (λ (n : ℕ). 64 * i + n) k
     ∙ deg-unique (value 64 r) (64 * i + t .0) (deg (value 64 r))
-    (sym (shr-shr (value 64 r) (64 * i) (t .0)) ∙ ap (λ (x : ℕ). x / 2 ^ t .0) (ap (λ (x : ℕ). x / 2 ^ (64 * i)) (e ∙ take-more 64 r i h) ∙ high (getD r i 0) (64 * i) (take-lt 64 r b i (omega arith))) ∙ t .2)
+    (sym (shr-shr (value 64 r) (64 * i) (t .0)) ∙ ap (λ (x : ℕ). x / 2 ^ t .0)
+    (ap (λ (x : ℕ). x / 2 ^ (64 * i)) (e ∙ take-more 64 r i h) ∙ high (getD r i 0) (64 * i) (take-lt 64 r b i (omega arith))) ∙ t .2)
     (deg-is (value 64 r) p)

@@ -21,7 +21,8 @@ feed-turn t n A u l p m r r′ e f = record {
   rest = λ G T.
       f .rest G T ∙ ap (λ (x : ℕ). rem G D (xor (x * 2 ^ l) (u * 2 ^ p))) (e .rest G T)
       ∙ rem-shift-add G D (T .deg) l (xor (n * 2 ^ m) (A * 2 ^ p)) (u * 2 ^ p)
-      ∙ ap (rem G D) (ap (λ (x : ℕ). xor x (u * 2 ^ p)) (xor-shl l (n * 2 ^ m) (A * 2 ^ p)) ∙ xor-assoc (n * 2 ^ m * 2 ^ l) (A * 2 ^ p * 2 ^ l) (u * 2 ^ p)
+      ∙ ap (rem G D)
+      (ap (λ (x : ℕ). xor x (u * 2 ^ p)) (xor-shl l (n * 2 ^ m) (A * 2 ^ p)) ∙ xor-assoc (n * 2 ^ m * 2 ^ l) (A * 2 ^ p * 2 ^ l) (u * 2 ^ p)
       ∙ ap₂ xor (mul-assoc n (2 ^ m) (2 ^ l) ∙ ap (λ (x : ℕ). n * x) (sym (pow-add 2 m l)))
       (ap (λ (x : ℕ). xor x (u * 2 ^ p)) (Nat.mul-right-comm A (2 ^ p) (2 ^ l)) ∙ sym (xor-shl p (A * 2 ^ l) u)));
 }
@@ -37,7 +38,8 @@ chunk : (f m q l : ℕ) → q + l ≤ m → f % 2 ^ m / 2 ^ q ≡ xor (f % 2 ^ m
 chunk f m q l h =
     sym (split (f % 2 ^ m / 2 ^ q) l)
     ∙ ap₂ (λ (a b : ℕ). a * 2 ^ l + b) (shr-shr (f % 2 ^ m) q l)
-    (ap (λ (n : ℕ). f % 2 ^ n / 2 ^ q % 2 ^ l) (sym e) ∙ ap (λ (n : ℕ). n % 2 ^ l) (field f (m - q) q) ∙ ap (λ (n : ℕ). f / 2 ^ q % 2 ^ n % 2 ^ l) (sym g) ∙ mod-mod-pow (f / 2 ^ q) (m - q - l) l)
+    (ap (λ (n : ℕ). f % 2 ^ n / 2 ^ q % 2 ^ l) (sym e) ∙ ap (λ (n : ℕ). n % 2 ^ l) (field f (m - q) q)
+    ∙ ap (λ (n : ℕ). f / 2 ^ q % 2 ^ n % 2 ^ l) (sym g) ∙ mod-mod-pow (f / 2 ^ q) (m - q - l) l)
     ∙ join (f % 2 ^ m / 2 ^ (q + l)) l (f / 2 ^ q % 2 ^ l) (mod-lt (f / 2 ^ q) (pow-pos l))
   where
     e : (m - q) + q ≡ m

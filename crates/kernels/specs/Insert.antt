@@ -14,8 +14,8 @@ use Rattle.kernels.specs.Shift.{join, xor-shl}
 use Rattle.kernels.specs.Value.{Bounded, set-xor}
 use Rattle.kernels.specs.Word.{spill}
 
-pub insert-law : (r : List ℕ) (u p : ℕ) → Bounded 64 r → Bounded 64 (set r (p / 64) (bitXor (getD r (p / 64) 0) (u * 2 ^ (p % 64) % 2 ^ 64)))
-    → length r ≡ 13 → p < 768 → u < 2 ^ 64
+pub insert-law : (r : List ℕ) (u p : ℕ) → Bounded 64 r
+    → Bounded 64 (set r (p / 64) (bitXor (getD r (p / 64) 0) (u * 2 ^ (p % 64) % 2 ^ 64))) → length r ≡ 13 → p < 768 → u < 2 ^ 64
     → value 64 (set (set r (p / 64) (bitXor (getD r (p / 64) 0) (u * 2 ^ (p % 64) % 2 ^ 64))) (p / 64 + 1)
     (bitXor (getD (set r (p / 64) (bitXor (getD r (p / 64) 0) (u * 2 ^ (p % 64) % 2 ^ 64))) (p / 64 + 1) 0) (u / 2 / 2 ^ (63 - p % 64))))
     ≡ xor (value 64 r) (u * 2 ^ p)
@@ -23,12 +23,14 @@ insert-law r u p hr hr′ h hp hu =
     ap (λ (x : ℕ). value 64 (set r′ (p / 64 + 1) x)) (xor-is (getD r′ (p / 64 + 1) 0) hi)
     ∙ set-xor 64 r′ hr′ (p / 64 + 1) hi (rw (length-set r (p / 64) (bitXor (getD r (p / 64) 0) lo)) (omega arith)) hi-lt
     ∙ ap (λ (x : ℕ). xor x (hi * 2 ^ (64 * (p / 64 + 1))))
-    (ap (λ (x : ℕ). value 64 (set r (p / 64) x)) (xor-is (getD r (p / 64) 0) lo) ∙ set-xor 64 r hr (p / 64) lo (omega arith) (mod-lt (u * 2 ^ (p % 64)) (pow-pos 64)))
+    (ap (λ (x : ℕ). value 64 (set r (p / 64) x)) (xor-is (getD r (p / 64) 0) lo)
+    ∙ set-xor 64 r hr (p / 64) lo (omega arith) (mod-lt (u * 2 ^ (p % 64)) (pow-pos 64)))
     ∙ xor-assoc (value 64 r) (lo * 2 ^ (64 * (p / 64))) (hi * 2 ^ (64 * (p / 64 + 1)))
     ∙ ap (xor (value 64 r)) (xor-comm (lo * 2 ^ (64 * (p / 64))) (hi * 2 ^ (64 * (p / 64 + 1)))
     ∙ ap (λ (x : ℕ). xor x (lo * 2 ^ (64 * (p / 64)))) (up hi (p / 64))
     ∙ sym (xor-shl (64 * (p / 64)) (hi * 2 ^ 64) lo)
-    ∙ ap (λ (x : ℕ). x * 2 ^ (64 * (p / 64))) (sym (join hi 64 lo (mod-lt (u * 2 ^ (p % 64)) (pow-pos 64))) ∙ spill u (p % 64) (omega arith))
+    ∙ ap (λ (x : ℕ). x * 2 ^ (64 * (p / 64)))
+    (sym (join hi 64 lo (mod-lt (u * 2 ^ (p % 64)) (pow-pos 64))) ∙ spill u (p % 64) (omega arith))
     ∙ mul-assoc u (2 ^ (p % 64)) (2 ^ (64 * (p / 64)))
     ∙ ap (λ (x : ℕ). u * x) (sym (pow-add 2 (p % 64) (64 * (p / 64))) ∙ ap (λ (n : ℕ). 2 ^ n) at-p))
   where

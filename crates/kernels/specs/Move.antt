@@ -34,8 +34,15 @@ shift-turn r₀ r l c i hr h li e s = record {
   fits = carry-lt l (64 - l) (omega arith) (hr i);
   left = drop-next r r₀ i (getD r i 0 * 2 ^ l % 2 ^ 64 + c) (s .left);
   done =
-      rw (take-more-set 64 r i (getD r i 0 * 2 ^ l % 2 ^ 64 + c) li, take-more 64 r₀ i (omega arith), pow-next i, word-up (getD r i 0) l h, ← same-at r r₀ i (s .left))
-      (alg (getD r i 0 % 2 ^ (64 - l) * 2 ^ l) c (getD r i 0 / 2 ^ (64 - l)) (2 ^ (64 * i)) (2 ^ 64) (value 64 (take i r)) (getD r i 0) (2 ^ l) (value 64 (take i r₀))
+      rw (
+        take-more-set 64 r i (getD r i 0 * 2 ^ l % 2 ^ 64 + c) li,
+        take-more 64 r₀ i (omega arith),
+        pow-next i,
+        word-up (getD r i 0) l h,
+        ← same-at r r₀ i (s .left),
+      )
+      (alg (getD r i 0 % 2 ^ (64 - l) * 2 ^ l) c (getD r i 0 / 2 ^ (64 - l)) (2 ^ (64 * i)) (2 ^ 64) (value 64 (take i r)) (getD r i 0)
+      (2 ^ l) (value 64 (take i r₀))
       (s .done) (word-sum (getD r i 0) l (64 - l) (omega arith)));
 }
   where
@@ -45,7 +52,8 @@ shift-turn r₀ r l c i hr h li e s = record {
         ap (λ (n : ℕ). 2 ^ n) f ∙ pow-add 2 (64 * i) 64
 
 -- by a whole word: what is carried is written as it is
-pub shift-word-turn : (r₀ r : List ℕ) (c i : ℕ) → Bounded 64 r → i < length r → length r ≡ length r₀ → Shifted r₀ r 64 c i → Shifted r₀ (set r i c) 64 (getD r i 0) (i + 1)
+pub shift-word-turn : (r₀ r : List ℕ) (c i : ℕ) → Bounded 64 r → i < length r → length r ≡ length r₀ → Shifted r₀ r 64 c i
+    → Shifted r₀ (set r i c) 64 (getD r i 0) (i + 1)
 shift-word-turn r₀ r c i hr li e s =
     let a : getD r i 0 * 2 ^ 64 % 2 ^ 64 + c ≡ c = ap (λ (x : ℕ). x + c) (Nat.mul-mod-left (getD r i 0) (2 ^ 64)) ∙ Nat.zero-add c in
     rw (a, div-one (getD r i 0)) at (shift-turn r₀ r 64 c i hr (omega arith) li e s)
@@ -57,7 +65,8 @@ pub shift-done : (r₀ r : List ℕ) (l c i : ℕ) → length r₀ ≡ 13 → le
     → value 64 (set r 12 c) ≡ value 64 r₀ * 2 ^ l
 shift-done r₀ r l c i h₀ h z e s =
     let f : value 64 (take 12 r) + c * 2 ^ (64 * 12) ≡ value 64 (take 12 r₀) * 2 ^ l = rw e at (s .done) in
-    set-top r c h ∙ Nat.add-comm (c * 2 ^ D) (value 64 (take 12 r)) ∙ ap (λ (x : ℕ). value 64 (take 12 r) + c * x) pow-D ∙ f ∙ rw (by-top r₀ h₀, z, Nat.zero-mul, Nat.zero-add) refl
+    set-top r c h ∙ Nat.add-comm (c * 2 ^ D) (value 64 (take 12 r)) ∙ ap (λ (x : ℕ). value 64 (take 12 r) + c * x) pow-D ∙ f
+    ∙ rw (by-top r₀ h₀, z, Nat.zero-mul, Nat.zero-add) refl
 
 -- ---- by any number of places
 -- the 64 coefficients from x^pos on lie in two words
@@ -84,7 +93,8 @@ row-window r b pos =
 -- the lowest word moved up
 pub first-up : (r : List ℕ) → Bounded 64 r → (s p : ℕ) → p ≤ s → getD r 0 0 * 2 ^ (s - p) % 2 ^ 64 ≡ value 64 r * 2 ^ s / 2 ^ p % 2 ^ 64
 first-up r b s p h =
-    ap (λ (x : ℕ). x * 2 ^ (s - p) % 2 ^ 64) (sym (value-at 64 r (bounded-all 64 r b) 0) ∙ ap (λ (x : ℕ). x % 2 ^ 64) (div-one (value 64 r)))
+    ap (λ (x : ℕ). x * 2 ^ (s - p) % 2 ^ 64)
+    (sym (value-at 64 r (bounded-all 64 r b) 0) ∙ ap (λ (x : ℕ). x % 2 ^ 64) (div-one (value 64 r)))
     ∙ mod-mul-mod (value 64 r) (2 ^ (s - p)) (2 ^ 64) ∙ ap (λ (x : ℕ). x % 2 ^ 64) (sym (up-up (value 64 r) s p h))
 
 -- moved up to degree 768
@@ -97,7 +107,8 @@ pub align-lt : (x w : ℕ) → x < 2 ^ (w + 1) → w ≤ 768 → x * 2 ^ (768 - 
 align-lt x w h l = Nat.lt-of-lt-of-le (shl-lt (w + 1) (768 - w) h) (pow-mono {j = 64 * 13} (omega arith))
 
 -- what is moved down in place: the words from i on are still those of r₀
-pub lower-word : (r₀ r : List ℕ) (s i : ℕ) → Bounded 64 r₀ → Bounded 64 r → drop i r ≡ drop i r₀ → value 64 r / 2 ^ (s + 64 * i) ≡ value 64 r₀ / 2 ^ s / 2 ^ (64 * i)
+pub lower-word : (r₀ r : List ℕ) (s i : ℕ) → Bounded 64 r₀ → Bounded 64 r → drop i r ≡ drop i r₀
+    → value 64 r / 2 ^ (s + 64 * i) ≡ value 64 r₀ / 2 ^ s / 2 ^ (64 * i)
 lower-word r₀ r s i b₀ b e =
     ap (λ (n : ℕ). value 64 r / 2 ^ n) (add-comm s (64 * i)) ∙ sym (shr-shr (value 64 r) (64 * i) s)
     ∙ ap (λ (x : ℕ). x / 2 ^ s) (drop-shr 64 i r b ∙ ap (value 64) e ∙ sym (drop-shr 64 i r₀ b₀))

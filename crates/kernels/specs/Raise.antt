@@ -25,7 +25,9 @@ xor-low a b k = Bits.xor-mod a b k
 -- ---- x moved up by s: its word at place j, and what is carried into it
 module _ (x s j : ℕ) (h : s ≤ 64) where
   above : x * 2 ^ s / 2 ^ j / 2 ^ s ≡ x / 2 ^ j
-  above = shr-shr (x * 2 ^ s) j s ∙ ap (λ (n : ℕ). x * 2 ^ s / 2 ^ n) (add-comm j s) ∙ sym (shr-shr (x * 2 ^ s) s j) ∙ ap (λ (n : ℕ). n / 2 ^ j) (shl-shr x s)
+  above =
+      shr-shr (x * 2 ^ s) j s ∙ ap (λ (n : ℕ). x * 2 ^ s / 2 ^ n) (add-comm j s) ∙ sym (shr-shr (x * 2 ^ s) s j)
+      ∙ ap (λ (n : ℕ). n / 2 ^ j) (shl-shr x s)
 
   whole : (64 - s) + s ≡ 64
   whole = omega arith
@@ -42,7 +44,8 @@ module _ (x s j : ℕ) (h : s ≤ 64) where
   carried-is w e =
       let g : s + (64 - s) ≡ 64 = omega arith in
       ap (λ (n : ℕ). n / 2 ^ (64 - s)) (e ∙ ap (λ (n : ℕ). x / 2 ^ j % 2 ^ n) (sym g)) ∙ field (x / 2 ^ j) s (64 - s)
-      ∙ sym (ap (λ (n : ℕ). n % 2 ^ s) (ap (λ (n : ℕ). x * 2 ^ s / 2 ^ j / 2 ^ n) (sym g) ∙ sym (shr-shr (x * 2 ^ s / 2 ^ j) s (64 - s)) ∙ ap (λ (n : ℕ). n / 2 ^ (64 - s)) above))
+      ∙ sym (ap (λ (n : ℕ). n % 2 ^ s) (ap (λ (n : ℕ). x * 2 ^ s / 2 ^ j / 2 ^ n) (sym g) ∙ sym (shr-shr (x * 2 ^ s / 2 ^ j) s (64 - s))
+      ∙ ap (λ (n : ℕ). n / 2 ^ (64 - s)) above))
 
 -- ---- the loop
 pub record Raised (l₀ l : List ℕ) (b s c i : ℕ) : Type 0 where
@@ -63,7 +66,8 @@ module _ (l₀ l : List ℕ) (b s c i : ℕ) (hs : s < 64) (r : Raised l₀ l b 
   pub raised-fits : (w : ℕ) → w * 2 ^ s % 2 ^ 64 + c < 2 ^ 64
   raised-fits w = word-up-lt w s c (omega arith) (rw (r .carry) (mod-lt (value 8 l₀ * 2 ^ s / 2 ^ (8 * i)) (pow-pos s)))
 
-  pub raised-turn : (l′ : List ℕ) (w x : ℕ) → Bounded 8 l₀ → Bounded 8 l → i + 8 ≤ length l → length l′ ≡ length l → w ≡ value 8 l / 2 ^ (8 * i) % 2 ^ 64 → x ≡ b / 2 ^ (8 * i) % 2 ^ 64
+  pub raised-turn : (l′ : List ℕ) (w x : ℕ) → Bounded 8 l₀ → Bounded 8 l → i + 8 ≤ length l → length l′ ≡ length l
+      → w ≡ value 8 l / 2 ^ (8 * i) % 2 ^ 64 → x ≡ b / 2 ^ (8 * i) % 2 ^ 64
       → l′ ≡ take i l ++ digits 8 8 (bitXor (w * 2 ^ s % 2 ^ 64 + c) x) ++ drop (i + 8) l → Raised l₀ l′ b s (w / 2 / 2 ^ (63 - s)) (i + 8)
   raised-turn l′ w x b₀ b₁ h k e f g = record {
     whole = omega (arith, r .whole);
@@ -88,7 +92,9 @@ module _ (l₀ l : List ℕ) (b s c i : ℕ) (hs : s < 64) (r : Raised l₀ l b 
       put : bitXor (w * 2 ^ s % 2 ^ 64 + c) x ≡ xor (value 8 l₀ * 2 ^ s) b / 2 ^ (8 * i) % 2 ^ 64
       put =
           xor-is (w * 2 ^ s % 2 ^ 64 + c) x ∙ ap₂ xor (word-is (value 8 l₀) s (8 * i) (omega arith) w c same (r .carry)) f
-          ∙ sym (ap (λ (n : ℕ). n % 2 ^ 64) (xor-shr (value 8 l₀ * 2 ^ s) b (8 * i)) ∙ xor-low (value 8 l₀ * 2 ^ s / 2 ^ (8 * i)) (b / 2 ^ (8 * i)) 64)
+          ∙ sym (ap (λ (n : ℕ). n % 2 ^ 64) (xor-shr (value 8 l₀ * 2 ^ s) b (8 * i))
+          ∙ xor-low (value 8 l₀ * 2 ^ s / 2 ^ (8 * i)) (b / 2 ^ (8 * i)) 64)
 
-pub raised-done : (l₀ l : List ℕ) (b s c i : ℕ) → length l ≤ i → Raised l₀ l b s c i → value 8 l ≡ xor (value 8 l₀ * 2 ^ s) b % 2 ^ (8 * length l₀)
+pub raised-done : (l₀ l : List ℕ) (b s c i : ℕ) → length l ≤ i → Raised l₀ l b s c i
+    → value 8 l ≡ xor (value 8 l₀ * 2 ^ s) b % 2 ^ (8 * length l₀)
 raised-done l₀ l b s c i h r = written-done 8 l₀ l (xor (value 8 l₀ * 2 ^ s) b) i (length l₀) h (r .done .same) (r .done)

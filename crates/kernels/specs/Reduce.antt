@@ -41,13 +41,15 @@ top-more t n v m u k h s = go (Nat.eq-or-lt-of-le (s .four))
         absurd (h (omega arith))
     go (inr l) = l
 
-pub top-turn : (t : List ℕ) (n v m m′ u k : ℕ) → k < 4 → m′ ≡ xor m (four t (64 * k) u) → TopLeft t n v m u k → TopLeft t n v m′ (u / 65536) (k + 1)
+pub top-turn : (t : List ℕ) (n v m m′ u k : ℕ) → k < 4 → m′ ≡ xor m (four t (64 * k) u) → TopLeft t n v m u k
+    → TopLeft t n v m′ (u / 65536) (k + 1)
 top-turn t n v m m′ u k h e s = record {
   four = omega arith;
   small = shr-lt (64 - 16 * (k + 1)) 16 (rw w (s .small));
   sum = λ G T.
       rw (e, quarter G t T k u h, x) (xor-assoc m _ _ ∙ ap (xor m) (rem-add2 G D (T .deg) (16 * k) D (u % 65536) (u / 65536 * 2 ^ 16))
-      ∙ ap (λ (y : ℕ). xor m (rem G D (y * 2 ^ (16 * k) * 2 ^ D))) (xor-comm _ _ ∙ sym (join (u / 65536) 16 (u % 65536) (Nat.mod-lt u (omega arith))) ∙ split u 16)
+      ∙ ap (λ (y : ℕ). xor m (rem G D (y * 2 ^ (16 * k) * 2 ^ D)))
+      (xor-comm _ _ ∙ sym (join (u / 65536) 16 (u % 65536) (Nat.mod-lt u (omega arith))) ∙ split u 16)
       ∙ s .sum G T);
 }
   where
@@ -57,10 +59,12 @@ top-turn t n v m m′ u k h e s = record {
     x : u / 65536 * 2 ^ (16 * (k + 1)) ≡ u / 65536 * 2 ^ 16 * 2 ^ (16 * k)
     x =
         let f : 16 * (k + 1) ≡ 16 + 16 * k = omega arith in
-        ap (λ (i : ℕ). u / 65536 * 2 ^ i) f ∙ ap (λ (y : ℕ). u / 65536 * y) (pow-add 2 16 (16 * k)) ∙ sym (Nat.mul-assoc (u / 65536) (2 ^ 16) (2 ^ (16 * k)))
+        ap (λ (i : ℕ). u / 65536 * 2 ^ i) f ∙ ap (λ (y : ℕ). u / 65536 * y) (pow-add 2 16 (16 * k))
+        ∙ sym (Nat.mul-assoc (u / 65536) (2 ^ 16) (2 ^ (16 * k)))
 
 pub top-done : (t : List ℕ) (n v m u k : ℕ) → u ≡ 0 → TopLeft t n v m u k → TopAdded t n v m
-top-done t n v m u k z s G T = sym (xor-zero-r m) ∙ ap (xor m) (sym (rem-zero G D)) ∙ rw (z, Nat.zero-mul (2 ^ (16 * k)), Nat.zero-mul (2 ^ D)) at (s .sum G T)
+top-done t n v m u k z s G T =
+    sym (xor-zero-r m) ∙ ap (xor m) (sym (rem-zero G D)) ∙ rw (z, Nat.zero-mul (2 ^ (16 * k)), Nat.zero-mul (2 ^ D)) at (s .sum G T)
 
 -- ---- the words that are 0 need no copy
 pub zeros : (l : List ℕ) → value 64 l ≡ 0 → l ≡ replicate (length l) 0
@@ -77,9 +81,11 @@ zeros-clear zero (suc f) = value-nil 64
 zeros-clear (suc n) zero = value-nil 64
 zeros-clear (suc n) (suc f) = value-cons 64 0 (take f (replicate n 0)) ∙ rw (zeros-clear n f) refl
 
-pub clear-in : (r : List ℕ) (f : ℕ) → Bounded 64 r → length r ≡ 13 → f ≤ 12 → value 64 r % 2 ^ (64 * f) ≡ 0 → take f (replicate 12 0) ≡ take f (set r 12 0)
+pub clear-in : (r : List ℕ) (f : ℕ) → Bounded 64 r → length r ≡ 13 → f ≤ 12 → value 64 r % 2 ^ (64 * f) ≡ 0
+    → take f (replicate 12 0) ≡ take f (set r 12 0)
 clear-in r f d l h z =
-    zeros (take f (replicate 12 0)) (zeros-clear 12 f) ∙ ap (λ (n : ℕ). replicate n 0) (length-take-le f (replicate 12 0) h ∙ sym (length-take-le f r (omega arith)))
+    zeros (take f (replicate 12 0)) (zeros-clear 12 f)
+    ∙ ap (λ (n : ℕ). replicate n 0) (length-take-le f (replicate 12 0) h ∙ sym (length-take-le f r (omega arith)))
     ∙ sym (zeros (take f r) (take-mod 64 r d f (omega arith) ∙ z)) ∙ sym (take-set-le f r 12 0 h)
 
 pub clear-out : (r v₀ v m : List ℕ) (f : ℕ) → f ≤ 12 → Copied v₀ v (set r 12 0) 12 → take f m ≡ take f v → take f (set r 12 0) ≡ take f m
@@ -92,7 +98,8 @@ pub reduce-law : (t r v₀ v m r′ : List ℕ) → Bounded 64 r → length r �
 reduce-law t r v₀ v m r′ dr hr dr′ hr′ hv hm p q p′ =
     rw (by-top r hr) (record {
       small = rw back (low-lt r′ dr′ hr′);
-      rest = λ G T. back ∙ out ∙ q G T ∙ ap (λ (x : ℕ). xor x (rem G D (getD r 12 0 * 2 ^ D))) in-v ∙ rem-top G D (T .deg) (getD r 12 0) (value 64 (take 12 r)) (low-lt r dr hr);
+      rest = λ G T. back ∙ out ∙ q G T ∙ ap (λ (x : ℕ). xor x (rem G D (getD r 12 0 * 2 ^ D))) in-v
+          ∙ rem-top G D (T .deg) (getD r 12 0) (value 64 (take 12 r)) (low-lt r dr hr);
     })
   where
     in-v : value 64 v ≡ value 64 (take 12 r)
@@ -103,5 +110,6 @@ reduce-law t r v₀ v m r′ dr hr dr′ hr′ hv hm p q p′ =
 
     back : value 64 r′ ≡ value 64 (take 12 r′)
     back =
-        by-top r′ hr′ ∙ ap (λ (x : ℕ). x * 2 ^ D + value 64 (take 12 r′)) (same-at r′ (set r 12 0) 12 (p′ .left) ∙ getD-set-same r 12 0 0 (omega arith))
+        by-top r′ hr′
+        ∙ ap (λ (x : ℕ). x * 2 ^ D + value 64 (take 12 r′)) (same-at r′ (set r 12 0) 12 (p′ .left) ∙ getD-set-same r 12 0 0 (omega arith))
         ∙ rw (Nat.zero-mul (2 ^ D)) (Nat.zero-add (value 64 (take 12 r′)))

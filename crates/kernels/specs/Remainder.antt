@@ -12,7 +12,9 @@ use Rattle.kernels.specs.Shift.{join, whole, xor-shl}
 module _ (g k : ℕ) (d : Deg g k) where
   -- what stands from x^k up is reduced by itself
   pub rem-top : (top low : ℕ) → low < 2 ^ k → xor low (rem g k (top * 2 ^ k)) ≡ rem g k (top * 2 ^ k + low)
-  rem-top top low h = sym (ap (rem g k) (join top k low h) ∙ rem-xor g k d (top * 2 ^ k) low ∙ rw (rem-small g k d low h) (xor-comm (rem g k (top * 2 ^ k)) low))
+  rem-top top low h =
+      sym (ap (rem g k) (join top k low h) ∙ rem-xor g k d (top * 2 ^ k) low
+      ∙ rw (rem-small g k d low h) (xor-comm (rem g k (top * 2 ^ k)) low))
 
   -- of the degree of g: g is taken away once
   pub rem-same : (f : ℕ) → Deg f k → rem g k f ≡ xor f g
@@ -24,14 +26,16 @@ module _ (g k : ℕ) (d : Deg g k) where
 
   -- and more added below
   pub rem-shift-add : (l f b : ℕ) → rem g k (xor (rem g k f * 2 ^ l) b) ≡ rem g k (xor (f * 2 ^ l) b)
-  rem-shift-add l f b = rem-xor g k d (rem g k f * 2 ^ l) b ∙ ap (λ (x : ℕ). xor x (rem g k b)) (rem-shift l f) ∙ sym (rem-xor g k d (f * 2 ^ l) b)
+  rem-shift-add l f b =
+      rem-xor g k d (rem g k f * 2 ^ l) b ∙ ap (λ (x : ℕ). xor x (rem g k b)) (rem-shift l f) ∙ sym (rem-xor g k d (f * 2 ^ l) b)
 
   -- sums
   pub rem-add : (l a b : ℕ) → xor (rem g k (a * 2 ^ l)) (rem g k (b * 2 ^ l)) ≡ rem g k (xor a b * 2 ^ l)
   rem-add l a b = sym (rw (xor-shl l a b) (rem-xor g k d (a * 2 ^ l) (b * 2 ^ l)))
 
   pub rem-four : (l a b c e : ℕ)
-      → xor (rem g k (a * 2 ^ l)) (xor (rem g k (b * 2 ^ l)) (xor (rem g k (c * 2 ^ l)) (rem g k (e * 2 ^ l)))) ≡ rem g k (xor a (xor b (xor c e)) * 2 ^ l)
+      → xor (rem g k (a * 2 ^ l)) (xor (rem g k (b * 2 ^ l)) (xor (rem g k (c * 2 ^ l)) (rem g k (e * 2 ^ l))))
+      ≡ rem g k (xor a (xor b (xor c e)) * 2 ^ l)
   rem-four l a b c e = rw (rem-add l c e, rem-add l b (xor c e)) (rem-add l a (xor b (xor c e)))
 
   pub rem-add2 : (j l a b : ℕ) → xor (rem g k (a * 2 ^ j * 2 ^ l)) (rem g k (b * 2 ^ j * 2 ^ l)) ≡ rem g k (xor a b * 2 ^ j * 2 ^ l)
@@ -62,5 +66,7 @@ rem-low G k s f d h g e =
     let i : s + (k - s) ≡ k = omega arith in
     let j : (k - s) + s ≡ k = omega arith in
     let q : Deg (G / 2 ^ s) (k - s) = shr-shr G s (k - s) ∙ rw i d in
-    let a : rem (G / 2 ^ s * 2 ^ s) ((k - s) + s) (f / 2 ^ s * 2 ^ s) % 2 ^ s ≡ 0 = ap (λ (x : ℕ). x % 2 ^ s) (rem-up (G / 2 ^ s) (k - s) s q (f / 2 ^ s)) ∙ Nat.mul-mod-left (rem (G / 2 ^ s) (k - s) (f / 2 ^ s)) (2 ^ s) in
+    let a : rem (G / 2 ^ s * 2 ^ s) ((k - s) + s) (f / 2 ^ s * 2 ^ s) % 2 ^ s ≡ 0 =
+    ap (λ (x : ℕ). x % 2 ^ s) (rem-up (G / 2 ^ s) (k - s) s q (f / 2 ^ s))
+    ∙ Nat.mul-mod-left (rem (G / 2 ^ s) (k - s) (f / 2 ^ s)) (2 ^ s) in
     rw (whole G s g, whole f s e, j) at a

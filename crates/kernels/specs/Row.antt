@@ -28,7 +28,8 @@ set-top r v h =
 
 pub by-top : (r : List ℕ) → length r ≡ 13 → value 64 r ≡ getD r 12 0 * 2 ^ D + value 64 (take 12 r)
 by-top r h =
-    ap (value 64) (sym (take-all 13 r (omega arith))) ∙ take-more 64 r 12 (omega arith) ∙ ap (λ (x : ℕ). getD r 12 0 * x + value 64 (take 12 r)) (sym pow-D)
+    ap (value 64) (sym (take-all 13 r (omega arith))) ∙ take-more 64 r 12 (omega arith)
+    ∙ ap (λ (x : ℕ). getD r 12 0 * x + value 64 (take 12 r)) (sym pow-D)
 
 pub low-lt : (r : List ℕ) → Bounded 64 r → length r ≡ 13 → value 64 (take 12 r) < 2 ^ D
 low-lt r d h = rw pow-D (take-lt 64 r d 12 (omega arith))

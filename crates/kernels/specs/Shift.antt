@@ -45,7 +45,8 @@ up-up x s p h =
 pub up-all : (x d c : ℕ) → c ≤ d → x * 2 ^ d % 2 ^ c ≡ 0
 up-all x d c h =
     let e : (d - c) + c ≡ d = omega arith in
-    ap (λ (n : ℕ). x * 2 ^ n % 2 ^ c) (sym e) ∙ ap (λ (n : ℕ). n % 2 ^ c) (ap (λ (n : ℕ). x * n) (pow-add 2 (d - c) c) ∙ sym (Nat.mul-assoc x (2 ^ (d - c)) (2 ^ c)))
+    ap (λ (n : ℕ). x * 2 ^ n % 2 ^ c) (sym e)
+    ∙ ap (λ (n : ℕ). n % 2 ^ c) (ap (λ (n : ℕ). x * n) (pow-add 2 (d - c) c) ∙ sym (Nat.mul-assoc x (2 ^ (d - c)) (2 ^ c)))
     ∙ Nat.mul-mod-left (x * 2 ^ (d - c)) (2 ^ c)
 
 -- else its c - d lowest, moved up, which fit a word
@@ -66,5 +67,6 @@ low-less x s k h z =
 -- moved up by l, and a number added at place k
 pub low-fed : (x u l k : ℕ) → x % 2 ^ k ≡ 0 → xor (x * 2 ^ l) (u * 2 ^ k) % 2 ^ k ≡ 0
 low-fed x u l k z =
-    ap (λ (y : ℕ). y % 2 ^ k) (ap (λ (y : ℕ). xor (y * 2 ^ l) (u * 2 ^ k)) (sym (whole x k z)) ∙ ap (λ (y : ℕ). xor y (u * 2 ^ k)) (Nat.mul-right-comm (x / 2 ^ k) (2 ^ k) (2 ^ l))
+    ap (λ (y : ℕ). y % 2 ^ k) (ap (λ (y : ℕ). xor (y * 2 ^ l) (u * 2 ^ k)) (sym (whole x k z))
+    ∙ ap (λ (y : ℕ). xor y (u * 2 ^ k)) (Nat.mul-right-comm (x / 2 ^ k) (2 ^ k) (2 ^ l))
     ∙ sym (xor-shl k (x / 2 ^ k * 2 ^ l) u)) ∙ Nat.mul-mod-left (xor (x / 2 ^ k * 2 ^ l) u) (2 ^ k)

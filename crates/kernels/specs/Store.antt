@@ -22,7 +22,8 @@ word-digit r b k =
 pub last-lt : (r : List ℕ) → Bounded 64 r → (w n m : ℕ) → value 64 r < 2 ^ w → n ≡ w / 64 → w ≤ 8 * m → getD r n 0 < 2 ^ (8 * (m - 8 * n))
 last-lt r b w n m h e k =
     rw (sym (value-at 64 r (bounded-all 64 r b) n))
-    (lt-of-le-of-lt (mod-le (value 64 r / 2 ^ (64 * n)) (2 ^ 64)) (lt-of-lt-of-le (shr-lt (w - 64 * n) (64 * n) (rw o h)) (pow-mono {i = w - 64 * n} {j = 8 * (m - 8 * n)} (omega arith))))
+    (lt-of-le-of-lt (mod-le (value 64 r / 2 ^ (64 * n)) (2 ^ 64))
+    (lt-of-lt-of-le (shr-lt (w - 64 * n) (64 * n) (rw o h)) (pow-mono {i = w - 64 * n} {j = 8 * (m - 8 * n)} (omega arith))))
   where
     o : (w - 64 * n) + 64 * n ≡ w
     o = omega arith
@@ -30,7 +31,8 @@ last-lt r b w n m h e k =
 -- the check bits are added below the data, where nothing stands
 pub under : (d v w m x : ℕ) → d % 2 ^ w ≡ 0 → v < 2 ^ w → w ≤ m → x ≡ xor d (v % 2 ^ m * 1) → x ≡ d + v
 under d v w m x z h k e =
-    e ∙ ap₂ xor whole (mul-one (v % 2 ^ m) ∙ mod-eq-of-lt (lt-of-lt-of-le h (pow-mono {i = w} {j = m} k))) ∙ sym (join (d / 2 ^ w) w v h) ∙ ap (λ (n : ℕ). n + v) (sym whole)
+    e ∙ ap₂ xor whole (mul-one (v % 2 ^ m) ∙ mod-eq-of-lt (lt-of-lt-of-le h (pow-mono {i = w} {j = m} k))) ∙ sym (join (d / 2 ^ w) w v h)
+    ∙ ap (λ (n : ℕ). n + v) (sym whole)
   where
     whole : d ≡ d / 2 ^ w * 2 ^ w
     whole = sym (split d w) ∙ rw z (add-zero (d / 2 ^ w * 2 ^ w))

@@ -26,7 +26,9 @@ add-turn k n r A j hr ha lr la e =
 
 -- ---- four rows, added word by word
 unfoldable pub rows-of : List ℕ → ℕ → ℕ → ℕ → ℕ → ℕ → ℕ
-rows-of t a b c e j = xor (value 64 (take j (drop a t))) (xor (value 64 (take j (drop b t))) (xor (value 64 (take j (drop c t))) (value 64 (take j (drop e t)))))
+rows-of t a b c e j =
+    xor (value 64 (take j (drop a t)))
+    (xor (value 64 (take j (drop b t))) (xor (value 64 (take j (drop c t))) (value 64 (take j (drop e t)))))
 
 pub rows-start : (t : List ℕ) (a b c e f n : ℕ) → Clear t a f → Clear t b f → Clear t c f → Clear t e f → n ≡ xor n (rows-of t a b c e f)
 unfolding rows-of
@@ -34,14 +36,17 @@ rows-start t a b c e f n ha hb hc he = sym (rw (ha, hb, hc, he) (simp xors))
 
 pub rows-turn : (t : List ℕ) (a b c e n : ℕ) (v : List ℕ) (j : ℕ) → Bounded 64 v → Bounded 64 t
     → j < length v → a + j < length t → b + j < length t → c + j < length t → e + j < length t → value 64 v ≡ xor n (rows-of t a b c e j)
-    → value 64 (set v j (bitXor (bitXor (bitXor (bitXor (getD v j 0) (getD t (a + j) 0)) (getD t (b + j) 0)) (getD t (c + j) 0)) (getD t (e + j) 0))) ≡ xor n (rows-of t a b c e (j + 1))
+    → value 64
+    (set v j (bitXor (bitXor (bitXor (bitXor (getD v j 0) (getD t (a + j) 0)) (getD t (b + j) 0)) (getD t (c + j) 0)) (getD t (e + j) 0)))
+    ≡ xor n (rows-of t a b c e (j + 1))
 unfolding rows-of
 rows-turn t a b c e n v j hv ht lv la lb lc le s =
     ap (λ (x : ℕ). value 64 (set v j x)) (shape (getD v j 0) (getD t (a + j) 0) (getD t (b + j) 0) (getD t (c + j) 0) (getD t (e + j) 0))
     ∙ set-xor 64 v hv j _ lv (xor-lt 64 _ _ (ht (a + j)) (xor-lt 64 _ _ (ht (b + j)) (xor-lt 64 _ _ (ht (c + j)) (ht (e + j)))))
     ∙ rw (s, more a la, more b lb, more c lc, more e le) (simp (xor-shl, xors))
   where
-    more : (i : ℕ) → i + j < length t → value 64 (take (j + 1) (drop i t)) ≡ xor (getD t (i + j) 0 * 2 ^ (64 * j)) (value 64 (take j (drop i t)))
+    more : (i : ℕ) → i + j < length t
+        → value 64 (take (j + 1) (drop i t)) ≡ xor (getD t (i + j) 0 * 2 ^ (64 * j)) (value 64 (take j (drop i t)))
     more i l =
         take-xor 64 (drop i t) (bounded-drop 64 t ht i) j (rw (length-drop i t) (omega arith))
         ∙ ap (λ (x : ℕ). xor (x * 2 ^ (64 * j)) (value 64 (take j (drop i t)))) (getD-drop i t j 0)
@@ -49,7 +54,8 @@ rows-turn t a b c e n v j hv ht lv la lb lc le s =
     shape : (x a b c f : ℕ) → bitXor (bitXor (bitXor (bitXor x a) b) c) f ≡ xor x (xor a (xor b (xor c f)))
     shape x a b c f = simp (xor-is, xor-assoc)
 
-pub rows-done : (t : List ℕ) (a b c e n m j : ℕ) → j ≡ 12 → m ≡ xor n (rows-of t a b c e j) → m ≡ xor n (xor (rowAt t a) (xor (rowAt t b) (xor (rowAt t c) (rowAt t e))))
+pub rows-done : (t : List ℕ) (a b c e n m j : ℕ) → j ≡ 12 → m ≡ xor n (rows-of t a b c e j)
+    → m ≡ xor n (xor (rowAt t a) (xor (rowAt t b) (xor (rowAt t c) (rowAt t e))))
 unfolding rows-of rowAt
 rows-done t a b c e n m j h s = rw h at s
 

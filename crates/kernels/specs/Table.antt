@@ -39,10 +39,13 @@ pub record Table (G : ℕ) (t : List ℕ) : Type 0 where
   pub rows : (n : ℕ) → n < 256 → row t n ≡ rem G D (hex n * 2 ^ D)
 
 unfoldable pub four : List ℕ → ℕ → ℕ → ℕ
-four t base v = xor (row t (base + v % 16)) (xor (row t (base + 16 + v / 16 % 16)) (xor (row t (base + 32 + v / 256 % 16)) (row t (base + 48 + v / 4096 % 16))))
+four t base v =
+    xor (row t (base + v % 16))
+    (xor (row t (base + 16 + v / 16 % 16)) (xor (row t (base + 32 + v / 256 % 16)) (row t (base + 48 + v / 4096 % 16))))
 
 pub four-at : (t : List ℕ) (k v : ℕ)
-    → xor (rowAt t (k * 768 + v % 16 * 12)) (xor (rowAt t (k * 768 + 192 + v / 16 % 16 * 12)) (xor (rowAt t (k * 768 + 384 + v / 256 % 16 * 12)) (rowAt t (k * 768 + 576 + v / 4096 % 16 * 12))))
+    → xor (rowAt t (k * 768 + v % 16 * 12)) (xor (rowAt t (k * 768 + 192 + v / 16 % 16 * 12))
+    (xor (rowAt t (k * 768 + 384 + v / 256 % 16 * 12)) (rowAt t (k * 768 + 576 + v / 4096 % 16 * 12))))
     ≡ four t (64 * k) v
 unfolding four row
 four-at t k v =
@@ -74,11 +77,13 @@ moved-up g s t T = record { G = g * 2 ^ s; table = T; low = Nat.mul-mod-left g (
 pub moved-less : (t : List ℕ) (s k : ℕ) → k ≤ s → MovedUp t s → MovedUp t k
 moved-less t s k h M = record { G = M .G; table = M .table; low = low-less (M .G) s k h (M .low) }
 
-pub row-clear : (t : List ℕ) (f : ℕ) → MovedUp t (64 * f) → Bounded 64 t → length t ≡ 3072 → f ≤ 12 → (n at : ℕ) → n < 256 → at ≡ n * 12 → Clear t at f
+pub row-clear : (t : List ℕ) (f : ℕ) → MovedUp t (64 * f) → Bounded 64 t → length t ≡ 3072 → f ≤ 12 → (n at : ℕ) → n < 256 → at ≡ n * 12
+    → Clear t at f
 unfolding row rowAt
 row-clear t f M d l h n at i e =
     rw e (ap (value 64) (sym (take-take f 12 (drop (n * 12) t) h))
-    ∙ take-mod 64 (take 12 (drop (n * 12) t)) (bounded-take 64 (drop (n * 12) t) (bounded-drop 64 t d (n * 12)) 12) f (rw (length-take-le 12 (drop (n * 12) t) (rw (length-drop (n * 12) t) (omega arith))) h)
+    ∙ take-mod 64 (take 12 (drop (n * 12) t)) (bounded-take 64 (drop (n * 12) t) (bounded-drop 64 t d (n * 12)) 12) f
+    (rw (length-take-le 12 (drop (n * 12) t) (rw (length-drop (n * 12) t) (omega arith))) h)
     ∙ ap (λ (x : ℕ). x % 2 ^ (64 * f)) (M .table .rows n i)
     ∙ rem-low (M .G) D (64 * f) (hex n * 2 ^ D) (M .table .deg) k (M .low) (up-all (hex n) D (64 * f) k))
   where
@@ -93,10 +98,12 @@ pub reduced-low : (t : List ℕ) (s v r : ℕ) → s < 768 → MovedUp t s → v
 reduced-low t s v r h M z q =
     ap (λ (x : ℕ). x % 2 ^ s) (q .rest (M .G) (M .table)) ∙ rem-low (M .G) D s v (M .table .deg) (omega (arith, D-is)) (M .low) z
 
-row-at : (G : ℕ) (t : List ℕ) → Table G t → (s k i b n : ℕ) → n ≡ 16 * k + b → k < 16 → b < 16 → 4 * k ≡ i + s → row t n ≡ rem G D (b * 2 ^ i * 2 ^ s * 2 ^ D)
+row-at : (G : ℕ) (t : List ℕ) → Table G t → (s k i b n : ℕ) → n ≡ 16 * k + b → k < 16 → b < 16 → 4 * k ≡ i + s
+    → row t n ≡ rem G D (b * 2 ^ i * 2 ^ s * 2 ^ D)
 row-at G t T s k i b n e hk hb f =
     ap (row t) e ∙ T .rows (16 * k + b) (omega arith)
-    ∙ ap (λ (x : ℕ). rem G D (x * 2 ^ D)) (hex-at k b hb ∙ ap (λ (m : ℕ). b * 2 ^ m) f ∙ ap (λ (m : ℕ). b * m) (pow-add 2 i s) ∙ sym (mul-assoc b (2 ^ i) (2 ^ s)))
+    ∙ ap (λ (x : ℕ). rem G D (x * 2 ^ D))
+    (hex-at k b hb ∙ ap (λ (m : ℕ). b * 2 ^ m) f ∙ ap (λ (m : ℕ). b * m) (pow-add 2 i s) ∙ sym (mul-assoc b (2 ^ i) (2 ^ s)))
 
 digits4 : (v : ℕ) → xor (v % 16 * 2 ^ 0) (xor (v / 16 % 16 * 2 ^ 4) (xor (v / 256 % 16 * 2 ^ 8) (v / 4096 % 16 * 2 ^ 12))) ≡ v % 65536
 digits4 v =
@@ -113,7 +120,8 @@ quarter G t T q v h =
     (ap₂ xor (row-at G t T (16 * q) (4 * q + 1) 4 (v / 16 % 16) _ (omega arith) (omega arith) (omega arith) (omega arith))
     (ap₂ xor (row-at G t T (16 * q) (4 * q + 2) 8 (v / 256 % 16) _ (omega arith) (omega arith) (omega arith) (omega arith))
     (row-at G t T (16 * q) (4 * q + 3) 12 (v / 4096 % 16) _ (omega arith) (omega arith) (omega arith) (omega arith))))
-    ∙ rem-four G D (T .deg) D (v % 16 * 2 ^ 0 * 2 ^ (16 * q)) (v / 16 % 16 * 2 ^ 4 * 2 ^ (16 * q)) (v / 256 % 16 * 2 ^ 8 * 2 ^ (16 * q)) (v / 4096 % 16 * 2 ^ 12 * 2 ^ (16 * q))
+    ∙ rem-four G D (T .deg) D (v % 16 * 2 ^ 0 * 2 ^ (16 * q)) (v / 16 % 16 * 2 ^ 4 * 2 ^ (16 * q)) (v / 256 % 16 * 2 ^ 8 * 2 ^ (16 * q))
+    (v / 4096 % 16 * 2 ^ 12 * 2 ^ (16 * q))
     ∙ ap (λ (x : ℕ). rem G D (x * 2 ^ D)) (sym (simp xor-shl) ∙ ap (λ (x : ℕ). x * 2 ^ (16 * q)) (digits4 v))
 
 -- ---- a generator g of any degree w, moved up by s to degree 768
@@ -126,5 +134,6 @@ lowered t s f r h q =
     let e : (D - s) + s ≡ D = omega (arith, D-is) in
     record {
       small = shr-lt (D - s) s (rw e (q .small));
-      rest = λ g w d k T. ap (λ (x : ℕ). x / 2 ^ s) (q .rest (g * 2 ^ s) T ∙ ap (λ (n : ℕ). rem (g * 2 ^ s) n (f * 2 ^ s)) (sym k)) ∙ rem-down g w s d f;
+      rest = λ g w d k T.
+          ap (λ (x : ℕ). x / 2 ^ s) (q .rest (g * 2 ^ s) T ∙ ap (λ (n : ℕ). rem (g * 2 ^ s) n (f * 2 ^ s)) (sym k)) ∙ rem-down g w s d f;
     }

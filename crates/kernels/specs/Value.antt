@@ -3,7 +3,8 @@
 use mathlib.Core.Path.{_≡_, refl, sym, ap, ap₂, _∙_}
 use mathlib.Core.List.{List, [], _∷_, _++_}
 use Prim.Native.Nat.{ℕ, zero, suc, _+_, _*_, _/_, _%_, _^_, _≤_, _<_, zero-le, suc-le-suc}
-use native.Mathlib.Nat.{add-zero, zero-add, zero-mul, mul-one, mul-zero, mul-assoc, add-mul, add-assoc, add-comm, not-suc-le-zero, le-of-suc-le-suc, mul-suc, pow-zero, div-one}
+use native.Mathlib.Nat.{add-zero, zero-add, zero-mul, mul-one, mul-zero, mul-assoc, add-mul, add-assoc}
+use native.Mathlib.Nat.{add-comm, not-suc-le-zero, le-of-suc-le-suc, mul-suc, pow-zero, div-one}
 use native.Mathlib.Numerals.{add-one, one-add}
 use native.Mathlib.Omega.{arith}
 use lib.Arith.{digits-lt, digits-div}
@@ -91,7 +92,8 @@ module _ (w : ℕ) where
   take-mod l b i h = sym (ap (λ (n : ℕ). n % 2 ^ (w * i)) (value-split i l h) ∙ low (value w (drop i l)) (w * i) (take-lt l b i h))
 
   -- ---- sums
-  pub take-xor : (l : List ℕ) → Bounded l → (i : ℕ) → i < length l → value w (take (i + 1) l) ≡ xor (getD l i 0 * 2 ^ (w * i)) (value w (take i l))
+  pub take-xor : (l : List ℕ) → Bounded l → (i : ℕ) → i < length l
+      → value w (take (i + 1) l) ≡ xor (getD l i 0 * 2 ^ (w * i)) (value w (take i l))
   take-xor l b i h = take-more l i h ∙ join (getD l i 0) (w * i) (value w (take i l)) (take-lt l b i (omega arith))
 
   -- one digit has x added
@@ -122,7 +124,8 @@ module _ (w : ℕ) where
   pub digit-at : (l : List ℕ) (i : ℕ) → value w (drop i l) ≡ value w (drop (i + 1) l) * 2 ^ w + getD l i 0
   digit-at l i =
       let z : i + 0 ≡ i = omega arith in
-      first-digit (drop i l) ∙ ap₂ (λ (m : List ℕ) (n : ℕ). value w m * 2 ^ w + n) (drop-drop 1 i l) (getD-drop i l 0 0 ∙ ap (λ (n : ℕ). getD l n 0) z)
+      first-digit (drop i l)
+      ∙ ap₂ (λ (m : List ℕ) (n : ℕ). value w m * 2 ^ w + n) (drop-drop 1 i l) (getD-drop i l 0 0 ∙ ap (λ (n : ℕ). getD l n 0) z)
 
 -- ---- a loop that writes from the front leaves what lies ahead
 pub drop-next : (r r₀ : List ℕ) (i v : ℕ) → drop i r ≡ drop i r₀ → drop (i + 1) (set r i v) ≡ drop (i + 1) r₀
@@ -131,4 +134,5 @@ drop-next r r₀ i v e = drop-set-lt (i + 1) r i v (omega arith) ∙ sym (drop-d
 pub same-at : (r r₀ : List ℕ) (i : ℕ) → drop i r ≡ drop i r₀ → getD r i 0 ≡ getD r₀ i 0
 same-at r r₀ i e =
     let z : i + 0 ≡ i = omega arith in
-    ap (λ (n : ℕ). getD r n 0) (sym z) ∙ sym (getD-drop i r 0 0) ∙ ap (λ (l : List ℕ). getD l 0 0) e ∙ getD-drop i r₀ 0 0 ∙ ap (λ (n : ℕ). getD r₀ n 0) z
+    ap (λ (n : ℕ). getD r n 0) (sym z) ∙ sym (getD-drop i r 0 0) ∙ ap (λ (l : List ℕ). getD l 0 0) e ∙ getD-drop i r₀ 0 0
+    ∙ ap (λ (n : ℕ). getD r₀ n 0) z

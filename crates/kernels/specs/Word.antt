@@ -29,7 +29,8 @@ moved-is x m j e =
 -- what a word takes in from below fits
 pub moved-lt : (x m j c : ℕ) → j + suc m ≡ 64 → c < 2 ^ suc m → moved x m + c < 2 ^ 64
 moved-lt x m j c e h =
-    subst (λ (n : ℕ). moved x m + c < n) (sym (pow64 j (suc m) e)) (rw (moved-is x m j e, pow-add 2 j (suc m)) (digits-lt (mod-lt x (pow-pos j)) h))
+    subst (λ (n : ℕ). moved x m + c < n) (sym (pow64 j (suc m) e))
+    (rw (moved-is x m j e, pow-add 2 j (suc m)) (digits-lt (mod-lt x (pow-pos j)) h))
 
 -- by l in one step
 pub word-up : (x l : ℕ) → l ≤ 64 → x * 2 ^ l % 2 ^ 64 ≡ x % 2 ^ (64 - l) * 2 ^ l
@@ -38,7 +39,8 @@ word-up x l h = ap (λ (n : ℕ). x * 2 ^ l % n) (pow64 (64 - l) l (omega arith)
 pub word-up-lt : (x l c : ℕ) → l ≤ 64 → c < 2 ^ l → x * 2 ^ l % 2 ^ 64 + c < 2 ^ 64
 word-up-lt x l c h k =
     let e : (64 - l) + l ≡ 64 = omega arith in
-    rw (word-up x l h) (subst (λ (n : ℕ). x % 2 ^ (64 - l) * 2 ^ l + c < n) (sym (pow64 (64 - l) l e)) (rw (pow-add 2 (64 - l) l) (digits-lt (mod-lt x (pow-pos (64 - l))) k)))
+    rw (word-up x l h) (subst (λ (n : ℕ). x % 2 ^ (64 - l) * 2 ^ l + c < n) (sym (pow64 (64 - l) l e))
+    (rw (pow-add 2 (64 - l) l) (digits-lt (mod-lt x (pow-pos (64 - l))) k)))
 
 -- the word as a sum: what stays and what is carried on
 pub word-sum : (x l h : ℕ) → h + l ≡ 64 → x % 2 ^ h * 2 ^ l + x / 2 ^ h * 2 ^ 64 ≡ x * 2 ^ l
@@ -53,7 +55,8 @@ carry-lt {x} l h e b = shr-lt l h (rw (add-comm l h, e) b)
 -- the part of u that passes into the next word, u moved up by s
 pub spill : (u s : ℕ) → s < 64 → u / 2 / 2 ^ (63 - s) * 2 ^ 64 + u * 2 ^ s % 2 ^ 64 ≡ u * 2 ^ s
 spill u s h =
-    ap₂ (λ (x y : ℕ). x * 2 ^ 64 + y) (shr-shr u 1 (63 - s) ∙ ap (λ (n : ℕ). u / 2 ^ n) o) (ap (λ (n : ℕ). u * 2 ^ s % n) (pow64 (64 - s) s e) ∙ up-mod u (64 - s) s)
+    ap₂ (λ (x y : ℕ). x * 2 ^ 64 + y) (shr-shr u 1 (63 - s) ∙ ap (λ (n : ℕ). u / 2 ^ n) o)
+    (ap (λ (n : ℕ). u * 2 ^ s % n) (pow64 (64 - s) s e) ∙ up-mod u (64 - s) s)
     ∙ add-comm (u / 2 ^ (64 - s) * 2 ^ 64) (u % 2 ^ (64 - s) * 2 ^ s) ∙ word-sum u s (64 - s) e
   where
     e : (64 - s) + s ≡ 64
@@ -90,4 +93,5 @@ module _ (s : ℕ) (h : s < 64) where
       e = omega arith
 
   pub window-lt : (y b : ℕ) → y < 2 ^ 64 → y / 2 ^ s + moved b (63 - s) < 2 ^ 64
-  window-lt y b hy = rw (add-comm (y / 2 ^ s) (moved b (63 - s))) (moved-lt b (63 - s) s (y / 2 ^ s) below (shr-lt (suc (63 - s)) s (rw above hy)))
+  window-lt y b hy =
+      rw (add-comm (y / 2 ^ s) (moved b (63 - s))) (moved-lt b (63 - s) s (y / 2 ^ s) below (shr-lt (suc (63 - s)) s (rw above hy)))

@@ -14,23 +14,29 @@ use Rattle.kernels.specs.Value.{take-more-set, value-append, value-nil}
 
 -- ---- the eight bytes of a word
 eight-digits : (v : ℕ)
-    → v % 256 ∷ v / 256 % 256 ∷ v / 65536 % 256 ∷ v / 16777216 % 256 ∷ v / 4294967296 % 256 ∷ v / 1099511627776 % 256 ∷ v / 281474976710656 % 256 ∷ v / 72057594037927936 % 256 ∷ []
+    → v % 256 ∷ v / 256 % 256 ∷ v / 65536 % 256 ∷ v / 16777216 % 256 ∷ v / 4294967296 % 256 ∷ v / 1099511627776 % 256
+    ∷ v / 281474976710656 % 256 ∷ v / 72057594037927936 % 256 ∷ []
     ≡ digits 8 8 v
 unfolding digits
 eight-digits v = simp div-div-eq-div-mul
 
 pub put-law : (l : List ℕ) (at v : ℕ) → at + 8 ≤ length l
-    → set (set (set (set (set (set (set (set l at (v % 256)) (at + 1) (v / 256 % 256)) (at + 2) (v / 65536 % 256)) (at + 3) (v / 16777216 % 256))
-    (at + 4) (v / 4294967296 % 256)) (at + 5) (v / 1099511627776 % 256)) (at + 6) (v / 281474976710656 % 256)) (at + 7) (v / 72057594037927936 % 256)
+    → set
+    (set (set (set (set (set (set (set l at (v % 256)) (at + 1) (v / 256 % 256)) (at + 2) (v / 65536 % 256)) (at + 3) (v / 16777216 % 256))
+    (at + 4) (v / 4294967296 % 256)) (at + 5) (v / 1099511627776 % 256)) (at + 6) (v / 281474976710656 % 256))
+    (at + 7) (v / 72057594037927936 % 256)
     ≡ take at l ++ digits 8 8 v ++ drop (at + 8) l
 put-law l at v h = stores ∙ sets-eq eight l at h ∙ ap (λ (m : List ℕ). take at l ++ m ++ drop (at + 8) l) (eight-digits v)
   where
     eight : List ℕ
     eight =
-        v % 256 ∷ v / 256 % 256 ∷ v / 65536 % 256 ∷ v / 16777216 % 256 ∷ v / 4294967296 % 256 ∷ v / 1099511627776 % 256 ∷ v / 281474976710656 % 256 ∷ v / 72057594037927936 % 256 ∷ []
+        v % 256 ∷ v / 256 % 256 ∷ v / 65536 % 256 ∷ v / 16777216 % 256 ∷ v / 4294967296 % 256 ∷ v / 1099511627776 % 256
+        ∷ v / 281474976710656 % 256 ∷ v / 72057594037927936 % 256 ∷ []
 
-    stores : set (set (set (set (set (set (set (set l at (v % 256)) (at + 1) (v / 256 % 256)) (at + 2) (v / 65536 % 256)) (at + 3) (v / 16777216 % 256))
-        (at + 4) (v / 4294967296 % 256)) (at + 5) (v / 1099511627776 % 256)) (at + 6) (v / 281474976710656 % 256)) (at + 7) (v / 72057594037927936 % 256) ≡ sets l at eight
+    stores : set (set
+        (set (set (set (set (set (set l at (v % 256)) (at + 1) (v / 256 % 256)) (at + 2) (v / 65536 % 256)) (at + 3) (v / 16777216 % 256))
+        (at + 4) (v / 4294967296 % 256)) (at + 5) (v / 1099511627776 % 256)) (at + 6) (v / 281474976710656 % 256))
+        (at + 7) (v / 72057594037927936 % 256) ≡ sets l at eight
     stores = simp towards-suc
 
 module _ (l l′ : List ℕ) (at v : ℕ) (h : at + 8 ≤ length l) (e : l′ ≡ take at l ++ digits 8 8 v ++ drop (at + 8) l) where
@@ -60,7 +66,8 @@ written-done w l₀ l y i n h k p =
     let e : i ≡ n = omega arith in
     ap (value w) (sym (take-all i l h)) ∙ p .done ∙ ap (λ (m : ℕ). y % 2 ^ (w * m)) e
 
-pub written-digit : (w : ℕ) (l₀ l : List ℕ) (y i v : ℕ) → i < length l → v ≡ y / 2 ^ (w * i) % 2 ^ w → Written w l₀ l y i → Written w l₀ (set l i v) y (i + 1)
+pub written-digit : (w : ℕ) (l₀ l : List ℕ) (y i v : ℕ) → i < length l → v ≡ y / 2 ^ (w * i) % 2 ^ w → Written w l₀ l y i
+    → Written w l₀ (set l i v) y (i + 1)
 written-digit w l₀ l y i v h e p = record {
   within = simp length-set (omega arith);
   same = length-set l i v ∙ p .same;
@@ -69,8 +76,8 @@ written-digit w l₀ l y i v h e p = record {
       ∙ ap (λ (n : ℕ). y % 2 ^ n) (add-comm w (w * i) ∙ sym (mul-suc w i) ∙ ap (λ (n : ℕ). w * n) (sym (add-one i)));
 }
 
-pub written-word : (l₀ l l′ : List ℕ) (y i v : ℕ) → i + 8 ≤ length l → length l′ ≡ length l → l′ ≡ take i l ++ digits 8 8 v ++ drop (i + 8) l
-    → v ≡ y / 2 ^ (8 * i) % 2 ^ 64 → Written 8 l₀ l y i → Written 8 l₀ l′ y (i + 8)
+pub written-word : (l₀ l l′ : List ℕ) (y i v : ℕ) → i + 8 ≤ length l → length l′ ≡ length l
+    → l′ ≡ take i l ++ digits 8 8 v ++ drop (i + 8) l → v ≡ y / 2 ^ (8 * i) % 2 ^ 64 → Written 8 l₀ l y i → Written 8 l₀ l′ y (i + 8)
 written-word l₀ l l′ y i v h k f e p = record {
   within = omega arith;
   same = k ∙ p .same;

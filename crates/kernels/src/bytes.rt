@@ -73,7 +73,8 @@ fn fewer(a: usize, b: usize) -> usize
 // `count` words of x · x^up, from x^pos on, are added from byte `from` on.
 fn add_words(acc: &mut [u8], from: usize, x: &[u8], up: usize, pos: usize, count: usize)
     requires { ⌜ (from + 8 * count ≤ length (now acc)) × (pos + 64 * count < 1000000) ⌝ }
-    ensures { λ r. ⌜ value 8 (now (acc .exit)) ≡ xor (value 8 (now (acc .entry))) (value 8 (now (x .entry)) * 2 ^ up / 2 ^ pos % 2 ^ (8 * (8 * count)) * 2 ^ (8 * from)) ⌝ }
+    ensures { λ r. ⌜ value 8 (now (acc .exit))
+        ≡ xor (value 8 (now (acc .entry))) (value 8 (now (x .entry)) * 2 ^ up / 2 ^ pos % 2 ^ (8 * (8 * count)) * 2 ^ (8 * from)) ⌝ }
 {
     let mut k: usize = 0;
     while k < count {
@@ -83,10 +84,12 @@ fn add_words(acc: &mut [u8], from: usize, x: &[u8], up: usize, pos: usize, count
     }
 }
 
-// `count` words of x, from bit sh of byte `at` on, are added from byte `from` on; 8 bytes of x follow them. No test in the loop: compiled, it takes two words at a time.
+// `count` words of x, from bit sh of byte `at` on, are added from byte `from` on; 8 bytes of x follow them.
+// No test in the loop: compiled, it takes two words at a time.
 fn add_windows(acc: &mut [u8], from: usize, x: &[u8], at: usize, sh: usize, count: usize)
     requires { ⌜ (from + 8 * count ≤ length (now acc)) × (8 * count ≤ length (now x) - (at + 8)) × (sh < 64) ⌝ }
-    ensures { λ r. ⌜ value 8 (now (acc .exit)) ≡ xor (value 8 (now (acc .entry))) (value 8 (now (x .entry)) / 2 ^ (8 * at + sh) % 2 ^ (8 * (8 * count)) * 2 ^ (8 * from)) ⌝ }
+    ensures { λ r. ⌜ value 8 (now (acc .exit))
+        ≡ xor (value 8 (now (acc .entry))) (value 8 (now (x .entry)) / 2 ^ (8 * at + sh) % 2 ^ (8 * (8 * count)) * 2 ^ (8 * from)) ⌝ }
 {
     let mut k: usize = 0;
     while k < count {
@@ -99,7 +102,8 @@ fn add_windows(acc: &mut [u8], from: usize, x: &[u8], at: usize, sh: usize, coun
 // x · x^up, from x^pos on, is added from byte `from` on; what passes acc's end is lost.
 fn add_rest(acc: &mut [u8], from: usize, x: &[u8], up: usize, pos: usize)
     requires { ⌜ (from ≤ length (now acc)) × (length (now acc) < 8192) × (pos < 500000) ⌝ }
-    ensures { λ r. ⌜ value 8 (now (acc .exit)) ≡ xor (value 8 (now (acc .entry))) (value 8 (now (x .entry)) * 2 ^ up / 2 ^ pos % 2 ^ (8 * (length (now (acc .entry)) - from)) * 2 ^ (8 * from)) ⌝ }
+    ensures { λ r. ⌜ value 8 (now (acc .exit)) ≡ xor (value 8 (now (acc .entry)))
+        (value 8 (now (x .entry)) * 2 ^ up / 2 ^ pos % 2 ^ (8 * (length (now (acc .entry)) - from)) * 2 ^ (8 * from)) ⌝ }
 {
     let n = acc.len() - from;
     let c = n / 8;
@@ -127,17 +131,20 @@ fn add_in(acc: &mut [u8], x: &[u8], count: usize)
 // x is added into acc; what passes acc's end is lost.
 fn add_low(acc: &mut [u8], x: &[u8])
     requires { ⌜ length (now acc) < 8192 ⌝ }
-    ensures { λ r. ⌜ value 8 (now (acc .exit)) ≡ xor (value 8 (now (acc .entry))) (value 8 (now (x .entry)) % 2 ^ (8 * length (now (acc .entry)))) ⌝ }
+    ensures { λ r.
+        ⌜ value 8 (now (acc .exit)) ≡ xor (value 8 (now (acc .entry))) (value 8 (now (x .entry)) % 2 ^ (8 * length (now (acc .entry)))) ⌝ }
 {
     let c = fewer(acc.len() / 8, x.len() / 8);
     add_in(acc, x, c);
     add_rest(acc, 8 * c, x, 0, 64 * c);
 }
 
-// x moved up by s places is added into acc; what passes acc's end is lost. From byte o on each byte has 8 coefficients of x: the words from there on as far as x has two words for each are added by windows.
+// x moved up by s places is added into acc; what passes acc's end is lost.
+// From byte o on each byte has 8 coefficients of x: the words from there on as far as x has two words for each are added by windows.
 pub fn add_up(acc: &mut [u8], x: &[u8], s: usize)
     requires { ⌜ length (now acc) < 8192 ⌝ }
-    ensures { λ r. ⌜ value 8 (now (acc .exit)) ≡ xor (value 8 (now (acc .entry))) (value 8 (now (x .entry)) * 2 ^ s % 2 ^ (8 * length (now (acc .entry)))) ⌝ }
+    ensures { λ r. ⌜ value 8 (now (acc .exit))
+        ≡ xor (value 8 (now (acc .entry))) (value 8 (now (x .entry)) * 2 ^ s % 2 ^ (8 * length (now (acc .entry)))) ⌝ }
 {
     if s == 0 {
         add_low(acc, x);
@@ -161,7 +168,8 @@ pub fn add_up(acc: &mut [u8], x: &[u8], s: usize)
 // a is moved up by s places, and b is added; what passes a's end is lost.
 pub fn raise(a: &mut [u8], b: &[u8], s: usize)
     requires { ⌜ (length (now a) % 8 ≡ 0) × (length (now b) ≡ length (now a)) × (s < 64) ⌝ }
-    ensures { λ r. ⌜ value 8 (now (a .exit)) ≡ xor (value 8 (now (a .entry)) * 2 ^ s) (value 8 (now (b .entry))) % 2 ^ (8 * length (now (a .entry))) ⌝ }
+    ensures { λ r. ⌜ value 8 (now (a .exit))
+        ≡ xor (value 8 (now (a .entry)) * 2 ^ s) (value 8 (now (b .entry))) % 2 ^ (8 * length (now (a .entry))) ⌝ }
 {
     let mut c: u64 = 0;
     let mut i: usize = 0;
@@ -247,7 +255,8 @@ fn clear_from(acc: &mut [u8], n: usize)
 
 // acc is folded modulo x^n + 1: what stands from x^n on is added below.
 pub fn fold_cyclic(acc: &mut [u8], n: usize)
-    requires { ⌜ (n % 8 ≡ 7) × (n < 1000000) × (n < 8 * length (now acc)) × (value 8 (now acc) < 2 ^ (64 + n)) × (value 8 (now acc) < 2 ^ (n + n)) ⌝ }
+    requires { ⌜ (n % 8 ≡ 7) × (n < 1000000) × (n < 8 * length (now acc)) × (value 8 (now acc) < 2 ^ (64 + n))
+        × (value 8 (now acc) < 2 ^ (n + n)) ⌝ }
     ensures { λ x. ⌜ value 8 (now (acc .exit)) ≡ rem (2 ^ n + 1) n (value 8 (now (acc .entry))) ⌝ }
 {
     let top = bits(acc, n, 64);

@@ -1,5 +1,6 @@
-// Remainders by a table t of a generator that is moved up by p to degree 768. A polynomial is fed from its highest coefficients on, l at a time: by `step` at the
-// place p, so that the register holds the remainder of all that was fed, moved up by p; for a plain remainder at x^768, without the coefficients below the degree.
+// Remainders by a table t of a generator that is moved up by p to degree 768. A polynomial is fed from its highest coefficients on, l at a
+// time: by `step` at the place p, so that the register holds the remainder of all that was fed, moved up by p;
+// for a plain remainder at x^768, without the coefficients below the degree.
 ghost use mathlib.Core.Path.{_≡_};
 ghost use Prim.Native.Nat.{_+_, _*_, _/_, _%_, _^_, _≤_, _<_};
 ghost use lib.ListN.{length, take};
@@ -29,8 +30,11 @@ fn copy(dst: &mut [u64], src: &[u64], from: usize)
 
 // Four rows are added, which stand at a, b, c and d; their words below `from` are 0.
 fn add_rows(v: &mut [u64], t: &[u64], a: usize, b: usize, c: usize, d: usize, from: usize)
-    requires { ⌜ (length (now v) ≡ 12) × (length (now t) ≡ 3072) × (a + 12 ≤ 3072) × (b + 12 ≤ 3072) × (c + 12 ≤ 3072) × (d + 12 ≤ 3072) × (from ≤ 12) × Clear (now t) a from × Clear (now t) b from × Clear (now t) c from × Clear (now t) d from ⌝ }
-    ensures { λ x. ⌜ (value 64 (now (v .exit)) ≡ xor (value 64 (now (v .entry))) (xor (rowAt (now (t .entry)) a) (xor (rowAt (now (t .entry)) b) (xor (rowAt (now (t .entry)) c) (rowAt (now (t .entry)) d))))) × (take from (now (v .exit)) ≡ take from (now (v .entry))) ⌝ }
+    requires { ⌜ (length (now v) ≡ 12) × (length (now t) ≡ 3072) × (a + 12 ≤ 3072) × (b + 12 ≤ 3072) × (c + 12 ≤ 3072) × (d + 12 ≤ 3072)
+        × (from ≤ 12) × Clear (now t) a from × Clear (now t) b from × Clear (now t) c from × Clear (now t) d from ⌝ }
+    ensures { λ x. ⌜ (value 64 (now (v .exit)) ≡ xor (value 64 (now (v .entry)))
+        (xor (rowAt (now (t .entry)) a) (xor (rowAt (now (t .entry)) b) (xor (rowAt (now (t .entry)) c) (rowAt (now (t .entry)) d)))))
+        × (take from (now (v .exit)) ≡ take from (now (v .entry))) ⌝ }
 {
     let mut j = from;
     while j < 12 {
@@ -42,7 +46,8 @@ fn add_rows(v: &mut [u64], t: &[u64], a: usize, b: usize, c: usize, d: usize, fr
 // Four rows are added, which u's four lowest hex digits choose among the 64 rows from 64 k on.
 fn add_four(v: &mut [u64], t: &[u64], k: usize, u: u64, from: usize)
     requires { ⌜ (length (now v) ≡ 12) × (length (now t) ≡ 3072) × (k < 4) × (from ≤ 12) × MovedUp (now t) (64 * from) ⌝ }
-    ensures { λ x. ⌜ (value 64 (now (v .exit)) ≡ xor (value 64 (now (v .entry))) (four (now (t .entry)) (64 * k) u)) × (take from (now (v .exit)) ≡ take from (now (v .entry))) ⌝ }
+    ensures { λ x. ⌜ (value 64 (now (v .exit)) ≡ xor (value 64 (now (v .entry))) (four (now (t .entry)) (64 * k) u))
+        × (take from (now (v .exit)) ≡ take from (now (v .entry))) ⌝ }
 {
     let at = k * 768;
     let a = at + (u % 16) as usize * 12;
@@ -55,7 +60,8 @@ fn add_four(v: &mut [u64], t: &[u64], k: usize, u: u64, from: usize)
 // The remainder of top · x^768 is added: the rows that top's hex digits choose, up to its highest that is not 0.
 fn add_top(v: &mut [u64], t: &[u64], top: u64, from: usize)
     requires { ⌜ (length (now v) ≡ 12) × (length (now t) ≡ 3072) × (from ≤ 12) × MovedUp (now t) (64 * from) ⌝ }
-    ensures { λ x. ⌜ TopAdded (now (t .entry)) (value 64 (now (v .entry))) top (value 64 (now (v .exit))) × (take from (now (v .exit)) ≡ take from (now (v .entry))) ⌝ }
+    ensures { λ x. ⌜ TopAdded (now (t .entry)) (value 64 (now (v .entry))) top (value 64 (now (v .exit)))
+        × (take from (now (v .exit)) ≡ take from (now (v .entry))) ⌝ }
 {
     let mut u = top;
     let mut k: usize = 0;
@@ -68,7 +74,8 @@ fn add_top(v: &mut [u64], t: &[u64], top: u64, from: usize)
 
 // What stands in the 13th word is reduced; the words below `from` are 0, and stay it.
 fn reduce(r: &mut [u64], t: &[u64], from: usize)
-    requires { ⌜ (length (now r) ≡ 13) × (length (now t) ≡ 3072) × (from ≤ 12) × MovedUp (now t) (64 * from) × (value 64 (now r) % 2 ^ (64 * from) ≡ 0) ⌝ }
+    requires { ⌜ (length (now r) ≡ 13) × (length (now t) ≡ 3072) × (from ≤ 12) × MovedUp (now t) (64 * from)
+        × (value 64 (now r) % 2 ^ (64 * from) ≡ 0) ⌝ }
     ensures { λ x. ⌜ Reduced (now (t .entry)) (value 64 (now (r .entry))) (value 64 (now (r .exit))) ⌝ }
 {
     let top = r[12];
@@ -80,10 +87,11 @@ fn reduce(r: &mut [u64], t: &[u64], from: usize)
     copy(r, &v, from);
 }
 
-// One step: the register is moved up by l places, u is added at place p, and what passes x^768 is reduced. All is a multiple of x^p: from p = 384 on the lower
-// six words are 0. Each call has its own number, so that the compiler makes straight code of the loops over words.
+// One step: the register is moved up by l places, u is added at place p, and what passes x^768 is reduced. All is a multiple of x^p: from
+// p = 384 on the lower six words are 0. Each call has its own number, so that the compiler makes straight code of the loops over words.
 pub fn step(r: &mut [u64], t: &[u64], u: u64, l: usize, p: usize)
-    requires { ⌜ (length (now r) ≡ 13) × (length (now t) ≡ 3072) × (1 ≤ l) × (l ≤ 64) × (p < 768) × (value 64 (now r) < 2 ^ D) × MovedUp (now t) p × (value 64 (now r) % 2 ^ p ≡ 0) ⌝ }
+    requires { ⌜ (length (now r) ≡ 13) × (length (now t) ≡ 3072) × (1 ≤ l) × (l ≤ 64) × (p < 768) × (value 64 (now r) < 2 ^ D)
+        × MovedUp (now t) p × (value 64 (now r) % 2 ^ p ≡ 0) ⌝ }
     ensures { λ x. ⌜ Reduced (now (t .entry)) (xor (value 64 (now (r .entry)) * 2 ^ l) (u * 2 ^ p)) (value 64 (now (r .exit))) ⌝ }
 {
     shift(r, l);
@@ -97,8 +105,10 @@ pub fn step(r: &mut [u64], t: &[u64], u: u64, l: usize, p: usize)
 
 // The words of src from `from` on, below the 12th, are copied to dst, each one place higher.
 fn copy_next(dst: &mut [u64], src: &[u64], from: usize)
-    requires { ⌜ (length (now dst) ≡ 12) × (12 ≤ length (now src)) × (from ≤ 11) × (value 64 (take (from + 1) (now dst)) ≡ value 64 (take from (now src)) * 2 ^ 64) ⌝ }
-    ensures { λ x. ⌜ (value 64 (now (dst .exit)) ≡ value 64 (take 11 (now (src .entry))) * 2 ^ 64) × (take (from + 1) (now (dst .exit)) ≡ take (from + 1) (now (dst .entry))) ⌝ }
+    requires { ⌜ (length (now dst) ≡ 12) × (12 ≤ length (now src)) × (from ≤ 11)
+        × (value 64 (take (from + 1) (now dst)) ≡ value 64 (take from (now src)) * 2 ^ 64) ⌝ }
+    ensures { λ x. ⌜ (value 64 (now (dst .exit)) ≡ value 64 (take 11 (now (src .entry))) * 2 ^ 64)
+        × (take (from + 1) (now (dst .exit)) ≡ take (from + 1) (now (dst .entry))) ⌝ }
 {
     let mut i = from;
     while i < 11 {
@@ -107,9 +117,11 @@ fn copy_next(dst: &mut [u64], src: &[u64], from: usize)
     }
 }
 
-// A step by a whole word that enters at x^768: the register is moved up, and what passes x^768 is reduced with u. The words below `from` are 0, and stay it.
+// A step by a whole word that enters at x^768: the register is moved up, and what passes x^768 is reduced with u.
+// The words below `from` are 0, and stay it.
 fn step_word(r: &mut [u64], t: &[u64], u: u64, from: usize)
-    requires { ⌜ (length (now r) ≡ 13) × (length (now t) ≡ 3072) × (from ≤ 11) × (value 64 (now r) < 2 ^ D) × MovedUp (now t) (64 * from) × (value 64 (now r) % 2 ^ (64 * from) ≡ 0) ⌝ }
+    requires { ⌜ (length (now r) ≡ 13) × (length (now t) ≡ 3072) × (from ≤ 11) × (value 64 (now r) < 2 ^ D) × MovedUp (now t) (64 * from)
+        × (value 64 (now r) % 2 ^ (64 * from) ≡ 0) ⌝ }
     ensures { λ x. ⌜ Reduced (now (t .entry)) (xor (value 64 (now (r .entry)) * 2 ^ 64) (u * 2 ^ D)) (value 64 (now (r .exit))) ⌝ }
 {
     let top = r[11] ^ u;
@@ -121,7 +133,8 @@ fn step_word(r: &mut [u64], t: &[u64], u: u64, from: usize)
 
 // The same, where all is a multiple of x^p.
 fn step_whole(r: &mut [u64], t: &[u64], u: u64, p: usize)
-    requires { ⌜ (length (now r) ≡ 13) × (length (now t) ≡ 3072) × (p < 768) × (value 64 (now r) < 2 ^ D) × MovedUp (now t) p × (value 64 (now r) % 2 ^ p ≡ 0) ⌝ }
+    requires { ⌜ (length (now r) ≡ 13) × (length (now t) ≡ 3072) × (p < 768) × (value 64 (now r) < 2 ^ D) × MovedUp (now t) p
+        × (value 64 (now r) % 2 ^ p ≡ 0) ⌝ }
     ensures { λ x. ⌜ Reduced (now (t .entry)) (xor (value 64 (now (r .entry)) * 2 ^ 64) (u * 2 ^ D)) (value 64 (now (r .exit))) ⌝ }
 {
     if p < 384 {
@@ -133,7 +146,8 @@ fn step_whole(r: &mut [u64], t: &[u64], u: u64, p: usize)
 
 // A step by l places, fewer than 64, that enters at x^768: u is added below, and moved up with the register.
 fn step_part(r: &mut [u64], t: &[u64], u: u64, l: usize, p: usize)
-    requires { ⌜ (length (now r) ≡ 13) × (length (now t) ≡ 3072) × (1 ≤ l) × (l ≤ 64) × (p < 768) × (value 64 (now r) < 2 ^ D) × (u < 2 ^ l) × MovedUp (now t) p × (value 64 (now r) % 2 ^ p ≡ 0) ⌝ }
+    requires { ⌜ (length (now r) ≡ 13) × (length (now t) ≡ 3072) × (1 ≤ l) × (l ≤ 64) × (p < 768) × (value 64 (now r) < 2 ^ D) × (u < 2 ^ l)
+        × MovedUp (now t) p × (value 64 (now r) % 2 ^ p ≡ 0) ⌝ }
     ensures { λ x. ⌜ Reduced (now (t .entry)) (xor (value 64 (now (r .entry)) * 2 ^ l) (u * 2 ^ D)) (value 64 (now (r .exit))) ⌝ }
 {
     insert(r, u, 768 - l);
@@ -147,7 +161,8 @@ fn step_part(r: &mut [u64], t: &[u64], u: u64, l: usize, p: usize)
 
 // One step at x^768: the register is moved up by l places, u is added from x^768 on, and what stands there is reduced.
 fn step_top(r: &mut [u64], t: &[u64], u: u64, l: usize, p: usize)
-    requires { ⌜ (length (now r) ≡ 13) × (length (now t) ≡ 3072) × (1 ≤ l) × (l ≤ 64) × (p < 768) × (value 64 (now r) < 2 ^ D) × (u < 2 ^ l) × MovedUp (now t) p × (value 64 (now r) % 2 ^ p ≡ 0) ⌝ }
+    requires { ⌜ (length (now r) ≡ 13) × (length (now t) ≡ 3072) × (1 ≤ l) × (l ≤ 64) × (p < 768) × (value 64 (now r) < 2 ^ D) × (u < 2 ^ l)
+        × MovedUp (now t) p × (value 64 (now r) % 2 ^ p ≡ 0) ⌝ }
     ensures { λ x. ⌜ Reduced (now (t .entry)) (xor (value 64 (now (r .entry)) * 2 ^ l) (u * 2 ^ D)) (value 64 (now (r .exit))) ⌝ }
 {
     if l == 64 {
@@ -157,9 +172,11 @@ fn step_top(r: &mut [u64], t: &[u64], u: u64, l: usize, p: usize)
     step_part(r, t, u, l, p);
 }
 
-// The coefficients of s from x^w on, below x^n, are fed to a register of 0 at x^768, l at a time, the short chunk last. l is not in the result.
+// The coefficients of s from x^w on, below x^n, are fed to a register of 0 at x^768, l at a time,
+// the short chunk last. l is not in the result.
 fn feed_top(r: &mut [u64], t: &[u64], s: &[u8], n: usize, w: usize, l: usize, p: usize)
-    requires { ⌜ (length (now r) ≡ 13) × (length (now t) ≡ 3072) × (1 ≤ l) × (l ≤ 64) × (p < 768) × (value 64 (now r) ≡ 0) × (w ≤ n) × (n < 1000000) × MovedUp (now t) p ⌝ }
+    requires { ⌜ (length (now r) ≡ 13) × (length (now t) ≡ 3072) × (1 ≤ l) × (l ≤ 64) × (p < 768) × (value 64 (now r) ≡ 0) × (w ≤ n)
+        × (n < 1000000) × MovedUp (now t) p ⌝ }
     ensures { λ x. ⌜ Reduced (now (t .entry)) (value 8 (now (s .entry)) % 2 ^ n / 2 ^ w * 2 ^ D) (value 64 (now (r .exit))) ⌝ }
 {
     let mut pos = n;
@@ -193,8 +210,8 @@ fn add_low(r: &mut [u64], s: &[u8], k: usize)
     r[c] = r[c] ^ v;
 }
 
-// The remainder of the n lowest coefficients of s by the generator itself, of degree w = 768 - p, in the lowest words of r: what stands from x^w on is fed, and the
-// register is moved down; what stands below is its own remainder.
+// The remainder of the n lowest coefficients of s by the generator itself, of degree w = 768 - p, in the lowest words of r: what stands
+// from x^w on is fed, and the register is moved down; what stands below is its own remainder.
 pub fn remainder_of(r: &mut [u64], t: &[u64], s: &[u8], n: usize, l: usize, p: usize)
     requires { ⌜ (length (now r) ≡ 13) × (length (now t) ≡ 3072) × (1 ≤ l) × (l ≤ 64) × (p < 768) × (n < 1000000) × MovedUp (now t) p ⌝ }
     ensures { λ x. ⌜ RemainderBy (now (t .entry)) p (value 8 (now (s .entry)) % 2 ^ n) (value 64 (now (r .exit))) ⌝ }

@@ -60,7 +60,8 @@ fn fill(t: &mut [u64], e: &[u64], base: usize, m: usize)
 
 // The 16 rows of the k-th digit; e is the remainder of x^(768 + 4 k), and at the end of x^(772 + 4 k).
 fn block(t: &mut [u64], e: &mut [u64], g: &[u64], k: usize)
-    requires { ⌜ (length (now t) ≡ 3072) × (length (now e) ≡ 13) × (length (now g) ≡ 13) × (k < 16) × Deg (value 64 (now g)) D × (value 64 (now e) ≡ rem (value 64 (now g)) D (2 ^ (4 * k) * 2 ^ D)) ⌝ }
+    requires { ⌜ (length (now t) ≡ 3072) × (length (now e) ≡ 13) × (length (now g) ≡ 13) × (k < 16) × Deg (value 64 (now g)) D
+        × (value 64 (now e) ≡ rem (value 64 (now g)) D (2 ^ (4 * k) * 2 ^ D)) ⌝ }
     ensures { λ x. ⌜ Block (value 64 (now (g .entry))) (now (t .entry)) (now (t .exit)) k (value 64 (now (e .exit))) ⌝ }
 {
     clear_row(t, k * 192);

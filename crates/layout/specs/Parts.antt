@@ -68,7 +68,8 @@ module _ (p : Parameters) where
 
   pub offset-next : (i : ℕ) → i < p .m → blockOffset p (i + 1) ≡ blockOffset p i + (dataBits p i + 7) / 8
   offset-next i h =
-      rw (add-one i) (offset-eq p (suc i) ∙ sum-next (blockSizes p) i (rw (length-blocks p) h) ∙ ap₂ _+_ (sym (offset-eq p i)) (block-size p i h))
+      rw (add-one i)
+      (offset-eq p (suc i) ∙ sum-next (blockSizes p) i (rw (length-blocks p) h) ∙ ap₂ _+_ (sym (offset-eq p i)) (block-size p i h))
 
   -- the same by a loop over the blocks before it
   pub summed-start : (i : ℕ) → Summed p i 0 0

@@ -46,9 +46,11 @@ module _ (p : Parameters) (A : Accepted p) where
 
   -- ---- level by level
   pub level-first : (f r : List ℕ) → Factors (p .q) f → Raised f 0 (strength p 0) (1 ∷ replicate 12 0) r → r ≡ row (gen p 0)
-  level-first f r F h = h .raise (p .q) (rules .known) F (row-one ∙ ap row (sym (generator-zero (fieldOf (p .q))))) ∙ ap row (sym (gen-eq p 0))
+  level-first f r F h =
+      h .raise (p .q) (rules .known) F (row-one ∙ ap row (sym (generator-zero (fieldOf (p .q))))) ∙ ap row (sym (gen-eq p 0))
 
-  pub level-next : (f g r : List ℕ) → Factors (p .q) f → (a : ℕ) → g ≡ row (gen p a) → Raised f (strength p a) (strength p (suc a)) g r → r ≡ row (gen p (suc a))
+  pub level-next : (f g r : List ℕ) → Factors (p .q) f → (a : ℕ) → g ≡ row (gen p a) → Raised f (strength p a) (strength p (suc a)) g r
+      → r ≡ row (gen p (suc a))
   level-next f g r F a e h = h .raise (p .q) (rules .known) F (e ∙ ap row (gen-eq p a)) ∙ ap row (sym (gen-eq p (suc a)))
 
   -- ---- the rows, those past v 0
@@ -58,7 +60,8 @@ module _ (p : Parameters) (A : Accepted p) where
   pub row-past : (a : ℕ) → p .v < a → replicate 13 0 ≡ generatorRow p a
   row-past a h = sym row-zero ∙ simp (lt-leb a (p .v) h)
 
-  pub rows-are : (r0 r1 r2 r3 : List ℕ) → r0 ≡ generatorRow p 0 → r1 ≡ generatorRow p 1 → r2 ≡ generatorRow p 2 → r3 ≡ generatorRow p 3 → r0 ∷ r1 ∷ r2 ∷ r3 ∷ [] ≡ generators p
+  pub rows-are : (r0 r1 r2 r3 : List ℕ) → r0 ≡ generatorRow p 0 → r1 ≡ generatorRow p 1 → r2 ≡ generatorRow p 2 → r3 ≡ generatorRow p 3
+      → r0 ∷ r1 ∷ r2 ∷ r3 ∷ [] ≡ generators p
   rows-are r0 r1 r2 r3 e0 e1 e2 e3 = rw (e0, e1, e2, e3) (sym (rows-eq p ∙ rw (A, range-four) refl))
 
 -- ---- the table of the field of q

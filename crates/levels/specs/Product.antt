@@ -22,7 +22,8 @@ bits m k = ap (λ (n : ℕ). m % 2 ^ n) (Nat.add-comm k 1) ∙ mod-pow-add m 1 k
 
 with-bit : (m k : ℕ) → m / 2 ^ k % 2 ≡ 1 → m % 2 ^ (k + 1) ≡ xor (m % 2 ^ k) (2 ^ k)
 with-bit m k e =
-    bits m k ∙ rw e (sym (Bits.xor-shifted 1 k (m % 2 ^ k) (Nat.mod-lt m (pow-pos k)))) ∙ xor-is (1 * 2 ^ k) (m % 2 ^ k) ∙ rw (Nat.one-mul (2 ^ k)) (xor-comm (2 ^ k) (m % 2 ^ k))
+    bits m k ∙ rw e (sym (Bits.xor-shifted 1 k (m % 2 ^ k) (Nat.mod-lt m (pow-pos k)))) ∙ xor-is (1 * 2 ^ k) (m % 2 ^ k)
+    ∙ rw (Nat.one-mul (2 ^ k)) (xor-comm (2 ^ k) (m % 2 ^ k))
 
 without-bit : (m k : ℕ) → m / 2 ^ k % 2 ≢ 1 → m % 2 ^ (k + 1) ≡ m % 2 ^ k
 without-bit m k h =
@@ -31,13 +32,17 @@ without-bit m k h =
 
 module _ (g : List ℕ) (m n : ℕ) where
   pub multiplying-start : n ≤ 13 → Multiplying g m n (replicate 13 0) 0
-  multiplying-start h = record { part = λ G e. sym (ap (low n) (ap (λ (x : ℕ). clmul x G) (Nat.mod-one m) ∙ clmul-zero-l G) ∙ low-row n 0 h (pow-pos (64 * n)) ∙ row-zero) }
+  multiplying-start h = record {
+    part = λ G e.
+        sym (ap (low n) (ap (λ (x : ℕ). clmul x G) (Nat.mod-one m) ∙ clmul-zero-l G) ∙ low-row n 0 h (pow-pos (64 * n)) ∙ row-zero);
+  }
 
   pub multiplying-one : (a r : List ℕ) (k : ℕ) → m / 2 ^ k % 2 ≡ 1 → Multiplying g m n a k → Added a g n k r → Multiplying g m n r (k + 1)
   multiplying-one a r k b h s = record {
     part = λ G e.
         s .sum (clmul (m % 2 ^ k) G) G (h .part G e) e
-        ∙ ap (low n) (ap (xor (clmul (m % 2 ^ k) G)) (sym (clmul-pow k G)) ∙ sym (clmul-xor-l (m % 2 ^ k) (2 ^ k) G) ∙ ap (λ (x : ℕ). clmul x G) (sym (with-bit m k b)));
+        ∙ ap (low n) (ap (xor (clmul (m % 2 ^ k) G)) (sym (clmul-pow k G)) ∙ sym (clmul-xor-l (m % 2 ^ k) (2 ^ k) G)
+        ∙ ap (λ (x : ℕ). clmul x G) (sym (with-bit m k b)));
   }
 
   pub multiplying-none : (a : List ℕ) (k : ℕ) → m / 2 ^ k % 2 ≢ 1 → Multiplying g m n a k → Multiplying g m n a (k + 1)

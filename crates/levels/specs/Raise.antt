@@ -19,7 +19,8 @@ use Rattle.tables.specs.Factors.{Factors}
 use Rattle.levels.specs.Rows.{row, low, low-row, Multiplied, Raised}
 
 -- a table's entry takes generator k to generator k + 1
-entry-next : (q : ℕ) → Known q → (f : List ℕ) → Factors q f → (k : ℕ) → k < length f → clmul (getD f k 0) (generator (fieldOf q) k) ≡ generator (fieldOf q) (k + 1)
+entry-next : (q : ℕ) → Known q → (f : List ℕ) → Factors q f → (k : ℕ) → k < length f
+    → clmul (getD f k 0) (generator (fieldOf q) k) ≡ generator (fieldOf q) (k + 1)
 entry-next q known f F k h =
     ap (λ (m : ℕ). clmul m (generator (fieldOf q) k)) (F .entry k (omega (arith, F .count))) ∙ clmul-comm _ (generator (fieldOf q) k)
     ∙ sym (rw add-one (generator-factor (fieldOf q) k (omega (arith, F .count, fieldOf-length q known))))
@@ -29,7 +30,8 @@ wordsOf t = 12 * t / 64 + 1
 
 generator-lt : (q : ℕ) → Known q → (t : ℕ) → generator (fieldOf q) t < 2 ^ (64 * wordsOf t)
 generator-lt q known t =
-    Nat.lt-of-lt-of-le (lt-of-deg (width (fieldOf q) t) (generator-deg (fieldOf q) t)) (pow-mono {i = suc (width (fieldOf q) t)} {j = 64 * wordsOf t} (omega (arith, narrow)))
+    Nat.lt-of-lt-of-le (lt-of-deg (width (fieldOf q) t) (generator-deg (fieldOf q) t))
+    (pow-mono {i = suc (width (fieldOf q) t)} {j = 64 * wordsOf t} (omega (arith, narrow)))
   where
     narrow : width (fieldOf q) t ≤ 12 * t
     narrow = Nat.le-trans (width-le (fieldOf q) t) (Nat.mul-le-mul-right t (rw (fieldOf-exponent q known) (q-high q known)))
@@ -38,7 +40,8 @@ module _ (f : List ℕ) (s : ℕ) (g : List ℕ) where
   pub raised-start : Raised f s s g g
   raised-start = record { raise = λ q known F e. e }
 
-  pub raised-times : (a r : List ℕ) (k : ℕ) → k < 64 → k < length f → Raised f s k g a → Multiplied a (getD f k 0) (wordsOf (k + 1)) r → Raised f s (k + 1) g r
+  pub raised-times : (a r : List ℕ) (k : ℕ) → k < 64 → k < length f → Raised f s k g a → Multiplied a (getD f k 0) (wordsOf (k + 1)) r
+      → Raised f s (k + 1) g r
   raised-times a r k b h p m = record {
     raise = λ q known F e.
         m .product (generator (fieldOf q) k) (p .raise q known F e) ∙ ap (low (wordsOf (k + 1))) (entry-next q known f F k h)
@@ -50,5 +53,6 @@ module _ (f : List ℕ) (s : ℕ) (g : List ℕ) where
   raised-same a k h o p = record {
     raise = λ q known F e.
         p .raise q known F e
-        ∙ ap row (sym (clmul-one-l (generator (fieldOf q) k)) ∙ ap (λ (m : ℕ). clmul m (generator (fieldOf q) k)) (sym o) ∙ entry-next q known f F k h);
+        ∙ ap row (sym (clmul-one-l (generator (fieldOf q) k)) ∙ ap (λ (m : ℕ). clmul m (generator (fieldOf q) k)) (sym o)
+        ∙ entry-next q known f F k h);
   }

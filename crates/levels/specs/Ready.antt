@@ -67,15 +67,20 @@ module _ (p : Parameters) (A : Accepted p) where
   pub row-lt : (a : ℕ) → a ≤ p .v → gen p a < 2 ^ (degree p a + 1)
   row-lt a h = rw add-one (lt-of-deg (degree p a) (degree-of p R a h))
 
-  pub prepared : (g r t : List ℕ) (a w : ℕ) → a ≤ p .v → w ≡ degree p a → RowOf p a g → value 64 r ≡ value 64 g * 2 ^ (768 - w) → length t ≡ 3072 → Table (value 64 r) t → Prepared p a t
-  prepared g r t a w h e G f l T = record { words = l; table = rw (f ∙ ap (λ (y : ℕ). y * 2 ^ (768 - w)) (G .is) ∙ ap (λ (k : ℕ). gen p a * 2 ^ (768 - k)) e) at T }
+  pub prepared : (g r t : List ℕ) (a w : ℕ) → a ≤ p .v → w ≡ degree p a → RowOf p a g → value 64 r ≡ value 64 g * 2 ^ (768 - w)
+      → length t ≡ 3072 → Table (value 64 r) t → Prepared p a t
+  prepared g r t a w h e G f l T =
+      record { words = l; table = rw (f ∙ ap (λ (y : ℕ). y * 2 ^ (768 - w)) (G .is) ∙ ap (λ (k : ℕ). gen p a * 2 ^ (768 - k)) e) at T }
 
-  pub aligned-deg : (g r : List ℕ) (a w : ℕ) → a ≤ p .v → w ≡ degree p a → RowOf p a g → value 64 r ≡ value 64 g * 2 ^ (768 - w) → Deg (value 64 r) D
+  pub aligned-deg : (g r : List ℕ) (a w : ℕ) → a ≤ p .v → w ≡ degree p a → RowOf p a g → value 64 r ≡ value 64 g * 2 ^ (768 - w)
+      → Deg (value 64 r) D
   aligned-deg g r a w h e G f =
-      rw (f ∙ ap (λ (y : ℕ). y * 2 ^ (768 - w)) (G .is) ∙ ap (λ (k : ℕ). gen p a * 2 ^ (768 - k)) e) (align-deg (gen p a) (degree p a) (degree-of p R a h) (degree-high p R a h))
+      rw (f ∙ ap (λ (y : ℕ). y * 2 ^ (768 - w)) (G .is) ∙ ap (λ (k : ℕ). gen p a * 2 ^ (768 - k)) e)
+      (align-deg (gen p a) (degree p a) (degree-of p R a h) (degree-high p R a h))
 
   -- remainders by the table
-  pub table-remainder : (a w f r : ℕ) (t : List ℕ) → a ≤ p .v → w ≡ degree p a → Prepared p a t → RemainderBy t (768 - w) f r → r ≡ remainder p a f
+  pub table-remainder : (a w f r : ℕ) (t : List ℕ) → a ≤ p .v → w ≡ degree p a → Prepared p a t → RemainderBy t (768 - w) f r
+      → r ≡ remainder p a f
   table-remainder a w f r t h e P Q =
       let k : degree p a + (768 - w) ≡ D = omega (arith, degree-high p R a h, D-is) in
       Q .rest (gen p a) (degree p a) (degree-of p R a h) k (rw e (P .table))

@@ -49,7 +49,8 @@ digits-zero (suc n) = ap (λ (l : List ℕ). 0 ∷ l) (digits-zero n)
 digits-more : (n j x : ℕ) → x < 2 ^ (64 * n) → digits 64 n x ++ replicate j 0 ≡ digits 64 (n + j) x
 unfolding digits
 digits-more zero j x h = sym (rw (lt-one h, Nat.zero-add j) (digits-zero j))
-digits-more (suc n) j x h = rw (Nat.suc-add n j) (ap (λ (l : List ℕ). x % 2 ^ 64 ∷ l) (digits-more n j (x / 2 ^ 64) (shr-lt (64 * n) 64 (rw Nat.mul-suc at h))))
+digits-more (suc n) j x h =
+    rw (Nat.suc-add n j) (ap (λ (l : List ℕ). x % 2 ^ 64 ∷ l) (digits-more n j (x / 2 ^ 64) (shr-lt (64 * n) 64 (rw Nat.mul-suc at h))))
 
 pub low-row : (n x : ℕ) → n ≤ 13 → x < 2 ^ (64 * n) → low n x ≡ row x
 low-row n x h l = let e : n + (13 - n) ≡ 13 = omega arith in digits-more n (13 - n) x l ∙ ap (λ (k : ℕ). digits 64 k x) e
@@ -65,7 +66,8 @@ row-at x i l e b = ap (λ (l : List ℕ). getD l i 0) e ∙ digits-at 64 13 x i 
 
 low-at : (n x i : ℕ) (l : List ℕ) → l ≡ low n x → i < n → getD l i 0 ≡ x / 2 ^ (64 * i) % 2 ^ 64
 low-at n x i l e b =
-    ap (λ (l : List ℕ). getD l i 0) e ∙ List·getD-append (digits 64 n x) (replicate (13 - n) 0) 0 i (rw (length-digits 64 n x) b) ∙ digits-at 64 n x i b
+    ap (λ (l : List ℕ). getD l i 0) e ∙ List·getD-append (digits 64 n x) (replicate (13 - n) 0) 0 i (rw (length-digits 64 n x) b)
+    ∙ digits-at 64 n x i b
 
 -- ---- a list that is replaced word by word
 pub record Written (a₀ a w : List ℕ) (i : ℕ) : Type 0 where
@@ -75,9 +77,11 @@ pub record Written (a₀ a w : List ℕ) (i : ℕ) : Type 0 where
 same-at : (a₀ a w : List ℕ) (i : ℕ) → Written a₀ a w i → getD a i 0 ≡ getD a₀ i 0
 same-at a₀ a w i p =
     let z : i + 0 ≡ i = omega arith in
-    ap (λ (n : ℕ). getD a n 0) (sym z) ∙ sym (getD-drop i a 0 0) ∙ ap (λ (l : List ℕ). getD l 0 0) (p .left) ∙ getD-drop i a₀ 0 0 ∙ ap (λ (n : ℕ). getD a₀ n 0) z
+    ap (λ (n : ℕ). getD a n 0) (sym z) ∙ sym (getD-drop i a 0 0) ∙ ap (λ (l : List ℕ). getD l 0 0) (p .left) ∙ getD-drop i a₀ 0 0
+    ∙ ap (λ (n : ℕ). getD a₀ n 0) z
 
-written-turn : (a₀ a w : List ℕ) (i x : ℕ) → i < length a → i < length w → Written a₀ a w i → x ≡ getD w i 0 → Written a₀ (set a i x) w (i + 1)
+written-turn : (a₀ a w : List ℕ) (i x : ℕ) → i < length a → i < length w → Written a₀ a w i → x ≡ getD w i 0
+    → Written a₀ (set a i x) w (i + 1)
 written-turn a₀ a w i x la lw p e = record {
   left = drop-set-lt (i + 1) a i x (omega arith) ∙ sym (drop-drop 1 i a) ∙ ap (drop 1) (p .left) ∙ drop-drop 1 i a₀;
   done = rw add-one (take-suc-set a i x la ∙ ap₂ (λ (l : List ℕ) (y : ℕ). l ++ (y ∷ [])) (p .done) e ∙ sym (take-suc w i 0 lw));
@@ -100,7 +104,8 @@ module _ (a₀ g : List ℕ) (n k : ℕ) (top : n ≤ 13) where
     length-is = length-set a₀ 0 _ ∙ l;
     words = λ A G ea eg.
         let x : ℕ = xor A (G * 2 ^ k) in
-        written-turn a₀ a₀ (low n x) 0 (bitXor (getD a₀ 0 0) (getD g 0 0 * 2 ^ k % 2 ^ 64)) (omega arith) (rw (length-low n x top) (omega arith)) (record { left = refl; done = refl })
+        written-turn a₀ a₀ (low n x) 0 (bitXor (getD a₀ 0 0) (getD g 0 0 * 2 ^ k % 2 ^ 64)) (omega arith)
+        (rw (length-low n x top) (omega arith)) (record { left = refl; done = refl })
         (rw (low-at n A 0 a₀ ea p, row-at G 0 g eg (omega arith), Nat.div-one A, Nat.div-one G)
         (sym (low-at n x 0 (low n x) refl p ∙ ap (λ (y : ℕ). y % 2 ^ 64) (Nat.div-one x) ∙ first-word A G k)));
   }
@@ -112,9 +117,16 @@ module _ (a₀ g : List ℕ) (n k : ℕ) (top : n ≤ 13) where
     length-is = length-set a (suc i) _ ∙ t .length-is;
     words = λ A G ea eg.
         let x : ℕ = xor A (G * 2 ^ k) in
-        written-turn a₀ a (low n x) (suc i) (bitXor (bitXor (getD a (suc i) 0) (getD g (suc i) 0 * 2 ^ k % 2 ^ 64)) (getD g (suc i - 1) 0 / 2 / 2 ^ (63 - k)))
+        written-turn a₀ a (low n x) (suc i)
+        (bitXor (bitXor (getD a (suc i) 0) (getD g (suc i) 0 * 2 ^ k % 2 ^ 64)) (getD g (suc i - 1) 0 / 2 / 2 ^ (63 - k)))
         (omega (arith, t .length-is)) (rw (length-low n x top) (omega arith)) (t .words A G ea eg)
-        (rw (same-at a₀ a (low n x) (suc i) (t .words A G ea eg), low-at n A (suc i) a₀ ea b, row-at G (suc i) g eg (omega arith), e, row-at G i g eg (omega arith))
+        (rw (
+          same-at a₀ a (low n x) (suc i) (t .words A G ea eg),
+          low-at n A (suc i) a₀ ea b,
+          row-at G (suc i) g eg (omega arith),
+          e,
+          row-at G i g eg (omega arith),
+        )
         (sym (low-at n x (suc i) (low n x) refl b ∙ next-word A G k i h)));
   }
     where

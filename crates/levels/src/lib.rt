@@ -1,4 +1,5 @@
-// The levels of a sheet: their generators, worked out together from the constant tables of factors, their degrees, and tables for remainders.
+// The levels of a sheet: their generators, worked out together from the constant tables of factors, their degrees,
+// and tables for remainders.
 ghost use mathlib.Core.Path.{_≡_};
 ghost use Prim.Native.Nat.{_<_, _≤_};
 ghost use lib.ListN.{length};

@@ -50,14 +50,16 @@ module _ (p : Parameters) (A : Accepted p) (a : ℕ) (h : a ≤ p .v) where
       let F = fieldOf (p .q) .field in
       let x = pow F (fieldOf (p .q) .α) j in
       let z : eval F (gen p a) x ≡ F .𝟘 = rw (gen-eq p a) (generator-roots (fieldOf (p .q)) (strength p a) j l b) in
-      sym (syndrome-num (p .q) (R .known) (remainder p a c) j) ∙ ap (fieldOf (p .q) .num) (eval-rem F (gen p a) (degree p a) (degree-of p R a h) c x z) ∙ syndrome-num (p .q) (R .known) c j
+      sym (syndrome-num (p .q) (R .known) (remainder p a c) j)
+      ∙ ap (fieldOf (p .q) .num) (eval-rem F (gen p a) (degree p a) (degree-of p R a h) c x z) ∙ syndrome-num (p .q) (R .known) c j
 
   abbrev many : ℕ
   many = 2 * strength p a
 
   pub level-syndromes : (c : ℕ) → syndromes p many (remainder p a c) ≡ syndromes p many c
   level-syndromes c =
-      ext-getD 0 (syndromes p many (remainder p a c)) (syndromes p many c) (length-syndromes p many (remainder p a c) ∙ sym (length-syndromes p many c))
+      ext-getD 0 (syndromes p many (remainder p a c)) (syndromes p many c)
+      (length-syndromes p many (remainder p a c) ∙ sym (length-syndromes p many c))
       (λ i l. let k : i < many = rw (length-syndromes p many (remainder p a c)) at l in
       syndromes-at p many (remainder p a c) i k ∙ level-syndrome c (suc i) (suc-le-suc zero-le) k ∙ sym (syndromes-at p many c i k))
 
@@ -69,6 +71,7 @@ module _ (p : Parameters) (A : Accepted p) (a : ℕ) (h : a ≤ p .v) where
   level-made c r k l e f g = g ∙ ap₂ (syndromes p) f e ∙ level-syndromes c
 
 -- the list by the field's entry
-pub syndromes-are : (p : Parameters) (f : Field) (c k : ℕ) (l : List ℕ) → f ≡ fieldAt (p .q) → l ≡ map (λ j. syndrome (f .q) c j) (range 1 k) → l ≡ syndromes p k c
+pub syndromes-are : (p : Parameters) (f : Field) (c k : ℕ) (l : List ℕ) → f ≡ fieldAt (p .q)
+    → l ≡ map (λ j. syndrome (f .q) c j) (range 1 k) → l ≡ syndromes p k c
 unfolding syndromes
 syndromes-are p f c k l e g = g ∙ ap (λ (f : Field). map (λ j. syndrome (f .q) c j) (range 1 k)) e

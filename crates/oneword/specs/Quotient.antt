@@ -32,7 +32,8 @@ module _ (g k : ℕ) (d : Deg g k) where
       go (inl z) = z
       go (inr l) =
           let z = deg (xor q q′) in
-          absurd (Nat.not-suc-le-zero {n = 0} (rw none at (deg-pos (clmul (xor q q′) g) (z + k) (deg-mul z k (xor q q′) g (deg-is (xor q q′) l) d))))
+          absurd (Nat.not-suc-le-zero {n = 0}
+          (rw none at (deg-pos (clmul (xor q q′) g) (z + k) (deg-mul z k (xor q q′) g (deg-is (xor q q′) l) d))))
 
   quotient-unique : (q q′ r r′ : ℕ) → r < 2 ^ k → r′ < 2 ^ k → xor (clmul q g) r ≡ xor (clmul q′ g) r′ → q ≡ q′
   quotient-unique q q′ r r′ h h′ e =
@@ -58,7 +59,8 @@ module _ (G : ℕ) (d : Deg G D) (e : List ℕ) (r : ℕ) (b : Bounded 64 e) (l 
     same = rw (f, h) (simp (clmul-dbl-l, xor-dbl));
   }
 
-  pub step-high : (q q₁ q′ r′ : ℕ) → q₁ ≡ q * 2 ^ 1 → q′ ≡ xor q₁ (1 * 2 ^ 0) → r′ ≡ xor (value 64 e) G → r < 2 ^ D → (getD e 12 0 ≡ 0 → ⊥) → Stepped G q r q′ r′
+  pub step-high : (q q₁ q′ r′ : ℕ) → q₁ ≡ q * 2 ^ 1 → q′ ≡ xor q₁ (1 * 2 ^ 0) → r′ ≡ xor (value 64 e) G → r < 2 ^ D → (getD e 12 0 ≡ 0 → ⊥)
+      → Stepped G q r q′ r′
   step-high q q₁ q′ r′ f f′ g s z = record {
     low = rw (g, times-high G d e r G b l h s z refl) (rem-lt G D d (r * 2));
     half = ap (λ (x : ℕ). x / 2) f′ ∙ xor-half q₁ 1 ∙ rw f (rw (dbl-half q) (xor-zero-r q));
@@ -103,7 +105,10 @@ module _ (f u g w : ℕ) (d : Deg g w) (h : w ≤ u) (k : u ≤ 768) where
       let m : 768 - u + (u - w) ≡ s = omega arith in
       let dg : Deg (g * 2 ^ s) D = rw (← e) (deg-up g w s d) in
       let b : rem g w f * 2 ^ s < 2 ^ D = rw (← e, pow-add 2 w s) (Nat.mul-lt-mul-of-pos-right (rem-lt g w d f) (pow-pos s)) in
-      let x : A * 2 ^ j ≡ f * 2 ^ s = rw (ea, ej) (Nat.mul-assoc f (2 ^ (768 - u)) (2 ^ (u - w)) ∙ ap (λ (n : ℕ). f * n) (sym (pow-add 2 (768 - u) (u - w)) ∙ ap (λ (n : ℕ). 2 ^ n) m)) in
+      let x : A * 2 ^ j ≡ f * 2 ^ s = rw (ea, ej) (Nat.mul-assoc f (2 ^ (768 - u)) (2 ^ (u - w))
+      ∙ ap (λ (n : ℕ). f * n) (sym (pow-add 2 (768 - u) (u - w)) ∙ ap (λ (n : ℕ). 2 ^ n) m)) in
       let y : f * 2 ^ s ≡ xor (clmul (quot g w f) (g * 2 ^ s)) (rem g w f * 2 ^ s) =
-      ap (λ (n : ℕ). n * 2 ^ s) (quot-is g w d f) ∙ xor-shl s (clmul (quot g w f) g) (rem g w f) ∙ ap (λ (n : ℕ). xor n (rem g w f * 2 ^ s)) (up s (quot g w f)) in
-      quotient-unique (g * 2 ^ s) D dg q (quot g w f) r (rem g w f * 2 ^ s) (t .low) b (ap (λ (n : ℕ). xor (clmul q n) r) (sym eg) ∙ sym (t .sum) ∙ x ∙ y)
+      ap (λ (n : ℕ). n * 2 ^ s) (quot-is g w d f) ∙ xor-shl s (clmul (quot g w f) g) (rem g w f)
+      ∙ ap (λ (n : ℕ). xor n (rem g w f * 2 ^ s)) (up s (quot g w f)) in
+      quotient-unique (g * 2 ^ s) D dg q (quot g w f) r (rem g w f * 2 ^ s) (t .low) b
+      (ap (λ (n : ℕ). xor (clmul q n) r) (sym eg) ∙ sym (t .sum) ∙ x ∙ y)

@@ -30,14 +30,17 @@ module _ (p : Parameters) (A : Accepted p) (l : ℕ) where
 
     -- g_0 has no higher degree
     pub degree-rises : w ≤ u
-    degree-rises = rw (eu, ew) (multiple-deg (gen p 0) (degree p 0) (gen p a) (degree-of p R 0 zero-le) (divides-up p R 0 a zero-le low) (degree p a) (degree-of p R a low))
+    degree-rises =
+        rw (eu, ew) (multiple-deg (gen p 0) (degree p 0) (gen p a) (degree-of p R 0 zero-le) (divides-up p R 0 a zero-le low) (degree p a)
+        (degree-of p R a low))
 
     pub divisor-width : u - w ≡ deg (divisor p l)
     divisor-width = ap₂ _-_ (eu ∙ ap (degree p) k) ew ∙ sym (divisor-degree p R l)
 
     pub divisor-is : (f g : List ℕ) (q : ℕ) → RowOf p a f → RowOf p 0 g → q ≡ quot (value 64 g) w (value 64 f) → q ≡ divisor p l
     unfolding divisor
-    divisor-is f g q F G h = h ∙ ap₂ (λ (x d : ℕ). quot x d (value 64 f)) (G .is) ew ∙ ap (quot (gen p 0) (degree p 0)) (F .is ∙ ap (gen p) k)
+    divisor-is f g q F G h =
+        h ∙ ap₂ (λ (x d : ℕ). quot x d (value 64 f)) (G .is) ew ∙ ap (quot (gen p 0) (degree p 0)) (F .is ∙ ap (gen p) k)
 
   -- ---- by its row
   module _ (d w : ℕ) (e : d ≡ divisor p l) (k : w ≡ deg (divisor p l)) where
@@ -48,4 +51,5 @@ module _ (p : Parameters) (A : Accepted p) (l : ℕ) where
     short-most = omega (arith, k, divisor-degree p R l, degree-high p R (p .v - l) top-low)
 
   pub short-room : (c r : ℕ) → r ≡ rem (divisor p l) (deg (divisor p l)) c → r < 2 ^ D
-  short-room c r = remainder-room (divisor p l) (deg (divisor p l)) (divisor-deg p R l) c r (short-most (divisor p l) (deg (divisor p l)) refl refl)
+  short-room c r =
+      remainder-room (divisor p l) (deg (divisor p l)) (divisor-deg p R l) c r (short-most (divisor p l) (deg (divisor p l)) refl refl)

@@ -27,7 +27,8 @@ pub record WordIs (p : Parameters) (c : ℕ) (s : List ℕ) : Type 0 where
   pub below : c < 2 ^ len p
 
 -- ---- sub-word i of a page
-pub sub-word-is : (p : Parameters) → Accepted p → (x : List ℕ) → IsPage p x → (i : ℕ) → i < p .m → (s : List ℕ) → s ≡ take (subWordBytes p) (drop (i * subWordBytes p) x) → WordIs p (subWordOf p x i) s
+pub sub-word-is : (p : Parameters) → Accepted p → (x : List ℕ) → IsPage p x → (i : ℕ) → i < p .m → (s : List ℕ)
+    → s ≡ take (subWordBytes p) (drop (i * subWordBytes p) x) → WordIs p (subWordOf p x i) s
 sub-word-is p A x h i l s e =
     let w = page-words p (accepted p A) x h in
     record {
@@ -46,9 +47,11 @@ zeros zero (suc n) = value-cons 8 0 (replicate n 0) ∙ ap (λ (x : ℕ). x * 2 
 zeros (suc k) zero = value-nil 8
 zeros (suc k) (suc n) = zeros k n
 
-pub nested-is : (p : Parameters) → Accepted p → (x : List ℕ) (l k : ℕ) (s : List ℕ) → value 8 s ≡ nestedOf p x l → WordIs p (nestedOf p x l) (s ++ drop k (replicate 520 0))
+pub nested-is : (p : Parameters) → Accepted p → (x : List ℕ) (l k : ℕ) (s : List ℕ) → value 8 s ≡ nestedOf p x l
+    → WordIs p (nestedOf p x l) (s ++ drop k (replicate 520 0))
 nested-is p A x l k s e = record {
-  is = value-append 8 s (drop k (replicate 520 0)) ∙ ap (λ (y : ℕ). y * 2 ^ (8 * length s) + value 8 s) (zeros k 520) ∙ ap (λ (y : ℕ). y + value 8 s) (Nat.zero-mul (2 ^ (8 * length s))) ∙ Nat.zero-add (value 8 s) ∙ e;
+  is = value-append 8 s (drop k (replicate 520 0)) ∙ ap (λ (y : ℕ). y * 2 ^ (8 * length s) + value 8 s) (zeros k 520)
+      ∙ ap (λ (y : ℕ). y + value 8 s) (Nat.zero-mul (2 ^ (8 * length s))) ∙ Nat.zero-add (value 8 s) ∙ e;
   below = nested-lt p (accepted p A) l (wordsOf p x);
 }
 
@@ -67,13 +70,16 @@ module _ (p : Parameters) (x : List ℕ) (l : ℕ) (s : List ℕ) (W : WordIs p 
   unfolding shortBytes shortRemainder
   short-made y e = e ∙ ap (λ (c : ℕ). digits 8 96 (rem (divisor p l) (deg (divisor p l)) c)) (W .is)
 
-  pub nested-syndromes-made : (a : ℕ) (y : List ℕ) → a ≡ p .v - l → y ≡ syndromes p (2 * strength p a) (value 8 s) → y ≡ nestedSyndromeList p x l
+  pub nested-syndromes-made : (a : ℕ) (y : List ℕ) → a ≡ p .v - l → y ≡ syndromes p (2 * strength p a) (value 8 s)
+      → y ≡ nestedSyndromeList p x l
   unfolding nestedSyndromeList
   nested-syndromes-made a y k e = e ∙ ap₂ (λ (b c : ℕ). syndromes p (2 * strength p b) c) k (W .is)
 
   -- copied to the bytes of a nested word
-  pub nested-made : Accepted p → (y : List ℕ) (k : ℕ) → Bounded 8 y → length y ≡ k → k ≡ nestedBytes p → value 8 y ≡ value 8 s / 2 ^ 0 % 2 ^ (8 * k) → y ≡ nestedWordBytes p x l
+  pub nested-made : Accepted p → (y : List ℕ) (k : ℕ) → Bounded 8 y → length y ≡ k → k ≡ nestedBytes p
+      → value 8 y ≡ value 8 s / 2 ^ 0 % 2 ^ (8 * k) → y ≡ nestedWordBytes p x l
   unfolding nestedWordBytes
   nested-made A y k b n m e =
       let c : value 8 s < 2 ^ (8 * k) = rw (W .is, m) (Nat.lt-of-lt-of-le (W .below) (pow-mono (room (p .q) (accepted p A .known)))) in
-      sym (digits-value 8 y (bounded-all 8 y b)) ∙ ap₂ (digits 8) (n ∙ m) (e ∙ ap (λ (z : ℕ). z % 2 ^ (8 * k)) (Nat.div-one (value 8 s)) ∙ Nat.mod-eq-of-lt c ∙ W .is)
+      sym (digits-value 8 y (bounded-all 8 y b))
+      ∙ ap₂ (digits 8) (n ∙ m) (e ∙ ap (λ (z : ℕ). z % 2 ^ (8 * k)) (Nat.div-one (value 8 s)) ∙ Nat.mod-eq-of-lt c ∙ W .is)

@@ -32,8 +32,10 @@ pub fn remainder_by(r: &mut [u64], g: &[u64], w: usize, s: &[u8], n: usize)
 
 // One more coefficient of the quotient q: the rest r is moved up, and where it reaches the degree of g, 768, g is taken away.
 fn divide_step(q: &mut [u64], r: &mut [u64], g: &[u64])
-    requires { ⌜ (length (now q) ≡ 13) × (length (now r) ≡ 13) × (length (now g) ≡ 13) × Deg (value 64 (now g)) D × (value 64 (now q) < 2 ^ D) × (value 64 (now r) < 2 ^ D) ⌝ }
-    ensures { λ x. ⌜ Stepped (value 64 (now (g .entry))) (value 64 (now (q .entry))) (value 64 (now (r .entry))) (value 64 (now (q .exit))) (value 64 (now (r .exit))) ⌝ }
+    requires { ⌜ (length (now q) ≡ 13) × (length (now r) ≡ 13) × (length (now g) ≡ 13) × Deg (value 64 (now g)) D
+        × (value 64 (now q) < 2 ^ D) × (value 64 (now r) < 2 ^ D) ⌝ }
+    ensures { λ x. ⌜ Stepped (value 64 (now (g .entry))) (value 64 (now (q .entry))) (value 64 (now (r .entry))) (value 64 (now (q .exit)))
+        (value 64 (now (r .exit))) ⌝ }
 {
     shift(q, 1);
     shift(r, 1);

@@ -57,7 +57,8 @@ pub fn nested_word(p: Parameters, page: &[u8], l: usize, out: &mut [u8]) -> Outc
     Outcome::Done
 }
 
-// The syndromes S_1 to S_(2 t_0) of sub-word i, from its remainder by g_0, which has those roots. The remainder and the syndromes are two calls, so that the tables of both never stand on the stack together.
+// The syndromes S_1 to S_(2 t_0) of sub-word i, from its remainder by g_0, which has those roots.
+// The remainder and the syndromes are two calls, so that the tables of both never stand on the stack together.
 pub fn syndromes(p: Parameters, page: &[u8], i: usize, list: &mut [u16]) -> Outcome
     ensures { λ r. ⌜ SyndromesMade p (now (page .entry)) i (now (list .entry)) (now (list .exit)) r ⌝ }
 {

@@ -105,4 +105,5 @@ clmul-pow zero a = clmul-one-l a ∙ sym (mul-one a)
 clmul-pow (suc k) a = rw (pow-suc 2 k) (clmul-dbl-l (2 ^ k) a ∙ rw (clmul-pow k a) (mul-assoc a (2 ^ k) 2))
 
 -- polynomials, brought to one form: the decision procedure of this ring
-pub ruleset polys = (clmul-assoc, clmul-comm, clmul-left-comm, clmul-xor-l, clmul-xor-r, clmul-zero-l, clmul-zero-r, clmul-one-l, clmul-one-r, xors)
+pub ruleset polys =
+    (clmul-assoc, clmul-comm, clmul-left-comm, clmul-xor-l, clmul-xor-r, clmul-zero-l, clmul-zero-r, clmul-one-l, clmul-one-r, xors)

@@ -41,7 +41,8 @@ module _ (w : ℕ) where
   pub value-digits : (k x : ℕ) → x < 2 ^ (w * k) → value w (digits w k x) ≡ x
   unfolding digits value
   value-digits zero x h = sym (lt-one (rw Nat.mul-zero at h))
-  value-digits (suc k) x h = again x (value w (digits w k (x / 2 ^ w))) (value-digits k (x / 2 ^ w) (shr-lt (w * k) w (rw Nat.mul-suc at h)))
+  value-digits (suc k) x h =
+      again x (value w (digits w k (x / 2 ^ w))) (value-digits k (x / 2 ^ w) (shr-lt (w * k) w (rw Nat.mul-suc at h)))
 
   pub digits-value : (l : List ℕ) → All (λ d. d < 2 ^ w) l → digits w (length l) (value w l) ≡ l
   unfolding digits value
@@ -91,9 +92,11 @@ module _ (w : ℕ) where
     place : (k : ℕ) → w * (k / w) + k % w ≡ k
     place k = rw (Nat.mul-comm w (k / w)) (Nat.div-add-mod' k w)
 
-    pub value-coefficient : (l : List ℕ) → All (λ d. d < 2 ^ w) l → (k : ℕ) → coefficient (value w l) k ≡ coefficient (getD l (k / w) 0) (k % w)
+    pub value-coefficient : (l : List ℕ) → All (λ d. d < 2 ^ w) l → (k : ℕ)
+        → coefficient (value w l) k ≡ coefficient (getD l (k / w) 0) (k % w)
     value-coefficient l h k =
-        sym (ap (λ (y : ℕ). coefficient y (k % w)) (sym (value-at l h (k / w))) ∙ part-coefficient (value w l) (k / w) (k % w) (Nat.mod-lt k pos)
+        sym (ap (λ (y : ℕ). coefficient y (k % w)) (sym (value-at l h (k / w)))
+        ∙ part-coefficient (value w l) (k / w) (k % w) (Nat.mod-lt k pos)
         ∙ ap (coefficient (value w l)) (place k))
 
     pub digits-coefficient : (m x k : ℕ) → k < w * m → coefficient (getD (digits w m x) (k / w) 0) (k % w) ≡ coefficient x k

@@ -7,14 +7,18 @@
 use mathlib.Core.Path.{_≡_, refl, sym, ap, ap₂, _∙_}
 use mathlib.Core.Logic.{_⊎_, inl, inr, _↔_}
 use Prim.Native.Nat.{ℕ, zero, suc, _+_, _-_, _*_, _/_, _%_, _^_, _≤_, _<_, zero-le, suc-le-suc}
-use native.Mathlib.Nat.{le-refl, lt-of-lt-of-le, lt-of-le-of-lt, pow-succ', not-suc-le-zero, zero-mul, one-mul, zero-div, div-one, pow-suc, div-eq-of-lt, eq-zero-or-pos, zero-add, suc-add, div-lt-iff-lt-mul, mul-div-mul-right, div-div-eq-div-mul, mul-comm, le-add-left, le-trans, le-of-eq, le-antisymm, le-of-suc-le-suc, lt-of-not-le, not-le-of-lt, le-div-iff-mul-le}
+use native.Mathlib.Nat.{le-refl, lt-of-lt-of-le, lt-of-le-of-lt, pow-succ', not-suc-le-zero, zero-mul, one-mul, zero-div, div-one, pow-suc}
+use native.Mathlib.Nat.{div-eq-of-lt, eq-zero-or-pos, zero-add, suc-add, div-lt-iff-lt-mul, mul-div-mul-right, div-div-eq-div-mul, mul-comm}
+use native.Mathlib.Nat.{le-add-left, le-trans, le-of-eq, le-antisymm, le-of-suc-le-suc, lt-of-not-le, not-le-of-lt, le-div-iff-mul-le}
 use native.Mathlib.Omega.{arith}
 use lib.Arith.{bin-ind}
 use lib.Pow.{pow-pos, pow-mono, pow-lt, high}
 use lib.Bits as B
 use Rattle.polynomial.specs.Bits.{fold, fold-step}
-use Rattle.polynomial.specs.Clmul.{clmul, polys, clmul-step, clmul-xor-l, clmul-xor-r, clmul-zero-l, clmul-one-l, clmul-dbl-l, clmul-comm, clmul-assoc, split-bit, bit-join}
-use Rattle.polynomial.specs.Xor.{xor, xor-is, xors, bit-ind, odd-ind, xor-dbl, xor-zero-l, xor-zero-r, xor-self, xor-comm, xor-eq-zero}
+use Rattle.polynomial.specs.Clmul.{clmul, polys, clmul-step, clmul-xor-l, clmul-xor-r, clmul-zero-l}
+use Rattle.polynomial.specs.Clmul.{clmul-one-l, clmul-dbl-l, clmul-comm, clmul-assoc, split-bit, bit-join}
+use Rattle.polynomial.specs.Xor.{xor, xor-is, xors, bit-ind, odd-ind, xor-dbl}
+use Rattle.polynomial.specs.Xor.{xor-zero-l, xor-zero-r, xor-self, xor-comm, xor-eq-zero}
 
 pub xor-lt : (k a b : ℕ) → a < 2 ^ k → b < 2 ^ k → xor a b < 2 ^ k
 unfolding xor
@@ -59,7 +63,9 @@ dbl-shr : (a k : ℕ) → a * 2 / 2 ^ suc k ≡ a / 2 ^ k
 dbl-shr a k = rw (pow-suc 2 k) (mul-div-mul-right a (2 ^ k) (suc-le-suc zero-le))
 
 pub deg-is : (a : ℕ) → 0 < a → Deg a (deg a)
-deg-is a h = rw (deg-eq a) (bin-ind (λ (n : ℕ). 0 < n → n / 2 ^ bit-length (n / 2) ≡ 1) (λ h. absurd (not-suc-le-zero h)) (λ n ih h. go n (n / 2) refl ih h) a h)
+deg-is a h =
+    rw (deg-eq a)
+    (bin-ind (λ (n : ℕ). 0 < n → n / 2 ^ bit-length (n / 2) ≡ 1) (λ h. absurd (not-suc-le-zero h)) (λ n ih h. go n (n / 2) refl ih h) a h)
   where
     go : (n m : ℕ) → n / 2 ≡ m → (0 < m → m / 2 ^ bit-length (m / 2) ≡ 1) → 0 < n → n / 2 ^ bit-length m ≡ 1
     go n zero e ih h = rw bit-length-zero (div-one n ∙ omega arith)
@@ -105,7 +111,9 @@ pub deg-mul : (j k a b : ℕ) → Deg a j → Deg b k → Deg (clmul a b) (j + k
 deg-mul zero k a b da db = rw (zero-add k, sym (div-one a) ∙ da, clmul-one-l b) db
 deg-mul (suc j) k a b da db =
     rw (suc-add j k, clmul-step a b)
-    (deg-xor (clmul (a / 2) b * 2) (a % 2 * b) (suc (j + k)) (deg-dbl (clmul (a / 2) b) (j + k) (deg-mul j k (a / 2) b (sym (shr-half a j) ∙ da) db)) (lt-of-le-of-lt (bit-le a b) (lt-of-lt-of-le (lt-of-deg k db) (pow-mono (suc-le-suc (le-add-left k j))))))
+    (deg-xor (clmul (a / 2) b * 2)
+    (a % 2 * b) (suc (j + k)) (deg-dbl (clmul (a / 2) b) (j + k) (deg-mul j k (a / 2) b (sym (shr-half a j) ∙ da) db))
+    (lt-of-le-of-lt (bit-le a b) (lt-of-lt-of-le (lt-of-deg k db) (pow-mono (suc-le-suc (le-add-left k j))))))
 
 swap : (a b c d : ℕ) → xor a b ≡ xor c d → xor a c ≡ xor b d
 swap a b c d e =
@@ -150,12 +158,14 @@ module _ (g k : ℕ) where
     carry : (t s : ℕ) → t < 2 → s / 2 ^ k ≡ t → xor s (clmul t g) / 2 ^ k ≡ 0
     carry t s h e =
         rw (xor-shr s (clmul t g) k, e)
-        (bit-ind (λ (t : ℕ). xor t (clmul t g / 2 ^ k) ≡ 0) (rw (clmul-zero-l, zero-div) (xor-self 0)) (rw (clmul-one-l, d) (xor-self 1)) t h)
+        (bit-ind (λ (t : ℕ). xor t (clmul t g / 2 ^ k) ≡ 0) (rw (clmul-zero-l, zero-div) (xor-self 0))
+        (rw (clmul-one-l, d) (xor-self 1)) t h)
 
     pub rem-lt : (f : ℕ) → rem f < 2 ^ k
     rem-lt =
         bin-ind (λ (n : ℕ). rem n < 2 ^ k) (rw rem-zero (pow-pos k))
-        (λ n ih. rw (rem-step n) (lt-of-shr k (carry ((rem (n / 2) * 2 + n % 2) / 2 ^ k) (rem (n / 2) * 2 + n % 2) (div-lt-iff-lt-mul (pow-pos k) .1 (omega arith)) refl)))
+        (λ n ih. rw (rem-step n) (lt-of-shr k
+        (carry ((rem (n / 2) * 2 + n % 2) / 2 ^ k) (rem (n / 2) * 2 + n % 2) (div-lt-iff-lt-mul (pow-pos k) .1 (omega arith)) refl)))
 
     division-step : (n q m t : ℕ) → n / 2 ≡ xor (clmul q g) m → n ≡ xor (clmul (xor (q * 2) t) g) (xor (m * 2 + n % 2) (clmul t g))
     division-step n q m t e = sym (split-bit n) ∙ rw e (simp (bit-join, ← xor-dbl, clmul-xor-l, clmul-dbl-l, xors))
@@ -164,18 +174,23 @@ module _ (g k : ℕ) where
     pub division : (f : ℕ) → (q : ℕ) × (f ≡ xor (clmul q g) (rem f))
     division =
         bin-ind (λ (n : ℕ). (q : ℕ) × (n ≡ xor (clmul q g) (rem n))) (0, sym (simp (clmul-zero-l, rem-zero, xors)))
-        (λ n ih. (xor (ih .0 * 2) ((rem (n / 2) * 2 + n % 2) / 2 ^ k), rw (rem-step n) (division-step n (ih .0) (rem (n / 2)) ((rem (n / 2) * 2 + n % 2) / 2 ^ k) (ih .1))))
+        (λ n ih. (
+          xor (ih .0 * 2) ((rem (n / 2) * 2 + n % 2) / 2 ^ k),
+          rw (rem-step n) (division-step n (ih .0) (rem (n / 2)) ((rem (n / 2) * 2 + n % 2) / 2 ^ k) (ih .1)),
+        ))
 
     bit-sum : (h t : ℕ) → t < 2 → h * 2 + t ≡ xor (h * 2) t
     bit-sum h t l = let e : t % 2 ≡ t = omega arith in rw e at (bit-join t h) ∙ xor-comm t (h * 2)
 
-    quot-go : (n h t : ℕ) → t < 2 → t ≡ (rem (n / 2) * 2 + n % 2) / 2 ^ k → n / 2 ≡ xor (clmul h g) (rem (n / 2)) → n ≡ xor (clmul (h * 2 + t) g) (rem n)
+    quot-go : (n h t : ℕ) → t < 2 → t ≡ (rem (n / 2) * 2 + n % 2) / 2 ^ k → n / 2 ≡ xor (clmul h g) (rem (n / 2))
+        → n ≡ xor (clmul (h * 2 + t) g) (rem n)
     quot-go n h t l e ih = rw (rem-step n, bit-sum h t l, ← e) (division-step n h (rem (n / 2)) t ih)
 
     pub quot-is : (f : ℕ) → f ≡ xor (clmul (quot f) g) (rem f)
     quot-is =
         bin-ind (λ (n : ℕ). n ≡ xor (clmul (quot n) g) (rem n)) (sym (rw (quot-zero, rem-zero, clmul-zero-l g) (xor-self 0)))
-        (λ n ih. rw (quot-step n) (quot-go n (quot (n / 2)) ((rem (n / 2) * 2 + n % 2) / 2 ^ k) (div-lt-iff-lt-mul (pow-pos k) .1 (omega (arith, rem-lt (n / 2)))) refl ih))
+        (λ n ih. rw (quot-step n) (quot-go n (quot (n / 2)) ((rem (n / 2) * 2 + n % 2) / 2 ^ k)
+        (div-lt-iff-lt-mul (pow-pos k) .1 (omega (arith, rem-lt (n / 2)))) refl ih))
 
     -- no multiple of g but 0 lies below its degree
     small-multiple : (q : ℕ) → clmul q g < 2 ^ k → q ≡ 0
@@ -183,7 +198,8 @@ module _ (g k : ℕ) where
       where
         go : (q ≡ 0) ⊎ (0 < q) → q ≡ 0
         go (inl e) = e
-        go (inr l) = absurd (deg-lt (deg q + k) (deg-mul (deg q) k q g (deg-is q l) d) (lt-of-lt-of-le h (pow-mono (le-add-left k (deg q)))))
+        go (inr l) =
+            absurd (deg-lt (deg q + k) (deg-mul (deg q) k q g (deg-is q l) d) (lt-of-lt-of-le h (pow-mono (le-add-left k (deg q)))))
 
     -- the remainder is the only one
     pub unique : (q q′ r r′ : ℕ) → r < 2 ^ k → r′ < 2 ^ k → xor (clmul q g) r ≡ xor (clmul q′ g) r′ → r ≡ r′
@@ -210,7 +226,8 @@ module _ (g k : ℕ) where
         (ap₂ xor (division f .1) (division h .1) ∙ simp (clmul-xor-l, xors)) (xor-lt k (rem f) (rem h) (rem-lt f) (rem-lt h))
 
     pub rem-zero-iff : (f : ℕ) → (rem f ≡ 0) ↔ ((q : ℕ) × (f ≡ clmul q g))
-    rem-zero-iff f = ((λ e. (division f .0, division f .1 ∙ rw e (xor-zero-r (clmul (division f .0) g)))), (λ h. rw (h .1) (rem-multiple (h .0))))
+    rem-zero-iff f =
+        ((λ e. (division f .0, division f .1 ∙ rw e (xor-zero-r (clmul (division f .0) g)))), (λ h. rw (h .1) (rem-multiple (h .0))))
 
     -- f with its remainder is a multiple
     rem-is : (f : ℕ) → rem f ≡ xor f (clmul (division f .0) g)
@@ -220,7 +237,8 @@ module _ (g k : ℕ) where
     rem-clmul-r a b =
         ap (λ (x : ℕ). rem (clmul a x)) (rem-is b)
         ∙ ap rem (clmul-xor-r a b (clmul (division b .0) g) ∙ ap (xor (clmul a b)) (sym (clmul-assoc a (division b .0) g)))
-        ∙ rem-xor (clmul a b) (clmul (clmul a (division b .0)) g) ∙ rw (rem-multiple (clmul a (division b .0))) (xor-zero-r (rem (clmul a b)))
+        ∙ rem-xor (clmul a b) (clmul (clmul a (division b .0)) g)
+        ∙ rw (rem-multiple (clmul a (division b .0))) (xor-zero-r (rem (clmul a b)))
 
     pub rem-clmul-l : (a b : ℕ) → rem (clmul (rem a) b) ≡ rem (clmul a b)
     rem-clmul-l a b = ap rem (clmul-comm (rem a) b) ∙ rem-clmul-r b a ∙ ap rem (clmul-comm b a)

@@ -5,7 +5,8 @@ use Prim.Native.Nat.{ℕ, _≤_, _<_}
 use native.Mathlib.Nat.{lt-of-lt-of-le, le-of-suc-le-suc, lt-of-not-le}
 use lib.Pow.{pow-pos, pow-mono}
 use Rattle.polynomial.specs.Clmul.{clmul, clmul-one-l}
-use Rattle.polynomial.specs.Division.{Deg, deg-lt, lt-of-deg, lt-of-shr, xor-shr, rem, rem-small, rem-xor, rem-multiple, division, le-of-deg}
+use Rattle.polynomial.specs.Division.{Deg, deg-lt, lt-of-deg, lt-of-shr, xor-shr, rem}
+use Rattle.polynomial.specs.Division.{rem-small, rem-xor, rem-multiple, division, le-of-deg}
 use Rattle.polynomial.specs.Xor.{xor, xors, xor-self, xor-eq-zero}
 
 abbrev pub Multiple : ℕ → ℕ → Type 0
@@ -17,14 +18,17 @@ deg-pos g k d = lt-of-lt-of-le (pow-pos k) (le-of-deg k d)
 module _ (g k f : ℕ) (d : Deg g k) (z : rem g k f ≡ 0) where
   -- a multiple has no lower degree
   pub multiple-deg : (m : ℕ) → Deg f m → k ≤ m
-  multiple-deg m e = le-of-suc-le-suc (lt-of-not-le (λ h. clash (sym (rem-small g k d f (lt-of-lt-of-le (lt-of-deg m e) (pow-mono h))) ∙ z)))
+  multiple-deg m e =
+      le-of-suc-le-suc (lt-of-not-le (λ h. clash (sym (rem-small g k d f (lt-of-lt-of-le (lt-of-deg m e) (pow-mono h))) ∙ z)))
     where
       clash : f ≡ 0 → ⊥
       clash w = deg-lt m e (rw w (pow-pos m))
 
   -- and of the same degree there is one only
   pub multiple-same : Deg f k → f ≡ g
-  multiple-same e = xor-eq-zero f g (sym (rem-small g k d (xor f g) (lt-of-shr k (xor-shr f g k ∙ rw (e, d) (xor-self 1)))) ∙ rem-xor g k d f g ∙ rw (z, own) (xor-self 0))
+  multiple-same e =
+      xor-eq-zero f g (sym (rem-small g k d (xor f g) (lt-of-shr k (xor-shr f g k ∙ rw (e, d) (xor-self 1)))) ∙ rem-xor g k d f g
+      ∙ rw (z, own) (xor-self 0))
     where
       own : rem g k g ≡ 0
       own = sym (ap (rem g k) (clmul-one-l g)) ∙ rem-multiple g k d 1

@@ -32,7 +32,8 @@ pub record NumbersFit (p : Parameters) (L a k : ℕ) : Type 0 where
 -- ---- chains
 assoc-four : (a b c d t : ℕ) → ((a orElse b orElse c orElse d) orElse t) ≡ (a orElse b orElse c orElse d orElse t)
 assoc-four a b c d t =
-    or-assoc a (b orElse c orElse d) t ∙ ap (λ (s : ℕ). a orElse s) (or-assoc b (c orElse d) t ∙ ap (λ (s : ℕ). b orElse s) (or-assoc c d t))
+    or-assoc a (b orElse c orElse d) t
+    ∙ ap (λ (s : ℕ). a orElse s) (or-assoc b (c orElse d) t ∙ ap (λ (s : ℕ). b orElse s) (or-assoc c d t))
 
 -- ---- opening
 module _ (p : Parameters) (level : ℕ) where
@@ -86,13 +87,21 @@ module _ (p : Parameters) (L a k u : ℕ) where
       pub numbers-full : false ≡ leb (k + L) n → 11 ≡ numbersRefusal p L a k u
       unfolding numbersRefusal
       numbers-full g =
-          simp (not-true (badWidth L) (sym e), lt-leb (2 ^ L) u (ltb-true u (2 ^ L) (sym f)), lt-ltb (full p) (k + L) (rw is at (leb-false (k + L) n (sym g))))
+          simp (
+            not-true (badWidth L) (sym e),
+            lt-leb (2 ^ L) u (ltb-true u (2 ^ L) (sym f)),
+            lt-ltb (full p) (k + L) (rw is at (leb-false (k + L) n (sym g))),
+          )
 
       module _ (g : true ≡ leb (k + L) n) where
         numbers-left : numbersRefusal p L a k u ≡ level-12
         unfolding numbersRefusal
         numbers-left =
-            simp (not-true (badWidth L) (sym e), lt-leb (2 ^ L) u (ltb-true u (2 ^ L) (sym f)), le-ltb (full p) (k + L) (rw is at (leb-true (k + L) n (sym g))))
+            simp (
+              not-true (badWidth L) (sym e),
+              lt-leb (2 ^ L) u (ltb-true u (2 ^ L) (sym f)),
+              le-ltb (full p) (k + L) (rw is at (leb-true (k + L) n (sym g))),
+            )
 
         pub numbers-level : p .v < a → 12 ≡ numbersRefusal p L a k u
         numbers-level h = sym (numbers-left ∙ simp (lt-ltb (p .v) a h))
@@ -112,7 +121,11 @@ module _ (p : Parameters) (L a k u : ℕ) where
   numbers-fit r e z =
       let w = or-none (5 when badWidth L) (stray-8 orElse full-11 orElse level-12) (sym e ∙ z) in
       let s = or-none full-11 level-12 (or-none stray-8 (full-11 orElse level-12) (w .1) .1) in
-      record { width = width-of L (rw (when-none 4 (badWidth L) (w .0)) refl); room = nltb→le (full p) (k + L) (last 10 (ltb (full p) (k + L)) (s .0)); level = nltb→le (p .v) a (last 11 (ltb (p .v) a) (s .1)) }
+      record {
+        width = width-of L (rw (when-none 4 (badWidth L) (w .0)) refl);
+        room = nltb→le (full p) (k + L) (last 10 (ltb (full p) (k + L)) (s .0));
+        level = nltb→le (p .v) a (last 11 (ltb (p .v) a) (s .1));
+      }
 
 -- ---- feeding
 module _ (p : Parameters) (L : ℕ) (r : Register) (u : ℕ) where
@@ -122,9 +135,11 @@ module _ (p : Parameters) (L : ℕ) (r : Register) (u : ℕ) where
   feed-eq : feedRefusal p L r u ≡ (sheetRefusal p orElse numbers orElse bitsRefusal p r)
   unfolding feedRefusal numbersRefusal
   feed-eq =
-      ap (λ (s : ℕ). sheetRefusal p orElse 5 when badWidth L orElse 8 when leb (2 ^ L) u orElse 11 when ltb (full p) (r .count + L) orElse s)
+      ap
+      (λ (s : ℕ). sheetRefusal p orElse 5 when badWidth L orElse 8 when leb (2 ^ L) u orElse 11 when ltb (full p) (r .count + L) orElse s)
       (sym (when-or 11 (ltb (p .v) (r .level)) (leb (2 ^ degree p (r .level)) (value 64 (r .remainder)))))
-      ∙ ap (λ (s : ℕ). sheetRefusal p orElse s) (sym (assoc-four (5 when badWidth L) (8 when leb (2 ^ L) u) (11 when ltb (full p) (r .count + L)) (12 when ltb (p .v) (r .level)) (bitsRefusal p r)))
+      ∙ ap (λ (s : ℕ). sheetRefusal p orElse s) (sym (assoc-four (5 when badWidth L) (8 when leb (2 ^ L) u)
+      (11 when ltb (full p) (r .count + L)) (12 when ltb (p .v) (r .level)) (bitsRefusal p r)))
 
   pub feed-sheet : (k : ℕ) → k ≡ sheetRefusal p → (k ≡ 0 → ⊥) → k ≡ feedRefusal p L r u
   feed-sheet k e h = first-of k (sheetRefusal p) (numbers orElse bitsRefusal p r) e h ∙ sym feed-eq
@@ -132,11 +147,13 @@ module _ (p : Parameters) (L : ℕ) (r : Register) (u : ℕ) where
   pub feed-le : feedRefusal p L r u ≤ lastRefusal
   feed-le =
       rw feed-eq (or-le (sheetRefusal p) (numbers orElse bitsRefusal p r) (sheet-le p)
-      (or-le numbers (bitsRefusal p r) (numbers-le p L (r .level) (r .count) u) (when-le 12 (leb (2 ^ degree p (r .level)) (value 64 (r .remainder))) (lit≤ tt))))
+      (or-le numbers (bitsRefusal p r) (numbers-le p L (r .level) (r .count) u)
+      (when-le 12 (leb (2 ^ degree p (r .level)) (value 64 (r .remainder))) (lit≤ tt))))
 
   module _ (A : Accepted p) (k : ℕ) (e : k ≡ numbers) where
     feed-accepted : feedRefusal p L r u ≡ (k orElse bitsRefusal p r)
-    feed-accepted = feed-eq ∙ or-second (sheetRefusal p) (numbers orElse bitsRefusal p r) A ∙ ap (λ (n : ℕ). n orElse bitsRefusal p r) (sym e)
+    feed-accepted =
+        feed-eq ∙ or-second (sheetRefusal p) (numbers orElse bitsRefusal p r) A ∙ ap (λ (n : ℕ). n orElse bitsRefusal p r) (sym e)
 
     pub feed-numbers : (k ≡ 0 → ⊥) → k ≡ feedRefusal p L r u
     feed-numbers h = sym (feed-accepted ∙ or-first k (bitsRefusal p r) (Nat.pos-of-ne-zero h))

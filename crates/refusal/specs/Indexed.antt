@@ -72,18 +72,23 @@ module _ (p : Parameters) (x : List ℕ) (i many out exact : ℕ) where
       }
 
   -- ---- the promises
-  pub word-refused : (k : ℕ) (result old : List ℕ) → k ≡ wordRefusal p x i many out exact → (k ≡ 0 → ⊥) → Made (wordRefusal p x i many out exact) result old old (Outcome.Refused k)
-  word-refused k result old e h = made-refused (wordRefusal p x i many out exact) k result old (sym e) (Nat.pos-of-ne-zero h) (word-le p x i many out exact)
+  pub word-refused : (k : ℕ) (result old : List ℕ) → k ≡ wordRefusal p x i many out exact → (k ≡ 0 → ⊥)
+      → Made (wordRefusal p x i many out exact) result old old (Outcome.Refused k)
+  word-refused k result old e h =
+      made-refused (wordRefusal p x i many out exact) k result old (sym e) (Nat.pos-of-ne-zero h) (word-le p x i many out exact)
 
-  pub word-done : (k : ℕ) (result old after : List ℕ) → k ≡ wordRefusal p x i many out exact → k ≡ 0 → after ≡ result → Made (wordRefusal p x i many out exact) result old after Outcome.Done
+  pub word-done : (k : ℕ) (result old after : List ℕ) → k ≡ wordRefusal p x i many out exact → k ≡ 0 → after ≡ result
+      → Made (wordRefusal p x i many out exact) result old after Outcome.Done
   word-done k result old after e z f = made-done (wordRefusal p x i many out exact) result old after (sym e ∙ z) f
 
 -- only accepted parameters have an exact length
-pub word-alike : (p : Parameters) (x : List ℕ) (i many out exact exact′ : ℕ) → (Accepted p → exact ≡ exact′) → wordRefusal p x i many out exact ≡ wordRefusal p x i many out exact′
+pub word-alike : (p : Parameters) (x : List ℕ) (i many out exact exact′ : ℕ) → (Accepted p → exact ≡ exact′)
+    → wordRefusal p x i many out exact ≡ wordRefusal p x i many out exact′
 word-alike p x i many out exact exact′ h = go (Nat.eq-zero-or-pos (judgeRefusal p x))
   where
     go : (judgeRefusal p x ≡ 0) ⊎ (0 < judgeRefusal p x) → wordRefusal p x i many out exact ≡ wordRefusal p x i many out exact′
     go (inl z) = ap (wordRefusal p x i many out) (h (judge-zero p x z .accepted))
     go (inr l) =
         word-eq p x i many out exact ∙ or-first (judgeRefusal p x) (index-9 p x i many out exact orElse list-10 p x i many out exact) l
-        ∙ sym (word-eq p x i many out exact′ ∙ or-first (judgeRefusal p x) (index-9 p x i many out exact′ orElse list-10 p x i many out exact′) l)
+        ∙ sym (word-eq p x i many out exact′
+        ∙ or-first (judgeRefusal p x) (index-9 p x i many out exact′ orElse list-10 p x i many out exact′) l)

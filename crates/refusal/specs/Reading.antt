@@ -28,7 +28,8 @@ module _ (p : Parameters) (x : List ℕ) (k : ℕ) where
     -- behind 6 stands judge's chain
     read-accepted : readRefusal p x k ≡ (blocks-6 orElse judgeRefusal p x)
     read-accepted =
-        read-links p x k ∙ or-second (sheetRefusal p) (blocks-6 orElse rest) A ∙ ap (λ (r : ℕ). blocks-6 orElse r) (sym (judge-accepted p x A))
+        read-links p x k ∙ or-second (sheetRefusal p) (blocks-6 orElse rest) A
+        ∙ ap (λ (r : ℕ). blocks-6 orElse r) (sym (judge-accepted p x A))
 
     pub read-length : (k ≡ dataBytes p → ⊥) → 6 ≡ readRefusal p x k
     read-length h = sym (read-accepted ∙ simp (ne-eqb k (dataBytes p) h))

@@ -33,7 +33,8 @@ pub width-zero : (L : ℕ) → L ≡ 0 → false ≡ not (badWidth L)
 width-zero L e = simp (eq-eqb L 0 e)
 
 pub width-above : (L : ℕ) → (L ≡ 0 → ⊥) → leb L 64 ≡ not (badWidth L)
-width-above L h = sym (simp (ne-eqb L 0 h) (same _ _ (λ t. le-leb L 64 (ltb-false 64 L (not-true _ t))) (λ t. rw (le-ltb 64 L (leb-true L 64 t)) refl)))
+width-above L h =
+    sym (simp (ne-eqb L 0 h) (same _ _ (λ t. le-leb L 64 (ltb-false 64 L (not-true _ t))) (λ t. rw (le-ltb 64 L (leb-true L 64 t)) refl)))
 
 -- ---- a number of L bits
 pub below-pow : (u L : ℕ) → 1 ≤ L → ltb (u / 2 ^ (L - 1)) 2 ≡ ltb u (2 ^ L)
@@ -54,7 +55,8 @@ pub room-none : (k L n : ℕ) → n < k → false ≡ leb (k + L) n
 room-none k L n h = sym (lt-leb (k + L) n (omega arith))
 
 pub room-left : (k L n : ℕ) → k ≤ n → leb L (n - k) ≡ leb (k + L) n
-room-left k L n h = same _ _ (λ t. le-leb (k + L) n (omega (arith, leb-true L (n - k) t))) (λ t. le-leb L (n - k) (omega (arith, leb-true (k + L) n t)))
+room-left k L n h =
+    same _ _ (λ t. le-leb (k + L) n (omega (arith, leb-true L (n - k) t))) (λ t. le-leb L (n - k) (omega (arith, leb-true (k + L) n t)))
 
 -- ---- a number in words: no bit at w or above
 module _ (l : List ℕ) (b : Bounded 64 l) (w : ℕ) where
@@ -75,14 +77,20 @@ module _ (l : List ℕ) (b : Bounded 64 l) (w : ℕ) where
   above-zero t = sym above ∙ Nat.div-eq-of-lt (ltb-true (value 64 l) (2 ^ w) t)
 
   pub words-short : length l ≤ w / 64 → true ≡ ltb (value 64 l) (2 ^ w)
-  words-short h = sym (lt-ltb (value 64 l) (2 ^ w) (Nat.lt-of-lt-of-le (value-lt 64 l b) (pow-mono {i = 64 * length l} {j = w} (omega arith))))
+  words-short h =
+      sym (lt-ltb (value 64 l) (2 ^ w) (Nat.lt-of-lt-of-le (value-lt 64 l b) (pow-mono {i = 64 * length l} {j = w} (omega arith))))
 
   pub words-bit : (word / 2 ^ (w % 64) ≡ 0 → ⊥) → false ≡ ltb (value 64 l) (2 ^ w)
   words-bit n =
-      never (ltb (value 64 l) (2 ^ w)) (λ t. n (Nat.le-antisymm (rw (above-zero t) at (shr-mono {a = word} {b = rest * 2 ^ 64 + word} (w % 64) (Nat.le-add-left word (rest * 2 ^ 64)))) zero-le))
+      never (ltb (value 64 l) (2 ^ w)) (λ t. n (Nat.le-antisymm
+      (rw (above-zero t) at (shr-mono {a = word} {b = rest * 2 ^ 64 + word} (w % 64) (Nat.le-add-left word (rest * 2 ^ 64)))) zero-le))
 
-  pub words-rest : word / 2 ^ (w % 64) ≡ 0 → eqb (value 64 (take (length l - (w / 64 + 1)) (drop (w / 64 + 1) l))) 0 ≡ ltb (value 64 l) (2 ^ w)
+  pub words-rest : word / 2 ^ (w % 64) ≡ 0
+      → eqb (value 64 (take (length l - (w / 64 + 1)) (drop (w / 64 + 1) l))) 0 ≡ ltb (value 64 l) (2 ^ w)
   words-rest z =
-      ap (λ (x : List ℕ). eqb (value 64 x) 0) (take-all (length l - (w / 64 + 1)) (drop (w / 64 + 1) l) (Nat.le-of-eq (length-drop (w / 64 + 1) l)))
-      ∙ same (eqb rest 0) (ltb (value 64 l) (2 ^ w)) (λ t. lt-ltb (value 64 l) (2 ^ w) (lt-of-shr w (above ∙ rw (eqb-true rest 0 t, Nat.zero-mul, Nat.zero-add) z)))
-      (λ t. eq-eqb rest 0 (sym (high rest 64 (b (w / 64))) ∙ Nat.div-eq-of-lt (Nat.lt-of-lt-of-le (lt-of-shr (w % 64) (above-zero t)) (pow-mono {i = w % 64} {j = 64} (omega arith)))))
+      ap (λ (x : List ℕ). eqb (value 64 x) 0)
+      (take-all (length l - (w / 64 + 1)) (drop (w / 64 + 1) l) (Nat.le-of-eq (length-drop (w / 64 + 1) l)))
+      ∙ same (eqb rest 0) (ltb (value 64 l) (2 ^ w))
+      (λ t. lt-ltb (value 64 l) (2 ^ w) (lt-of-shr w (above ∙ rw (eqb-true rest 0 t, Nat.zero-mul, Nat.zero-add) z)))
+      (λ t. eq-eqb rest 0 (sym (high rest 64 (b (w / 64)))
+      ∙ Nat.div-eq-of-lt (Nat.lt-of-lt-of-le (lt-of-shr (w % 64) (above-zero t)) (pow-mono {i = w % 64} {j = 64} (omega arith)))))

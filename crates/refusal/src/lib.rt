@@ -94,7 +94,8 @@ pub fn write_refusal(p: Parameters, w: &[u32], width: u32, blocks: &[u8], page: 
 
 // ---- calls on one word
 
-// For accepted parameters: 7 and 8 as for judge, 9 where the word i is none of `many`, 10 where the lent list's length `out` is not exact, or 0.
+// For accepted parameters: 7 and 8 as for judge, 9 where the word i is none of `many`,
+// 10 where the lent list's length `out` is not exact, or 0.
 pub fn index_refusal(
     p: Parameters,
     page: &[u8],

@@ -28,7 +28,8 @@ take-digits w k l b h =
     (λ i s. getD-take k l i 0 (rw e at s) ∙ sym (digits-at w k (value w l) i (rw e at s) ∙ value-at w l (bounded-all w l b) i))
 
 -- 12 words, copied from 13
-pub copied-digits : (low₀ low r : List ℕ) (i : ℕ) → length low ≡ 12 → length r ≡ 13 → i ≡ 12 → Copied low₀ low r i → Bounded 64 r → low ≡ digits 64 12 (value 64 r)
+pub copied-digits : (low₀ low r : List ℕ) (i : ℕ) → length low ≡ 12 → length r ≡ 13 → i ≡ 12 → Copied low₀ low r i → Bounded 64 r
+    → low ≡ digits 64 12 (value 64 r)
 copied-digits low₀ low r i n m e c b = sym (take-all 12 low (Nat.le-of-eq n)) ∙ rw e at (c .done) ∙ take-digits 64 12 r b (omega arith)
 
 -- below x^w, so of degree w at most
@@ -51,7 +52,9 @@ module _ (p : Parameters) (A : Accepted p) (a w : ℕ) (h : a ≤ p .v) (e : w �
       let k : w + (768 - w) ≡ D = omega (arith, degree-fits, D-is) in
       rw (i, ← k) (shl-lt w (768 - w) l)
 
-  pub stepped : (t : List ℕ) (f u l v r : ℕ) → Prepared p a t → v ≡ f * 2 ^ (768 - w) → Reduced t (xor (v * 2 ^ l) (u * 2 ^ (768 - w))) r → r / 2 ^ (768 - w) ≡ remainder p a (xor (f * 2 ^ l) u)
+  pub stepped : (t : List ℕ) (f u l v r : ℕ) → Prepared p a t → v ≡ f * 2 ^ (768 - w) → Reduced t (xor (v * 2 ^ l) (u * 2 ^ (768 - w))) r
+      → r / 2 ^ (768 - w) ≡ remainder p a (xor (f * 2 ^ l) u)
   stepped t f u l v r P i q =
       table-remainder p A a w (xor (f * 2 ^ l) u) (r / 2 ^ (768 - w)) t h e P
-      (lowered t (768 - w) (xor (f * 2 ^ l) u) r (Nat.sub-le 768 w) (rw (ap (λ (x : ℕ). xor (x * 2 ^ l) (u * 2 ^ (768 - w))) i ∙ moved f u l (768 - w)) at q))
+      (lowered t (768 - w) (xor (f * 2 ^ l) u) r (Nat.sub-le 768 w)
+      (rw (ap (λ (x : ℕ). xor (x * 2 ^ l) (u * 2 ^ (768 - w))) i ∙ moved f u l (768 - w)) at q))

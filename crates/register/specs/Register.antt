@@ -53,7 +53,11 @@ unfolding fed
 fed-eq p L r u = refl
 
 advanced-eq : (p : Parameters) (L : ℕ) (r : Value.Register) (u : ℕ)
-    → advanced p L r u ≡ record { level = r .level; count = r .count + L; remainder = digits 64 12 (remainder p (r .level) (xor (value 64 (r .remainder) * 2 ^ L) u)) }
+    → advanced p L r u ≡ record {
+      level = r .level;
+      count = r .count + L;
+      remainder = digits 64 12 (remainder p (r .level) (xor (value 64 (r .remainder) * 2 ^ L) u));
+    }
 unfolding advanced
 advanced-eq p L r u = refl
 
@@ -69,7 +73,8 @@ module _ (p : Parameters) (level k : ℕ) (r : Register) (e : k ≡ openRefusal 
   pub opened-refused : (f : Fed) → f ≡ refusedWith k r → (k ≡ 0 → ⊥) → valueOf r ≡ empty 0 → OpenedAs p level f
   opened-refused f is h i =
       rw is (record {
-        answers = ap (λ (x : Value.Register). record { outcome = Outcome.Refused k; register = x }) i ∙ by-refused k (empty level) (empty 0) (openRefusal p level) e h ∙ sym (opened-eq p level);
+        answers = ap (λ (x : Value.Register). record { outcome = Outcome.Refused k; register = x }) i
+            ∙ by-refused k (empty level) (empty 0) (openRefusal p level) e h ∙ sym (opened-eq p level);
         number = e;
         values = refl;
         small = open-le p level;
@@ -77,7 +82,8 @@ module _ (p : Parameters) (level k : ℕ) (r : Register) (e : k ≡ openRefusal 
 
   pub opened-done : k ≡ 0 → valueOf r ≡ empty level → OpenedAs p level (record { outcome = Outcome.Done; register = r })
   opened-done z i = record {
-    answers = ap (λ (x : Value.Register). record { outcome = Outcome.Done; register = x }) i ∙ by-done k (empty level) (empty 0) (openRefusal p level) e z ∙ sym (opened-eq p level);
+    answers = ap (λ (x : Value.Register). record { outcome = Outcome.Done; register = x }) i
+        ∙ by-done k (empty level) (empty 0) (openRefusal p level) e z ∙ sym (opened-eq p level);
     number = sym z ∙ e;
     values = refl;
     small = open-le p level;
@@ -87,7 +93,8 @@ module _ (p : Parameters) (L : ℕ) (r : Register) (u k : ℕ) (e : k ≡ feedRe
   pub feeding-refused : (f : Fed) → f ≡ refusedWith k r → (k ≡ 0 → ⊥) → FedAs p L r u f
   feeding-refused f is h =
       rw is (record {
-        answers = by-refused k (advanced p L (valueOf r) u) (valueOf r) (feedRefusal p L (valueOf r) u) e h ∙ sym (fed-eq p L (valueOf r) u);
+        answers =
+            by-refused k (advanced p L (valueOf r) u) (valueOf r) (feedRefusal p L (valueOf r) u) e h ∙ sym (fed-eq p L (valueOf r) u);
         number = e;
         values = refl;
         small = feed-le p L (valueOf r) u;
@@ -97,7 +104,8 @@ module _ (p : Parameters) (L : ℕ) (r : Register) (u k : ℕ) (e : k ≡ feedRe
       → FedAs p L r u (record { outcome = Outcome.Done; register = record { level = r .level; count = r .count + L; remainder = g } })
   feeding-done g z i = record {
     answers =
-        ap (λ (x : List ℕ). record { outcome = Outcome.Done; register = record { level = r .level; count = r .count + L; remainder = x } }) i
+        ap (λ (x : List ℕ). record { outcome = Outcome.Done; register = record { level = r .level; count = r .count + L; remainder = x } })
+        i
         ∙ ap (λ (x : Value.Register). record { outcome = Outcome.Done; register = x }) (sym (advanced-eq p L (valueOf r) u))
         ∙ by-done k (advanced p L (valueOf r) u) (valueOf r) (feedRefusal p L (valueOf r) u) e z ∙ sym (fed-eq p L (valueOf r) u);
     number = sym z ∙ e;

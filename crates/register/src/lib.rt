@@ -1,4 +1,5 @@
-// The register: opened empty at a level, then fed coefficients, highest power first. Each feeding hands back the register that the next one takes.
+// The register: opened empty at a level, then fed coefficients, highest power first.
+// Each feeding hands back the register that the next one takes.
 ghost use mathlib.Core.Path.{_≡_};
 ghost use Prim.Native.Nat.{_+_, _*_, _^_, _≤_, _<_};
 ghost use lib.ListN.{length};

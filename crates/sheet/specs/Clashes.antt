@@ -58,7 +58,11 @@ search-found P last j s h e = sym (s .same ∙ any-here P j (last + 1 - j) (omeg
 pub search-next : (P : ℕ → Bool) (last j : ℕ) → Searching P last j → j ≤ last → P j ≡ false → Searching P last (j + 1)
 search-next P last j s h e =
     let a : last + 1 - j - 1 ≡ last + 1 - (j + 1) = omega arith in
-    record { low = omega arith; high = omega arith; same = s .same ∙ any-later P j (last + 1 - j) (omega arith) e ∙ ap (anyFrom P (j + 1)) a }
+    record {
+      low = omega arith;
+      high = omega arith;
+      same = s .same ∙ any-later P j (last + 1 - j) (omega arith) e ∙ ap (anyFrom P (j + 1)) a;
+    }
 
 pub search-done : (P : ℕ → Bool) (last j : ℕ) → Searching P last j → last < j → false ≡ anyFrom P 1 last
 search-done P last j s h =

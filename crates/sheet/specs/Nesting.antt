@@ -35,7 +35,8 @@ N-next zero (suc l) hi hl p h = absurd (omega arith)
 N-next (suc i) (suc l) hi hl p h =
     let ei : suc i - 1 ≡ i = omega arith in
     let el : suc l - 1 ≡ l = omega arith in
-    rw (ei, el, shl-exact (7 * i + 1) (suc l) 64 (N-lt i (suc l) hl) (omega arith)) (xor-is (N i l) (N i (suc l) * 2 ^ suc l) ∙ sym (N-step i l))
+    rw (ei, el, shl-exact (7 * i + 1) (suc l) 64 (N-lt i (suc l) hl) (omega arith))
+    (xor-is (N i l) (N i (suc l) * 2 ^ suc l) ∙ sym (N-step i l))
 
 -- ---- the call
 pub nesting-i : (i l : ℕ) → 7 < i → NestingMade i l (Nesting.Refused 9)

@@ -10,7 +10,8 @@ use Rattle.code.specs.declared.Parameters.{Parameters}
 use Rattle.code.specs.declared.Tested.{Tested}
 use Rattle.code.specs.Lists.{_when_, _orElse_}
 use Rattle.code.specs.Answers.{tests}
-use Rattle.code.specs.Parameters.{len, strength, fieldKnown, shapeFits, placeFits, strengthsFit, clashes, sheetRefusal, tested, testedOf, Tests}
+use Rattle.code.specs.Parameters.{len, strength, fieldKnown, shapeFits, placeFits}
+use Rattle.code.specs.Parameters.{strengthsFit, clashes, sheetRefusal, tested, testedOf, Tests}
 use Rattle.element.specs.declared.Field.{Field}
 use Rattle.element.specs.declared.Made.{Made}
 use Rattle.element.specs.Fields.{known, MadeOf, made-known, made-field, known-is, size-least, size-most}
@@ -58,7 +59,8 @@ module _ (p : Parameters) where
   unfolding strengthsFit
   strengths-t1 a h = simp (le-leb 1 (p .t0) a, le-ltb (p .t0) (p .t1) h)
 
-  strengths-eq : strengthsFit p ≡ (leb 1 (p .t0) && ltb (p .t0) (p .t1) && placeFits p 2 && placeFits p 3 && leb (strength p (p .v)) 64 && leb (2 * strength p (p .v)) (len p - 1))
+  strengths-eq : strengthsFit p ≡ (leb 1 (p .t0) && ltb (p .t0) (p .t1) && placeFits p 2 && placeFits p 3 && leb (strength p (p .v)) 64
+      && leb (2 * strength p (p .v)) (len p - 1))
   unfolding strengthsFit
   strengths-eq = refl
 
@@ -68,12 +70,14 @@ module _ (p : Parameters) where
   pub strengths-place-3 : 1 ≤ p .t0 → p .t0 < p .t1 → true ≡ placeFits p 2 → false ≡ placeFits p 3 → false ≡ strengthsFit p
   strengths-place-3 a b c h = sym (strengths-eq ∙ simp (le-leb 1 (p .t0) a, lt-ltb (p .t0) (p .t1) b, ← c, ← h))
 
-  pub strengths-high : (t : ℕ) → 1 ≤ p .t0 → p .t0 < p .t1 → true ≡ placeFits p 2 → true ≡ placeFits p 3 → t ≡ strength p (p .v) → 64 < t → false ≡ strengthsFit p
+  pub strengths-high : (t : ℕ) → 1 ≤ p .t0 → p .t0 < p .t1 → true ≡ placeFits p 2 → true ≡ placeFits p 3 → t ≡ strength p (p .v) → 64 < t
+      → false ≡ strengthsFit p
   strengths-high t a b c d e h =
       let l : 64 < strength p (p .v) = rw e at h in
       sym (strengths-eq ∙ simp (le-leb 1 (p .t0) a, lt-ltb (p .t0) (p .t1) b, ← c, ← d, lt-leb (strength p (p .v)) 64 l))
 
-  pub strengths-rest : (t n : ℕ) → 1 ≤ p .t0 → p .t0 < p .t1 → true ≡ placeFits p 2 → true ≡ placeFits p 3 → t ≡ strength p (p .v) → t ≤ 64 → n ≡ len p → leb (2 * t) (n - 1) ≡ strengthsFit p
+  pub strengths-rest : (t n : ℕ) → 1 ≤ p .t0 → p .t0 < p .t1 → true ≡ placeFits p 2 → true ≡ placeFits p 3 → t ≡ strength p (p .v) → t ≤ 64
+      → n ≡ len p → leb (2 * t) (n - 1) ≡ strengthsFit p
   strengths-rest t n a b c d e h f =
       let l : strength p (p .v) ≤ 64 = rw e at h in
       sym (strengths-eq ∙ simp (le-leb 1 (p .t0) a, lt-ltb (p .t0) (p .t1) b, ← c, ← d, le-leb (strength p (p .v)) 64 l) (rw (e, f) refl))
@@ -95,13 +99,20 @@ shape-facts p e =
     let c = both (leb 1 (p .v) && leb (p .v) 3 && ltb (p .v) (p .m)) (leb (p .m) 8) (holds (shapeFits p) e) in
     let b = both (leb 1 (p .v) && leb (p .v) 3) (ltb (p .v) (p .m)) (c .0) in
     let a = both (leb 1 (p .v)) (leb (p .v) 3) (b .0) in
-    record { v-low = leb→le 1 (p .v) (a .0); v-high = leb→le (p .v) 3 (a .1); m-low = ltb→lt (p .v) (p .m) (b .1); m-high = leb→le (p .m) 8 (c .1) }
+    record {
+      v-low = leb→le 1 (p .v) (a .0);
+      v-high = leb→le (p .v) 3 (a .1);
+      m-low = ltb→lt (p .v) (p .m) (b .1);
+      m-high = leb→le (p .m) 8 (c .1);
+    }
 
 pub strength-high : (p : Parameters) → true ≡ strengthsFit p → strength p (p .v) ≤ 64
 unfolding strengthsFit
 strength-high p e =
-    let b = both (leb 1 (p .t0) && ltb (p .t0) (p .t1) && placeFits p 2 && placeFits p 3 && leb (strength p (p .v)) 64) (leb (2 * strength p (p .v)) (len p - 1)) (holds (strengthsFit p) e) in
-    leb→le (strength p (p .v)) 64 (both (leb 1 (p .t0) && ltb (p .t0) (p .t1) && placeFits p 2 && placeFits p 3) (leb (strength p (p .v)) 64) (b .0) .1)
+    let b = both (leb 1 (p .t0) && ltb (p .t0) (p .t1) && placeFits p 2 && placeFits p 3 && leb (strength p (p .v)) 64)
+    (leb (2 * strength p (p .v)) (len p - 1)) (holds (strengthsFit p) e) in
+    leb→le (strength p (p .v)) 64
+    (both (leb 1 (p .t0) && ltb (p .t0) (p .t1) && placeFits p 2 && placeFits p 3) (leb (strength p (p .v)) 64) (b .0) .1)
 
 -- ---- what a made field says
 pub record FieldFacts (q : ℕ) (f : Field) : Type 0 where
@@ -120,7 +131,8 @@ field-facts q r f h e =
 
 -- ---- the whole test: the refusal by its four links
 module _ (p : Parameters) where
-  tested-eq : tested p ≡ testedOf p (1 when not (fieldKnown p) orElse 2 when not (shapeFits p) orElse 3 when not (strengthsFit p) orElse 4 when clashes p)
+  tested-eq : tested p
+      ≡ testedOf p (1 when not (fieldKnown p) orElse 2 when not (shapeFits p) orElse 3 when not (strengthsFit p) orElse 4 when clashes p)
   unfolding tested sheetRefusal
   tested-eq = refl
 
@@ -140,5 +152,7 @@ module _ (p : Parameters) where
   pub test-clash : known (p .q) ≡ true → true ≡ shapeFits p → true ≡ strengthsFit p → true ≡ clashes p → Tests p (Tested.Refused 4)
   test-clash k s t h = tests p (Tested.Refused 4) (sym (tested-eq ∙ simp (known-eq, k, ← s, ← t, ← h)))
 
-  pub test-accepted : known (p .q) ≡ true → true ≡ shapeFits p → true ≡ strengthsFit p → false ≡ clashes p → Tests p (Tested.Accepted (p .q) (p .m) (p .v) (p .t0) (p .t1) (p .t2) (p .t3))
-  test-accepted k s t h = tests p (Tested.Accepted (p .q) (p .m) (p .v) (p .t0) (p .t1) (p .t2) (p .t3)) (sym (tested-eq ∙ simp (known-eq, k, ← s, ← t, ← h)))
+  pub test-accepted : known (p .q) ≡ true → true ≡ shapeFits p → true ≡ strengthsFit p → false ≡ clashes p
+      → Tests p (Tested.Accepted (p .q) (p .m) (p .v) (p .t0) (p .t1) (p .t2) (p .t3))
+  test-accepted k s t h =
+      tests p (Tested.Accepted (p .q) (p .m) (p .v) (p .t0) (p .t1) (p .t2) (p .t3)) (sym (tested-eq ∙ simp (known-eq, k, ← s, ← t, ← h)))

@@ -24,7 +24,8 @@ module _ (p : Parameters) where
   next : (k d t : ℕ) → d ≡ least p k → t ≡ strength p (p .v - k) → min (suc k * (2 * t + 1)) d ≡ least p (suc k)
   next k d t e f = ap₂ (λ (s y : ℕ). min (suc k * (2 * s + 1)) y) f e
 
-  pub lowest-turn : (b d t w r : ℕ) → Lowest p b d → b ≤ p .v → t ≡ strength p (p .v - b + 1) → w ≡ b * (2 * t + 1) → r ≡ min w d → Lowest p (b + 1) r
+  pub lowest-turn : (b d t w r : ℕ) → Lowest p b d → b ≤ p .v → t ≡ strength p (p .v - b + 1) → w ≡ b * (2 * t + 1) → r ≡ min w d
+      → Lowest p (b + 1) r
   lowest-turn zero d t w r L h e f g = absurd (Nat.not-suc-le-zero {n = 0} (L .low))
   lowest-turn (suc k) d t w r L h e f g =
       let s : p .v - suc k + 1 ≡ p .v - k = omega arith in

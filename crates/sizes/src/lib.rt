@@ -1,4 +1,5 @@
-// The sizes of a sheet: the degrees of its generators, the bytes of a page and of its blocks, and the distance. Each call takes any numbers.
+// The sizes of a sheet: the degrees of its generators, the bytes of a page and of its blocks, and the distance.
+// Each call takes any numbers.
 ghost use mathlib.Core.Path.{_≡_};
 ghost use Prim.Native.Nat.{_+_, _*_, _≤_, min};
 ghost use Rattle.code.specs.Code.{degree as Code·degree, distance as Code·distance};

@@ -28,7 +28,8 @@ square q h c j =
     sym (ap₂ (times q) (syndrome-num q h c j) (syndrome-num q h c j)) ∙ sym (times-num q h (eval F c x) (eval F c x))
     ∙ ap (fieldOf q .num) (sym (eval-sq F c x) ∙ ap (eval F c) (sym (pow-add F (fieldOf q .α) j j))) ∙ syndrome-num q h c (j + j)
 
-pub even-is : (q : ℕ) → Known q → (c i : ℕ) (l : List ℕ) → Begun q c i l → (i % 2 ≡ 0 → ⊥) → times q (getD l (i / 2) 0) (getD l (i / 2) 0) ≡ syndrome q c (i + 1)
+pub even-is : (q : ℕ) → Known q → (c i : ℕ) (l : List ℕ) → Begun q c i l → (i % 2 ≡ 0 → ⊥)
+    → times q (getD l (i / 2) 0) (getD l (i / 2) 0) ≡ syndrome q c (i + 1)
 even-is q h c i l b o =
     let e : i / 2 + 1 + (i / 2 + 1) ≡ i + 1 = omega arith in
     ap₂ (times q) (b (i / 2) (omega arith)) (b (i / 2) (omega arith)) ∙ square q h c (i / 2 + 1) ∙ ap (syndrome q c) e
@@ -42,7 +43,8 @@ begun-next q c k s l h b e i j = go (Nat.eq-or-lt-of-le (Nat.le-of-suc-le-suc (o
 
 pub begun-all : (q c : ℕ) (l : List ℕ) → Begun q c (length l) l → l ≡ map (λ j. syndrome q c j) (range 1 (length l))
 begun-all q c l b =
-    ext-getD 0 l (map (λ j. syndrome q c j) (range 1 (length l))) (sym (length-map (range 1 (length l)) (λ j. syndrome q c j) ∙ length-range 1 (length l)))
+    ext-getD 0 l (map (λ j. syndrome q c j) (range 1 (length l)))
+    (sym (length-map (range 1 (length l)) (λ j. syndrome q c j) ∙ length-range 1 (length l)))
     (λ i h. b i h ∙ ap (syndrome q c) (Nat.add-comm i 1) ∙ sym (getD-map-range (λ j. syndrome q c j) 1 (length l) i h))
 
 pub begun-lt : (q : ℕ) → Known q → (c k i : ℕ) (l : List ℕ) → Begun q c k l → i < k → getD l i 0 < 2 ^ q

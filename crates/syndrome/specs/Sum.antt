@@ -38,16 +38,20 @@ module _ (f : Field) (p l : List ℕ) (t : Tables f p l) (c j : ℕ) where
 
   -- the power at the exponent
   pub power-at : (k e : ℕ) → e ≡ j * k % (2 ^ f .q - 1) → e < 2 ^ f .q - 1 → getD p e 0 ≡ power (f .q) (j * k)
-  power-at k e h b = sym (getD-take (2 ^ f .q - 1) p e 0 b) ∙ t .powers .entry e b ∙ ap (power (f .q)) h ∙ power-mod (f .q) (t .field .known) (j * k)
+  power-at k e h b =
+      sym (getD-take (2 ^ f .q - 1) p e 0 b) ∙ t .powers .entry e b ∙ ap (power (f .q)) h ∙ power-mod (f .q) (t .field .known) (j * k)
 
-  pub sum-next : (k e x b g : ℕ) → Summing (f .q) c j k e x → e < 2 ^ f .q - 1 → b ≡ coefficient c k → g ≡ (e + j) % (2 ^ f .q - 1) → Summing (f .q) c j (k + 1) g (bitXor x (b * getD p e 0))
+  pub sum-next : (k e x b g : ℕ) → Summing (f .q) c j k e x → e < 2 ^ f .q - 1 → b ≡ coefficient c k → g ≡ (e + j) % (2 ^ f .q - 1)
+      → Summing (f .q) c j (k + 1) g (bitXor x (b * getD p e 0))
   sum-next k e x b g s h u v = record {
     place =
         let a : j * (k + 1) ≡ j * k + j = omega arith in
-        v ∙ ap (λ (y : ℕ). (y + j) % (2 ^ f .q - 1)) (s .place) ∙ Nat.mod-add-mod (j * k) (2 ^ f .q - 1) j ∙ ap (λ (y : ℕ). y % (2 ^ f .q - 1)) (sym a);
+        v ∙ ap (λ (y : ℕ). (y + j) % (2 ^ f .q - 1)) (s .place) ∙ Nat.mod-add-mod (j * k) (2 ^ f .q - 1) j
+        ∙ ap (λ (y : ℕ). y % (2 ^ f .q - 1)) (sym a);
     sum =
         xor-is x (b * getD p e 0) ∙ ap₂ xor (s .sum) (ap₂ _*_ u (power-at k e (s .place) h))
-        ∙ sym (ap (λ (y : ℕ). sumBelow y (λ i. coefficient c i * power (f .q) (j * i))) (add-one k) ∙ sumBelow-suc k (λ i. coefficient c i * power (f .q) (j * i)));
+        ∙ sym (ap (λ (y : ℕ). sumBelow y (λ i. coefficient c i * power (f .q) (j * i))) (add-one k)
+        ∙ sumBelow-suc k (λ i. coefficient c i * power (f .q) (j * i)));
   }
 
   pub sum-done : (k e x : ℕ) → Summing (f .q) c j k e x → c < 2 ^ k → x ≡ syndrome (f .q) c j

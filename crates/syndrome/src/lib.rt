@@ -64,7 +64,8 @@ fn next_syndrome(
     w: usize,
     i: usize,
 ) -> u32
-    requires { ⌜ Tables f (now powers) (now logs) × (w ≤ 64 * length (now r)) × (value 64 (now r) < 2 ^ w) × (i + 1 < 2 ^ f .q - 1) × (i ≤ length (now list)) × Begun (f .q) (value 64 (now r)) i (now list) ⌝ }
+    requires { ⌜ Tables f (now powers) (now logs) × (w ≤ 64 * length (now r)) × (value 64 (now r) < 2 ^ w) × (i + 1 < 2 ^ f .q - 1)
+        × (i ≤ length (now list)) × Begun (f .q) (value 64 (now r)) i (now list) ⌝ }
     ensures { λ x. ⌜ x ≡ syndrome (f .q) (value 64 (now (r .entry))) (i + 1) ⌝ }
 {
     if i % 2 == 0 {
@@ -76,7 +77,8 @@ fn next_syndrome(
 
 // S_1, S_2, .. of the polynomial in r, as many as the list has places.
 pub fn syndromes_into(list: &mut [u16], powers: &[u16], logs: &[u16], f: Field, r: &[u64], w: usize)
-    requires { ⌜ Tables f (now powers) (now logs) × (w ≤ 64 * length (now r)) × (value 64 (now r) < 2 ^ w) × (length (now list) < 2 ^ f .q - 1) ⌝ }
+    requires { ⌜ Tables f (now powers) (now logs) × (w ≤ 64 * length (now r)) × (value 64 (now r) < 2 ^ w)
+        × (length (now list) < 2 ^ f .q - 1) ⌝ }
     ensures { λ x. ⌜ now (list .exit) ≡ map (λ j. syndrome (f .q) (value 64 (now (r .entry))) j) (range 1 (length (now (list .entry)))) ⌝ }
 {
     let mut i: usize = 0;

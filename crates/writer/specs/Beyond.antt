@@ -49,7 +49,8 @@ module _ (p : Parameters) (L : ℕ) (x : List ℕ) (n : ℕ) where
 
       go : (sheetRefusal p ≡ 0) ⊎ (0 < sheetRefusal p) → writeRefusal p L x n ≡ early p L
       go (inl A) =
-          write-chain p L x n ∙ rw (A, ne-eqb (length x) (dataBytes p) (h A)) (links (badWidth L) (notExact n (pageBytes p)) (not (blocksClear p x)))
+          write-chain p L x n
+          ∙ rw (A, ne-eqb (length x) (dataBytes p) (h A)) (links (badWidth L) (notExact n (pageBytes p)) (not (blocksClear p x)))
       go (inr k) = write-sheet p L x n k ∙ sym (or-first (sheetRefusal p) (5 when badWidth L orElse 6) k)
 
 -- ---- the leading bytes are among the first 8
@@ -66,7 +67,15 @@ module _ (k : ℕ) (input : List ℕ) (h : 8 ≤ k) where
   sheet-taken : sheetGiven (take k input) ≡ sheetGiven input
   sheet-taken =
       sheet-eq (take k input)
-      ∙ rw (lead-taken 0 (lit< tt), lead-taken 1 (lit< tt), lead-taken 2 (lit< tt), strength-taken 0 (lit< tt), strength-taken 1 (lit< tt), strength-taken 2 (lit< tt), strength-taken 3 (lit< tt)) (sym (sheet-eq input))
+      ∙ rw (
+        lead-taken 0 (lit< tt),
+        lead-taken 1 (lit< tt),
+        lead-taken 2 (lit< tt),
+        strength-taken 0 (lit< tt),
+        strength-taken 1 (lit< tt),
+        strength-taken 2 (lit< tt),
+        strength-taken 3 (lit< tt),
+      ) (sym (sheet-eq input))
 
 -- ---- an input of more than 4,092 bytes
 module _ (input : List ℕ) (h : 4093 ≤ length input) where
@@ -108,7 +117,8 @@ pub beyond-read : (input : List ℕ) → writer (take 4093 input) ≡ writer inp
 beyond-read input = beyond 4093 input (Nat.le-refl 4093)
 
 -- what was written for the bytes read was written for the input
-pub wrote-beyond : (k : ℕ) (input : List ℕ) (count : ℕ) (bytes : List ℕ) → 4093 ≤ k → Wrote (take k input) count bytes → Wrote input count bytes
+pub wrote-beyond : (k : ℕ) (input : List ℕ) (count : ℕ) (bytes : List ℕ) → 4093 ≤ k → Wrote (take k input) count bytes
+    → Wrote input count bytes
 wrote-beyond k input count bytes h w =
     let e = beyond k input h in
     record { counted = w .counted ∙ ap length e; output = w .output ∙ ap (λ (l : List ℕ). l ++ replicate (4097 - length l) 0) e }
@@ -118,7 +128,8 @@ pub record Answered (room : List ℕ) (got count : ℕ) (bytes : List ℕ) : Typ
   pub fits : Counts count bytes
   pub wrote : (input : List ℕ) → take (length room) input ≡ take got room → Wrote input count bytes
 
-pub answered : (room : List ℕ) (got count : ℕ) (bytes : List ℕ) → 4093 ≤ length room → Wrote (take got room) count bytes → Answered room got count bytes
+pub answered : (room : List ℕ) (got count : ℕ) (bytes : List ℕ) → 4093 ≤ length room → Wrote (take got room) count bytes
+    → Answered room got count bytes
 answered room got count bytes h w = record {
   fits = wrote-fits (take got room) count bytes w;
   wrote = λ input e. wrote-beyond (length room) input count bytes h (rw e w);

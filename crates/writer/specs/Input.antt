@@ -69,7 +69,8 @@ module _ (input : List ℕ) where
   sheet-eq = refl
 
   pub sheet-is : (p : Parameters) → p .q ≡ lead input 0 → p .m ≡ lead input 1 → p .v ≡ lead input 2
-      → p .t0 ≡ strengthGiven input 0 → p .t1 ≡ strengthGiven input 1 → p .t2 ≡ strengthGiven input 2 → p .t3 ≡ strengthGiven input 3 → p ≡ sheetGiven input
+      → p .t0 ≡ strengthGiven input 0 → p .t1 ≡ strengthGiven input 1 → p .t2 ≡ strengthGiven input 2 → p .t3 ≡ strengthGiven input 3
+      → p ≡ sheetGiven input
   sheet-is p a b c d e f g = rw (sheet-eq, ← a, ← b, ← c, ← d, ← e, ← f, ← g) refl
 
   -- ---- the blocks
@@ -82,4 +83,7 @@ module _ (input : List ℕ) where
 
   pub begins-end : (k : ℕ) → k ≡ strengthsGiven input → length input ≤ 4 + k → Begins input (length input)
   begins-end k e h =
-      record { within = Nat.le-refl (length input); rest = drop-of-length-le input (Nat.le-refl (length input)) ∙ sym (blocks-eq ∙ rw (← e) (drop-of-length-le input h)) }
+      record {
+        within = Nat.le-refl (length input);
+        rest = drop-of-length-le input (Nat.le-refl (length input)) ∙ sym (blocks-eq ∙ rw (← e) (drop-of-length-le input h));
+      }

@@ -31,7 +31,8 @@ use Rattle.layout.specs.Parts.{offset-all, offset-next, offset-zero}
 -- ---- degrees do not fall, and those of strengths 1 and 2 at q = 12 are 12 and 24
 width-mono : (B : BinaryField) (s t : ℕ) → s ≤ t → width B s ≤ width B t
 width-mono B s t h =
-    rw (width-eq B s, width-eq B t) (length-le B (exponents (B .n) (B .q) s) (orbit-exponents (B .n) (B .q) (B .size) (n-pos B) s) (exponents (B .n) (B .q) t) (exponents-mono (B .n) (B .q) s t h))
+    rw (width-eq B s, width-eq B t) (length-le B (exponents (B .n) (B .q) s) (orbit-exponents (B .n) (B .q) (B .size) (n-pos B) s)
+    (exponents (B .n) (B .q) t) (exponents-mono (B .n) (B .q) s t h))
 
 many-one : length (exponents 4095 12 1) ≡ 12
 unfolding exponents distinct values row
@@ -51,7 +52,8 @@ higher p A =
     let a = none 0 (fieldKnown p) (2 when not (shapeFits p) orElse 3 when not (strengthsFit p) orElse 4 when clashes p) A in
     let b = none 1 (shapeFits p) (3 when not (strengthsFit p) orElse 4 when clashes p) (a .1) in
     let c = none 2 (strengthsFit p) (4 when clashes p) (b .1) in
-    let t5 = both (leb 1 (p .t0) && ltb (p .t0) (p .t1) && placeFits p 2 && placeFits p 3 && leb (strength p (p .v)) 64) (leb (2 * strength p (p .v)) (len p - 1)) (c .0) in
+    let t5 = both (leb 1 (p .t0) && ltb (p .t0) (p .t1) && placeFits p 2 && placeFits p 3 && leb (strength p (p .v)) 64)
+    (leb (2 * strength p (p .v)) (len p - 1)) (c .0) in
     let t4 = both (leb 1 (p .t0) && ltb (p .t0) (p .t1) && placeFits p 2 && placeFits p 3) (leb (strength p (p .v)) 64) (t5 .0) in
     let t3 = both (leb 1 (p .t0) && ltb (p .t0) (p .t1) && placeFits p 2) (placeFits p 3) (t4 .0) in
     let t2 = both (leb 1 (p .t0) && ltb (p .t0) (p .t1)) (placeFits p 2) (t3 .0) in
@@ -73,22 +75,26 @@ module _ (p : Parameters) (A : Accepted p) where
   -- check bits at q = 12, where the level's strength is at least t
   check-least : (t c i : ℕ) → length (exponents 4095 12 t) ≡ c → t ≤ strength p (level p i) → p .q ≡ 12 → c ≤ checkBits p i
   check-least t c i e h f =
-      rw (degree-eq p (level p i), f) (Nat.le-trans (Nat.le-of-eq (sym (width-twelve t ∙ e))) (width-mono (fieldOf 12) t (strength p (level p i)) h))
+      rw (degree-eq p (level p i), f)
+      (Nat.le-trans (Nat.le-of-eq (sym (width-twelve t ∙ e))) (width-mono (fieldOf 12) t (strength p (level p i)) h))
 
   block-all : (i : ℕ) → (dataBits p i + 7) / 8 ≤ 511
   block-all i =
-      let b : dataBits p i ≤ 4095 - 12 = data-most (p .q) (checkBits p i) 12 (R .known) (lit≤ tt) (check-least 1 12 i many-one (Nat.le-trans (R .t-low) (rising p R 0 (level p i) zero-le (level-low i)))) in
+      let b : dataBits p i ≤ 4095 - 12 = data-most (p .q) (checkBits p i) 12 (R .known) (lit≤ tt)
+      (check-least 1 12 i many-one (Nat.le-trans (R .t-low) (rising p R 0 (level p i) zero-le (level-low i)))) in
       omega arith
 
   block-first : (i : ℕ) → i < p .v → (dataBits p i + 7) / 8 ≤ 509
   block-first i h =
       let l : 1 ≤ level p i = omega arith in
       let s : 2 ≤ strength p 1 = omega (arith, higher p A, R .t-low) in
-      let b : dataBits p i ≤ 4095 - 24 = data-most (p .q) (checkBits p i) 24 (R .known) (lit≤ tt) (check-least 2 24 i many-two (Nat.le-trans s (rising p R 1 (level p i) l (level-low i)))) in
+      let b : dataBits p i ≤ 4095 - 24 = data-most (p .q) (checkBits p i) 24 (R .known) (lit≤ tt)
+      (check-least 2 24 i many-two (Nat.le-trans s (rising p R 1 (level p i) l (level-low i)))) in
       omega arith
 
   -- ---- the blocks before block i: two bytes less for each of the first v
-  more : (i : ℕ) → i < p .m → blockOffset p i + 2 * (i - (i - p .v)) ≤ i * 511 → blockOffset p (suc i) + 2 * (suc i - (suc i - p .v)) ≤ suc i * 511
+  more : (i : ℕ) → i < p .m → blockOffset p i + 2 * (i - (i - p .v)) ≤ i * 511
+      → blockOffset p (suc i) + 2 * (suc i - (suc i - p .v)) ≤ suc i * 511
   more i h l = rw (← add-one i, offset-next p i h) (go (decLt i (p .v)))
     where
       go : Dec (i < p .v) → blockOffset p i + (dataBits p i + 7) / 8 + 2 * (i + 1 - (i + 1 - p .v)) ≤ (i + 1) * 511

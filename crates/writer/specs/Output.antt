@@ -31,8 +31,11 @@ module _ (input : List ℕ) where
   pub writer-done : refusalOf input ≡ 0 → writer input ≡ 0 ∷ pageGiven input
   writer-done e = writer-eq ∙ ap (λ (r : ℕ). outputOf r (pageGiven input)) e
 
-  pub wrote-by : (out : List ℕ) (count : ℕ) (bytes : List ℕ) → writer input ≡ out → count ≡ length out → bytes ≡ out ++ replicate (4097 - length out) 0 → Wrote input count bytes
-  wrote-by out count bytes e f g = record { counted = f ∙ sym (ap length e); output = g ∙ sym (ap (λ (l : List ℕ). l ++ replicate (4097 - length l) 0) e) }
+  pub wrote-by : (out : List ℕ) (count : ℕ) (bytes : List ℕ) → writer input ≡ out → count ≡ length out
+      → bytes ≡ out ++ replicate (4097 - length out) 0 → Wrote input count bytes
+  wrote-by out count bytes e f g =
+      record { counted = f ∙ sym (ap length e); output = g ∙ sym (ap (λ (l : List ℕ). l ++ replicate (4097 - length l) 0) e) }
 
-  pub wrote-refused : (k count : ℕ) (bytes : List ℕ) → k ≡ refusalOf input → 0 < k → count ≡ 1 → bytes ≡ k ∷ replicate 4096 0 → Wrote input count bytes
+  pub wrote-refused : (k count : ℕ) (bytes : List ℕ) → k ≡ refusalOf input → 0 < k → count ≡ 1 → bytes ≡ k ∷ replicate 4096 0
+      → Wrote input count bytes
   wrote-refused k count bytes e h f g = wrote-by (k ∷ []) count bytes (writer-refused k e h) f g

@@ -23,10 +23,12 @@ drop-replicate (suc k) zero = let e : 0 ≡ 0 - suc k = omega arith in ap (λ (i
 drop-replicate (suc k) (suc n) = let e : n - k ≡ suc n - suc k = omega arith in drop-replicate k n ∙ ap (λ (i : ℕ). replicate i 0) e
 
 -- with x from place 1 on
-room-filled : (n k : ℕ) (zeros x : List ℕ) → zeros ≡ replicate (suc n) 0 → k ≡ length x → take 1 zeros ++ (x ++ drop k (drop 1 zeros)) ≡ (0 ∷ x) ++ replicate (suc n - length (0 ∷ x)) 0
+room-filled : (n k : ℕ) (zeros x : List ℕ) → zeros ≡ replicate (suc n) 0 → k ≡ length x
+    → take 1 zeros ++ (x ++ drop k (drop 1 zeros)) ≡ (0 ∷ x) ++ replicate (suc n - length (0 ∷ x)) 0
 room-filled n k zeros x z e =
     let f : n - k ≡ suc n - length (0 ∷ x) = omega arith in
-    ap (λ (l : List ℕ). take 1 l ++ (x ++ drop k (drop 1 l))) z ∙ ap (λ (l : List ℕ). 0 ∷ (x ++ l)) (drop-replicate k n ∙ ap (λ (i : ℕ). replicate i 0) f)
+    ap (λ (l : List ℕ). take 1 l ++ (x ++ drop k (drop 1 l))) z
+    ∙ ap (λ (l : List ℕ). 0 ∷ (x ++ l)) (drop-replicate k n ∙ ap (λ (i : ℕ). replicate i 0) f)
 
 room-length : (n k : ℕ) (zeros : List ℕ) → zeros ≡ replicate (suc n) 0 → k ≤ n → length (take k (drop 1 zeros)) ≡ k
 room-length n k zeros z h =
@@ -61,16 +63,20 @@ module _ (input : List ℕ) (p : Parameters) (L at k : ℕ) (zeros : List ℕ) (
   given-is = take-all (length input - at) (drop at input) (Nat.le-of-eq (length-drop at input)) ∙ a .begins .rest
 
   lent-length : length lent ≡ pageBytes (sheetGiven input)
-  lent-length = ap (λ (i : ℕ). length (take i (drop 1 zeros))) size ∙ room-length 4096 k zeros (a .clear) (a .most) ∙ a .page ∙ ap pageBytes (a .sheet)
+  lent-length =
+      ap (λ (i : ℕ). length (take i (drop 1 zeros))) size ∙ room-length 4096 k zeros (a .clear) (a .most) ∙ a .page
+      ∙ ap pageBytes (a .sheet)
 
   refusal-is : writeRefusal p L given (length lent) ≡ refusalOf input
   refusal-is = rw (given-is, lent-length, a .width, a .sheet) refl
 
-  pub page-refused : (n count : ℕ) (after bytes : List ℕ) → Written p L given lent after (Outcome.Refused n) → count ≡ 1 → bytes ≡ n ∷ replicate 4096 0 → Wrote input count bytes
+  pub page-refused : (n count : ℕ) (after bytes : List ℕ) → Written p L given lent after (Outcome.Refused n) → count ≡ 1
+      → bytes ≡ n ∷ replicate 4096 0 → Wrote input count bytes
   page-refused n count after bytes w f g =
       wrote-refused input n count bytes (w .number ∙ refusal-is) (outcome-pos (writeRefusal p L given (length lent)) n (w .answers)) f g
 
-  pub page-done : (after : List ℕ) → Written p L given lent after Outcome.Done → length after ≡ length lent → Wrote input (1 + k) (take 1 zeros ++ (after ++ drop (1 + k - 1) (drop 1 zeros)))
+  pub page-done : (after : List ℕ) → Written p L given lent after Outcome.Done → length after ≡ length lent
+      → Wrote input (1 + k) (take 1 zeros ++ (after ++ drop (1 + k - 1) (drop 1 zeros)))
   page-done after w l =
       let z : 0 ≡ writeRefusal p L given (length lent) = w .number in
       let x : after ≡ pageOf p given = w .buffer ∙ ap (λ (r : ℕ). leaves r (pageOf p given) lent) (sym z) in

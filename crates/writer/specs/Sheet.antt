@@ -36,12 +36,14 @@ module _ (p : Parameters) (L : ℕ) (x : List ℕ) (n : ℕ) where
 
 -- ---- the test's answer is a refusal, whose number is written
 pub sheet-refused : (input : List ℕ) (p : Parameters) (t : Tested) (n k count : ℕ) (bytes : List ℕ)
-    → p ≡ sheetGiven input → Tests p t → t ≡ Tested.Refused n → k ≡ testedNumber t → count ≡ 1 → bytes ≡ k ∷ replicate 4096 0 → Wrote input count bytes
+    → p ≡ sheetGiven input → Tests p t → t ≡ Tested.Refused n → k ≡ testedNumber t → count ≡ 1 → bytes ≡ k ∷ replicate 4096 0
+    → Wrote input count bytes
 sheet-refused input p t n k count bytes e s r f a b =
     let h : 0 < k = rw (f, r) (sheet-pos p n (rw r at s)) in
     let g : k ≡ sheetRefusal p = f ∙ s .number in
     wrote-refused input k count bytes
-    (g ∙ sym (write-sheet p (lead input 3) (blocksGiven input) (pageBytes p) (rw (← g) h)) ∙ ap (λ (q : Parameters). writeRefusal q (lead input 3) (blocksGiven input) (pageBytes q)) e) h a b
+    (g ∙ sym (write-sheet p (lead input 3) (blocksGiven input) (pageBytes p) (rw (← g) h))
+    ∙ ap (λ (q : Parameters). writeRefusal q (lead input 3) (blocksGiven input) (pageBytes q)) e) h a b
 
 -- ---- the test's answer is the sheet
 accepted-by : (p : Parameters) (r q m v t0 t1 t2 t3 : ℕ) → r ≡ 0 → Tested.Accepted q m v t0 t1 t2 t3 ≡ testedOf p r

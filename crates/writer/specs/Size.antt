@@ -25,7 +25,8 @@ use Rattle.writer.specs.Sheet.{write-accepted}
 -- a page has its length whatever the blocks are
 page-length : (p : Parameters) (x : List ℕ) → length (pageOf p x) ≡ pageBytes p
 page-length p x =
-    let many : length (encode p (blocksOf p x)) ≡ length (wordSizes p) = encode-length p (blocksOf p x) ∙ ap length (blocksOf-eq p x) ∙ length-split (blockSizes p) x ∙ length-blocks p ∙ sym (length-words p) in
+    let many : length (encode p (blocksOf p x)) ≡ length (wordSizes p) =
+    encode-length p (blocksOf p x) ∙ ap length (blocksOf-eq p x) ∙ length-split (blockSizes p) x ∙ length-blocks p ∙ sym (length-words p) in
     ap length (pageOf-eq p x) ∙ length-join (wordSizes p) (encode p (blocksOf p x)) many
     ∙ sym (sum-all (wordSizes p) (p .m) (length-words p)) ∙ offset-replicate (p .m) (subWordBytes p) (p .m) (Nat.le-refl (p .m))
 
@@ -43,6 +44,7 @@ module _ (input : List ℕ) where
   pub wrote-fits : (count : ℕ) (bytes : List ℕ) → Wrote input count bytes → (count ≤ length bytes) × (count ≡ length (take count bytes))
   wrote-fits count bytes w =
       let e : length bytes ≡ length (writer input) + (4097 - length (writer input)) =
-      ap length (w .output) ∙ length-append (writer input) (replicate (4097 - length (writer input)) 0) ∙ ap (λ (k : ℕ). length (writer input) + k) (length-replicate (4097 - length (writer input)) 0) in
+      ap length (w .output) ∙ length-append (writer input) (replicate (4097 - length (writer input)) 0)
+      ∙ ap (λ (k : ℕ). length (writer input) + k) (length-replicate (4097 - length (writer input)) 0) in
       let h : count ≤ length bytes = omega (arith, w .counted) in
       (h, sym (length-take count bytes ∙ Nat.min-eq-left h))

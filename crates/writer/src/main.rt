@@ -1,4 +1,5 @@
-// The writer program: standard input has q, m, v, L, then t_0 to t_v if v is 1 to 3, then the blocks; a missing one of these leading bytes counts as 0.
+// The writer program: standard input has q, m, v, L, then t_0 to t_v if v is 1 to 3, then the blocks;
+// a missing one of these leading bytes counts as 0.
 // It writes byte 0 and the page, or one byte, the refusal's number.
 ghost use mathlib.Core.Path.{_≡_};
 ghost use mathlib.Core.List.{_∷_};
@@ -136,8 +137,8 @@ fn page_written(input: &[u8], p: Parameters) -> Output
 
 // ---- writing
 
-// The output owed for the `got` bytes that were read to the room's start is written. That it goes to standard output, whole, is tested and not proved: no contract
-// speaks of what a program writes.
+// The output owed for the `got` bytes that were read to the room's start is written. That it goes to standard output, whole, is tested and
+// not proved: no contract speaks of what a program writes.
 fn put(room: &[u8], got: usize, out: Output)
     requires { ⌜ Answered (now room) got (out .count) (out .bytes) ⌝ }
 {
@@ -146,7 +147,8 @@ fn put(room: &[u8], got: usize, out: Output)
     io::write_all(STDOUT_FILENO, &bytes[..count]);
 }
 
-// Byte 0 and the page, or the number of a refusal, for the `got` bytes that were read to the room's start: no byte that comes after a full room alters it.
+// Byte 0 and the page, or the number of a refusal, for the `got` bytes that were read to the room's start:
+// no byte that comes after a full room alters it.
 fn respond(room: &[u8], got: usize)
     requires { ⌜ (4093 ≤ length (now room)) × (got ≤ length (now room)) ⌝ }
 {
