@@ -63,7 +63,7 @@ fn raised(g: [u64; 13], factors: &[u16], s: usize, t: usize) -> [u64; 13]
 }
 
 // The rows of the generators, by the table of the factors of p's field.
-fn rows_by(p: Parameters, factors: &[u16]) -> [[u64; 13]; 4]
+fn rows_from(p: Parameters, factors: &[u16]) -> [[u64; 13]; 4]
     requires { ⌜ Accepted p × Factors (p .q) (now factors) ⌝ }
     ensures { λ r. ⌜ r ≡ generators p ⌝ }
 {
@@ -99,14 +99,14 @@ pub fn rows(p: Parameters) -> [[u64; 13]; 4]
     let f = Field::of(p.q);
     if f.q == 4 {
         let t = tables::factors4();
-        return rows_by(p, &t);
+        return rows_from(p, &t);
     }
     if f.q == 8 {
         let t = tables::factors8();
-        return rows_by(p, &t);
+        return rows_from(p, &t);
     }
     let t = tables::factors12();
-    rows_by(p, &t)
+    rows_from(p, &t)
 }
 
 // The same for any numbers; the rows of a refused sheet are 0.

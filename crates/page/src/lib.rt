@@ -53,7 +53,7 @@ pub fn judge(p: Parameters, page: &[u8]) -> Verdict
 }
 
 // Read out, for accepted parameters.
-fn read_by(p: Parameters, page: &[u8], blocks: &mut [u8]) -> Verdict
+fn read_accepted(p: Parameters, page: &[u8], blocks: &mut [u8]) -> Verdict
     requires { ⌜ Accepted p ⌝ }
     ensures { λ r. ⌜ ReadOut p (now (page .entry)) (now (blocks .entry)) (now (blocks .exit)) r ⌝ }
 {
@@ -75,11 +75,11 @@ pub fn read_out(p: Parameters, page: &[u8], blocks: &mut [u8]) -> Verdict
     if k != 0 {
         return Verdict::Refused(k);
     }
-    read_by(p, page, blocks)
+    read_accepted(p, page, blocks)
 }
 
 // Write, for accepted parameters.
-fn write_by(p: Parameters, width: u32, blocks: &[u8], page: &mut [u8]) -> Outcome
+fn write_accepted(p: Parameters, width: u32, blocks: &[u8], page: &mut [u8]) -> Outcome
     requires { ⌜ Accepted p ⌝ }
     ensures { λ r. ⌜ Written p width (now (blocks .entry)) (now (page .entry)) (now (page .exit)) r ⌝ }
 {
@@ -101,5 +101,5 @@ pub fn write(p: Parameters, width: u32, blocks: &[u8], page: &mut [u8]) -> Outco
     if k != 0 {
         return Outcome::Refused(k);
     }
-    write_by(p, width, blocks, page)
+    write_accepted(p, width, blocks, page)
 }

@@ -100,7 +100,7 @@ impl Register {
     }
 
     // Feeding, for accepted parameters.
-    fn feed_by(self, p: Parameters, width: u32, u: u64) -> Fed
+    fn feed_accepted(self, p: Parameters, width: u32, u: u64) -> Fed
         requires { ⌜ Accepted p ⌝ }
         ensures { λ r. ⌜ FedAs p width self u r ⌝ }
     {
@@ -135,6 +135,6 @@ impl Register {
         if k != 0 {
             return self.refused(k);
         }
-        self.feed_by(p, width, u)
+        self.feed_accepted(p, width, u)
     }
 }

@@ -16,8 +16,8 @@ returns c =
     read-refused (a .p) (a .page .now) (a .blocks .now) (k .sheet-refusal .result)
     (read-sheet (a .p) (a .page .now) (length (a .blocks .now)) (k .sheet-refusal .result) (k .sheet-refusal .ensures) (c .if1 .taken)) (c .if1 .taken)
 
-read-by-requires : tie.Need-read-by-requires
-read-by-requires c κs = let e = c .before in sym (e .before .sheet-refusal .ensures) ∙ e .if1 .left
+read-accepted-requires : tie.Need-read-accepted-requires
+read-accepted-requires c κs = let e = c .before in sym (e .before .sheet-refusal .ensures) ∙ e .if1 .left
 
 same-length : tie.Need-same-length
 same-length c = search needs
@@ -26,4 +26,4 @@ returns-2 : tie.Need-returns-2
 returns-2 c = search needs
 
 pub read-out-spec : {M : Type 1} → statement M
-read-out-spec = tie.close (tie.spec sheet-refusal-requires returns read-by-requires same-length returns-2)
+read-out-spec = tie.close (tie.spec sheet-refusal-requires returns read-accepted-requires same-length returns-2)

@@ -16,8 +16,8 @@ returns c =
     written-refused (a .p) (a .width) (a .blocks .now) (a .page .now) (k .sheet-refusal .result)
     (write-sheet (a .p) (a .width) (a .blocks .now) (length (a .page .now)) (k .sheet-refusal .result) (k .sheet-refusal .ensures) (c .if1 .taken)) (c .if1 .taken)
 
-write-by-requires : tie.Need-write-by-requires
-write-by-requires c κs = let e = c .before in sym (e .before .sheet-refusal .ensures) ∙ e .if1 .left
+write-accepted-requires : tie.Need-write-accepted-requires
+write-accepted-requires c κs = let e = c .before in sym (e .before .sheet-refusal .ensures) ∙ e .if1 .left
 
 same-length : tie.Need-same-length
 same-length c = search needs
@@ -26,4 +26,4 @@ returns-2 : tie.Need-returns-2
 returns-2 c = search needs
 
 pub write-spec : {M : Type 1} → statement M
-write-spec = tie.close (tie.spec sheet-refusal-requires returns write-by-requires same-length returns-2)
+write-spec = tie.close (tie.spec sheet-refusal-requires returns write-accepted-requires same-length returns-2)

@@ -19,11 +19,11 @@ returns c =
     feeding-refused (a .p) (a .width) (a .self) (a .u) (k .result) (feed-sheet (a .p) (a .width) (valueOf (a .self)) (a .u) (k .result) (k .ensures) (t .if1 .taken))
     _ (c .refused .ensures) (t .if1 .taken)
 
-feed-by-requires : tie.Need-feed-by-requires
-feed-by-requires c κs = sym (c .before .sheet-refusal .ensures) ∙ c .if1 .left
+feed-accepted-requires : tie.Need-feed-accepted-requires
+feed-accepted-requires c κs = sym (c .before .sheet-refusal .ensures) ∙ c .if1 .left
 
 returns-2 : tie.Need-returns-2
 returns-2 c = search needs
 
 pub feed-spec : {M : Type 1} → statement M
-feed-spec = tie.close (tie.spec sheet-refusal-requires refused-requires returns feed-by-requires returns-2)
+feed-spec = tie.close (tie.spec sheet-refusal-requires refused-requires returns feed-accepted-requires returns-2)

@@ -3,8 +3,8 @@ use native.Mathlib.Omega.{arith}
 use borrow.Author.Needs.{needs}
 use Rattle.code.specs.Accepted.{accepted}
 use Rattle.levels.specs.Levels.{v-pos, strength-high, strength-within, level-first, level-next, row-level, row-past, rows-are}
-use Rattle.levels.proofs.rows_by.Statement.{statement}
-use Rattle.levels.proofs.rows_by.Tie as tie
+use Rattle.levels.proofs.rows_from.Statement.{statement}
+use Rattle.levels.proofs.rows_from.Tie as tie
 
 array-write-one : tie.Need-array-write-one
 array-write-one c = search needs
@@ -94,8 +94,8 @@ returns-3 c =
     let e = level-next _ A _ _ _ (s .pre .1) 2 d (c .raised4 .ensures .1) in
     rows-are _ A _ _ _ _ (row-level _ A 0 _ (omega arith) a) (row-level _ A 1 _ (v-pos _ A) b) (row-level _ A 2 _ (z .before .before .if1 .left) d) (row-level _ A 3 _ (c .before .before .if2 .left) e)
 
-pub rows-by-spec : {M : Type 1} → statement M
-rows-by-spec =
+pub rows-from-spec : {M : Type 1} → statement M
+rows-from-spec =
     tie.close
     (tie.spec
     array-write-one

@@ -4,8 +4,8 @@ use lib.ListN.{length}
 use Rattle.code.specs.Answers.{written-refused, written-done}
 use Rattle.code.specs.Refusals.{writeRefusal}
 use Rattle.refusal.specs.Writing.{write-zero}
-use Rattle.page.proofs.write_by.Statement.{statement}
-use Rattle.page.proofs.write_by.Tie as tie
+use Rattle.page.proofs.write_accepted.Statement.{statement}
+use Rattle.page.proofs.write_accepted.Tie as tie
 
 -- where the tests have passed
 passed : (c : tie.Else1) → (let a = c .before .before .before .before .before .before .before .args in writeRefusal (a .p) (a .width) (a .blocks .now) (length (a .page .now))) ≡ 0
@@ -51,5 +51,5 @@ returns-2 c =
     let a = e .before .before .before .before .before .before .before .args in
     written-done (a .p) (a .width) (a .blocks .now) (a .page .now) _ (passed e) (k .encode .ensures)
 
-pub write-by-spec : {M : Type 1} → statement M
-write-by-spec = tie.close (tie.spec rows-requires degrees-requires slice-aggregate-write-refusal write-refusal-requires returns slice-aggregate-encode encode-requires same-length returns-2)
+pub write-accepted-spec : {M : Type 1} → statement M
+write-accepted-spec = tie.close (tie.spec rows-requires degrees-requires slice-aggregate-write-refusal write-refusal-requires returns slice-aggregate-encode encode-requires same-length returns-2)

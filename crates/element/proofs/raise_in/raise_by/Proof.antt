@@ -8,8 +8,8 @@ use Rattle.element.specs.Exponents.{raise, raise-zero, raise-none}
 use Rattle.element.specs.declared.Field.{Field}
 use Rattle.element.specs.Fields.{size-most, size-least}
 use Rattle.element.specs.Lent.{LogOf, Tables, power-room, log-room, exponent-lt, raise-by}
-use Rattle.element.proofs.raise_by.Statement.{statement}
-use Rattle.element.proofs.raise_by.Tie as tie
+use Rattle.element.proofs.raise_in.Statement.{statement}
+use Rattle.element.proofs.raise_in.Tie as tie
 
 returns : tie.Need-returns
 returns c = let s = c .before .before .before .args in sym (ap (raise (s .f .q) (s .a)) (c .if1 .taken) ∙ raise-zero (s .f .q) (s .a))
@@ -92,10 +92,10 @@ returns-3 c =
     let b = c .before .before in
     let g = d b in
     c .root .ensures .root (q g) (tables g .powers) (below b)
-    ∙ raise-by (q g) (tables g .field .known) (s g .args .a) (k b) (i b) (e b) (log-a b) (exponent b)
+    ∙ raise-in (q g) (tables g .field .known) (s g .args .a) (k b) (i b) (e b) (log-a b) (exponent b)
 
-pub raise-by-spec : {M : Type 1} → statement M
-raise-by-spec =
+pub raise-in-spec : {M : Type 1} → statement M
+raise-in-spec =
     tie.close
     (tie.spec
     returns

@@ -6,8 +6,8 @@ use native.Mathlib.Omega.{arith}
 use Rattle.refusal.specs.Feeding.{numbers-fit, feed-numbers, feed-bits, feed-none}
 use Rattle.register.specs.Register.{valueOf, feeding-refused, feeding-done}
 use Rattle.refusal.specs.Tests.{full-lt}
-use Rattle.register.proofs.Register.feed_by.Statement.{statement}
-use Rattle.register.proofs.Register.feed_by.Tie as tie
+use Rattle.register.proofs.Register.feed_accepted.Statement.{statement}
+use Rattle.register.proofs.Register.feed_accepted.Tie as tie
 
 numbers-refusal-requires : tie.Need-numbers-refusal-requires
 numbers-refusal-requires c κs = search needs
@@ -101,8 +101,8 @@ returns-3 c =
     (sym (not-false _ (t .if2 .left)) ∙ t .before .remainder-fits .ensures))
     (c .advance .result) refl (c .advance .ensures)
 
-pub feed-by-spec : {M : Type 1} → statement M
-feed-by-spec =
+pub feed-accepted-spec : {M : Type 1} → statement M
+feed-accepted-spec =
     tie.close
     (tie.spec
     numbers-refusal-requires

@@ -4,8 +4,8 @@ use lib.ListN.{length}
 use Rattle.code.specs.Answers.{read-refused, read-done}
 use Rattle.code.specs.Refusals.{readRefusal}
 use Rattle.refusal.specs.Reading.{read-blocks, read-clear}
-use Rattle.page.proofs.read_by.Statement.{statement}
-use Rattle.page.proofs.read_by.Tie as tie
+use Rattle.page.proofs.read_accepted.Statement.{statement}
+use Rattle.page.proofs.read_accepted.Tie as tie
 
 -- where the tests have passed
 passed : (c : tie.Else1) → (let a = c .before .before .before .before .before .before .before .args in readRefusal (a .p) (a .page .now) (length (a .blocks .now))) ≡ 0
@@ -66,5 +66,5 @@ returns-2 c =
     let a = e .before .before .before .before .before .before .before .args in
     read-done (a .p) (a .page .now) (a .blocks .now) (c .verdict-of .result) _ (passed e) (c .verdict-of .ensures .answers) (k .take-blocks .ensures)
 
-pub read-by-spec : {M : Type 1} → statement M
-read-by-spec = tie.close (tie.spec rows-requires degrees-requires slice-aggregate-read-refusal read-refusal-requires returns slice-aggregate-take-blocks take-blocks-requires verdict-of-requires same-length returns-2)
+pub read-accepted-spec : {M : Type 1} → statement M
+read-accepted-spec = tie.close (tie.spec rows-requires degrees-requires slice-aggregate-read-refusal read-refusal-requires returns slice-aggregate-take-blocks take-blocks-requires verdict-of-requires same-length returns-2)
