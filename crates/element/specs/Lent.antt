@@ -64,11 +64,11 @@ module _ (q : ℕ) (known : Known q) where
   pub exponent-lt : (e k : ℕ) → e ≡ k % (2 ^ q - 1) → e < 2 ^ q - 1
   exponent-lt e k w = rw w (Nat.mod-lt k (omega (arith, size-least q known)))
 
-  pub times-in : (a b i j e : ℕ) → LogOf q a i → LogOf q b j → e ≡ (i + j) % (2 ^ q - 1) → power q e ≡ times q a b
-  times-in a b i j e x y w = ap (power q) w ∙ sym (times-power q known i j) ∙ ap₂ (times q) (x .power) (y .power)
+  pub times-lent : (a b i j e : ℕ) → LogOf q a i → LogOf q b j → e ≡ (i + j) % (2 ^ q - 1) → power q e ≡ times q a b
+  times-lent a b i j e x y w = ap (power q) w ∙ sym (times-power q known i j) ∙ ap₂ (times q) (x .power) (y .power)
 
-  pub raise-in : (a k i e : ℕ) → LogOf q a i → e ≡ i * k % (2 ^ q - 1) → power q e ≡ raise q a k
-  raise-in a k i e x w = ap (power q) w ∙ sym (raise-power q known i k) ∙ ap (λ (y : ℕ). raise q y k) (x .power)
+  pub raise-lent : (a k i e : ℕ) → LogOf q a i → e ≡ i * k % (2 ^ q - 1) → power q e ≡ raise q a k
+  raise-lent a k i e x w = ap (power q) w ∙ sym (raise-power q known i k) ∙ ap (λ (y : ℕ). raise q y k) (x .power)
 
 -- the tables of a field
 pub tables-of : (f : Field) (k : ℕ) (p l : List ℕ) → Sized f → f .q ≡ k → Powers k p → Logs k l → Tables f p l

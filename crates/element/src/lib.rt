@@ -95,7 +95,7 @@ pub fn modulo(n: u32, s: u32) -> u32
 }
 
 // The product a b.
-pub fn times_in(powers: &[u16], logs: &[u16], f: Field, a: u32, b: u32) -> u32
+pub fn times_lent(powers: &[u16], logs: &[u16], f: Field, a: u32, b: u32) -> u32
     requires { ⌜ Tables f (now powers) (now logs) × (a < 2 ^ f .q) × (b < 2 ^ f .q) ⌝ }
     ensures { λ r. ⌜ r ≡ times (f .q) a b ⌝ }
 {
@@ -112,7 +112,7 @@ pub fn times_in(powers: &[u16], logs: &[u16], f: Field, a: u32, b: u32) -> u32
 }
 
 // The power a^k.
-pub fn raise_in(powers: &[u16], logs: &[u16], f: Field, a: u32, k: u32) -> u32
+pub fn raise_lent(powers: &[u16], logs: &[u16], f: Field, a: u32, k: u32) -> u32
     requires { ⌜ Tables f (now powers) (now logs) × (a < 2 ^ f .q) ⌝ }
     ensures { λ r. ⌜ r ≡ raise (f .q) a k ⌝ }
 {
@@ -137,16 +137,16 @@ fn times_in(f: Field, a: u32, b: u32) -> u32
     if f.q == 4 {
         let p = powers4();
         let l = logs4();
-        return times_in(&p, &l, f, a, b);
+        return times_lent(&p, &l, f, a, b);
     }
     if f.q == 8 {
         let p = powers8();
         let l = logs8();
-        return times_in(&p, &l, f, a, b);
+        return times_lent(&p, &l, f, a, b);
     }
     let p = powers12();
     let l = logs12();
-    times_in(&p, &l, f, a, b)
+    times_lent(&p, &l, f, a, b)
 }
 
 fn raise_in(f: Field, a: u32, k: u32) -> u32
@@ -156,16 +156,16 @@ fn raise_in(f: Field, a: u32, k: u32) -> u32
     if f.q == 4 {
         let p = powers4();
         let l = logs4();
-        return raise_in(&p, &l, f, a, k);
+        return raise_lent(&p, &l, f, a, k);
     }
     if f.q == 8 {
         let p = powers8();
         let l = logs8();
-        return raise_in(&p, &l, f, a, k);
+        return raise_lent(&p, &l, f, a, k);
     }
     let p = powers12();
     let l = logs12();
-    raise_in(&p, &l, f, a, k)
+    raise_lent(&p, &l, f, a, k)
 }
 
 impl Field {

@@ -72,7 +72,7 @@ fn next_syndrome(
         return syndrome_at(powers, logs, f, r, w, (i + 1) as u32);
     }
     let s = list[i / 2] as u32;
-    element::times_in(powers, logs, f, s, s)
+    element::times_lent(powers, logs, f, s, s)
 }
 
 // S_1, S_2, .. of the polynomial in r, as many as the list has places.

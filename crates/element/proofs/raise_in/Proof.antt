@@ -10,14 +10,14 @@ powers4-requires c κs = search needs
 logs4-requires : tie.Need-logs4-requires
 logs4-requires c κs = search needs
 
-slice-aggregate-raise-in : tie.Need-slice-aggregate-raise-in
-slice-aggregate-raise-in c = search needs
+slice-aggregate-raise-lent : tie.Need-slice-aggregate-raise-lent
+slice-aggregate-raise-lent c = search needs
 
-slice-aggregate-raise-in-2 : tie.Need-slice-aggregate-raise-in-2
-slice-aggregate-raise-in-2 c = search needs
+slice-aggregate-raise-lent-2 : tie.Need-slice-aggregate-raise-lent-2
+slice-aggregate-raise-lent-2 c = search needs
 
-raise-in-requires : tie.Need-raise-in-requires
-raise-in-requires c κs =
+raise-lent-requires : tie.Need-raise-lent-requires
+raise-lent-requires c κs =
     let t = c .before .before in
     let i = t .before .before in
     let s = i .before .before in
@@ -32,14 +32,14 @@ powers8-requires c κs = search needs
 logs8-requires : tie.Need-logs8-requires
 logs8-requires c κs = search needs
 
-slice-aggregate-raise-in-3 : tie.Need-slice-aggregate-raise-in-3
-slice-aggregate-raise-in-3 c = search needs
+slice-aggregate-raise-lent-3 : tie.Need-slice-aggregate-raise-lent-3
+slice-aggregate-raise-lent-3 c = search needs
 
-slice-aggregate-raise-in-4 : tie.Need-slice-aggregate-raise-in-4
-slice-aggregate-raise-in-4 c = search needs
+slice-aggregate-raise-lent-4 : tie.Need-slice-aggregate-raise-lent-4
+slice-aggregate-raise-lent-4 c = search needs
 
-raise-in-requires-2 : tie.Need-raise-in-requires-2
-raise-in-requires-2 c κs =
+raise-lent-requires-2 : tie.Need-raise-lent-requires-2
+raise-lent-requires-2 c κs =
     let t = c .before .before in
     let i = t .before .before in
     let s = i .before .before .before .before in
@@ -54,14 +54,14 @@ powers12-requires c κs = search needs
 logs12-requires : tie.Need-logs12-requires
 logs12-requires c κs = search needs
 
-slice-aggregate-raise-in-5 : tie.Need-slice-aggregate-raise-in-5
-slice-aggregate-raise-in-5 c = search needs
+slice-aggregate-raise-lent-5 : tie.Need-slice-aggregate-raise-lent-5
+slice-aggregate-raise-lent-5 c = search needs
 
-slice-aggregate-raise-in-6 : tie.Need-slice-aggregate-raise-in-6
-slice-aggregate-raise-in-6 c = search needs
+slice-aggregate-raise-lent-6 : tie.Need-slice-aggregate-raise-lent-6
+slice-aggregate-raise-lent-6 c = search needs
 
-raise-in-requires-3 : tie.Need-raise-in-requires-3
-raise-in-requires-3 c κs =
+raise-lent-requires-3 : tie.Need-raise-lent-requires-3
+raise-lent-requires-3 c κs =
     let t = c .before .before in
     let i = t .before .before in
     let s = i .before .before .before .before in
@@ -76,19 +76,19 @@ raise-in-spec =
     (tie.spec
     powers4-requires
     logs4-requires
-    slice-aggregate-raise-in
-    slice-aggregate-raise-in-2
-    raise-in-requires
+    slice-aggregate-raise-lent
+    slice-aggregate-raise-lent-2
+    raise-lent-requires
     returns
     powers8-requires
     logs8-requires
-    slice-aggregate-raise-in-3
-    slice-aggregate-raise-in-4
-    raise-in-requires-2
+    slice-aggregate-raise-lent-3
+    slice-aggregate-raise-lent-4
+    raise-lent-requires-2
     returns-2
     powers12-requires
     logs12-requires
-    slice-aggregate-raise-in-5
-    slice-aggregate-raise-in-6
-    raise-in-requires-3
+    slice-aggregate-raise-lent-5
+    slice-aggregate-raise-lent-6
+    raise-lent-requires-3
     returns-3)

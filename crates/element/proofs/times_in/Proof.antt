@@ -10,14 +10,14 @@ powers4-requires c κs = search needs
 logs4-requires : tie.Need-logs4-requires
 logs4-requires c κs = search needs
 
-slice-aggregate-times-in : tie.Need-slice-aggregate-times-in
-slice-aggregate-times-in c = search needs
+slice-aggregate-times-lent : tie.Need-slice-aggregate-times-lent
+slice-aggregate-times-lent c = search needs
 
-slice-aggregate-times-in-2 : tie.Need-slice-aggregate-times-in-2
-slice-aggregate-times-in-2 c = search needs
+slice-aggregate-times-lent-2 : tie.Need-slice-aggregate-times-lent-2
+slice-aggregate-times-lent-2 c = search needs
 
-times-in-requires : tie.Need-times-in-requires
-times-in-requires c κs =
+times-lent-requires : tie.Need-times-lent-requires
+times-lent-requires c κs =
     let t = c .before .before in
     let i = t .before .before in
     let s = i .before .before in
@@ -32,14 +32,14 @@ powers8-requires c κs = search needs
 logs8-requires : tie.Need-logs8-requires
 logs8-requires c κs = search needs
 
-slice-aggregate-times-in-3 : tie.Need-slice-aggregate-times-in-3
-slice-aggregate-times-in-3 c = search needs
+slice-aggregate-times-lent-3 : tie.Need-slice-aggregate-times-lent-3
+slice-aggregate-times-lent-3 c = search needs
 
-slice-aggregate-times-in-4 : tie.Need-slice-aggregate-times-in-4
-slice-aggregate-times-in-4 c = search needs
+slice-aggregate-times-lent-4 : tie.Need-slice-aggregate-times-lent-4
+slice-aggregate-times-lent-4 c = search needs
 
-times-in-requires-2 : tie.Need-times-in-requires-2
-times-in-requires-2 c κs =
+times-lent-requires-2 : tie.Need-times-lent-requires-2
+times-lent-requires-2 c κs =
     let t = c .before .before in
     let i = t .before .before in
     let s = i .before .before .before .before in
@@ -54,14 +54,14 @@ powers12-requires c κs = search needs
 logs12-requires : tie.Need-logs12-requires
 logs12-requires c κs = search needs
 
-slice-aggregate-times-in-5 : tie.Need-slice-aggregate-times-in-5
-slice-aggregate-times-in-5 c = search needs
+slice-aggregate-times-lent-5 : tie.Need-slice-aggregate-times-lent-5
+slice-aggregate-times-lent-5 c = search needs
 
-slice-aggregate-times-in-6 : tie.Need-slice-aggregate-times-in-6
-slice-aggregate-times-in-6 c = search needs
+slice-aggregate-times-lent-6 : tie.Need-slice-aggregate-times-lent-6
+slice-aggregate-times-lent-6 c = search needs
 
-times-in-requires-3 : tie.Need-times-in-requires-3
-times-in-requires-3 c κs =
+times-lent-requires-3 : tie.Need-times-lent-requires-3
+times-lent-requires-3 c κs =
     let t = c .before .before in
     let i = t .before .before in
     let s = i .before .before .before .before in
@@ -76,19 +76,19 @@ times-in-spec =
     (tie.spec
     powers4-requires
     logs4-requires
-    slice-aggregate-times-in
-    slice-aggregate-times-in-2
-    times-in-requires
+    slice-aggregate-times-lent
+    slice-aggregate-times-lent-2
+    times-lent-requires
     returns
     powers8-requires
     logs8-requires
-    slice-aggregate-times-in-3
-    slice-aggregate-times-in-4
-    times-in-requires-2
+    slice-aggregate-times-lent-3
+    slice-aggregate-times-lent-4
+    times-lent-requires-2
     returns-2
     powers12-requires
     logs12-requires
-    slice-aggregate-times-in-5
-    slice-aggregate-times-in-6
-    times-in-requires-3
+    slice-aggregate-times-lent-5
+    slice-aggregate-times-lent-6
+    times-lent-requires-3
     returns-3)

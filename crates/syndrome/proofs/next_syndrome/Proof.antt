@@ -29,8 +29,8 @@ shared-slice-read-s c = let s = c .before .before .before .before .before .befor
 cast-s : tie.Need-cast-s
 cast-s c = let s = c .before .before .before .before .before .before in omega (arith, c .shared-slice-known5 .given (s .args .i / 2))
 
-times-in-requires : tie.Need-times-in-requires
-times-in-requires c κs =
+times-lent-requires : tie.Need-times-lent-requires
+times-lent-requires c κs =
     let s = c .before .before .before .before .before .before in
     let a = s .args in
     let l = begun-lt (a .f .q) (s .pre .0 .field .known) (value 64 (a .r .now)) (a .i) (a .i / 2) (a .list .now) (s .pre .5) (omega (arith, c .before .if1 .left)) in
@@ -40,7 +40,7 @@ returns-2 : tie.Need-returns-2
 returns-2 c =
     let s = c .before .before .before .before .before .before .before in
     let a = s .args in
-    c .times-in .ensures ∙ even-is (a .f .q) (s .pre .0 .field .known) (value 64 (a .r .now)) (a .i) (a .list .now) (s .pre .5) (c .before .before .if1 .left)
+    c .times-lent .ensures ∙ even-is (a .f .q) (s .pre .0 .field .known) (value 64 (a .r .now)) (a .i) (a .list .now) (s .pre .5) (c .before .before .if1 .left)
 
 pub next-syndrome-spec : {M : Type 1} → statement M
 next-syndrome-spec =
@@ -53,5 +53,5 @@ next-syndrome-spec =
     mul-s
     shared-slice-read-s
     cast-s
-    times-in-requires
+    times-lent-requires
     returns-2)

@@ -7,9 +7,9 @@ use Rattle.field.specs.Elements.{times}
 use Rattle.element.specs.Exponents.{times-zero-l, times-zero-r}
 use Rattle.element.specs.declared.Field.{Field}
 use Rattle.element.specs.Fields.{size-most}
-use Rattle.element.specs.Lent.{LogOf, Tables, power-room, log-room, exponent-lt, times-by}
-use Rattle.element.proofs.times_in.Statement.{statement}
-use Rattle.element.proofs.times_in.Tie as tie
+use Rattle.element.specs.Lent.{LogOf, Tables, power-room, log-room, exponent-lt, times-lent}
+use Rattle.element.proofs.times_lent.Statement.{statement}
+use Rattle.element.proofs.times_lent.Tie as tie
 
 returns : tie.Need-returns
 returns c = let s = c .before .before .before .args in sym (ap (λ (x : ℕ). times (s .f .q) x (s .b)) (c .if1 .taken) ∙ times-zero-l (s .f .q) (s .b))
@@ -79,10 +79,10 @@ returns-3 c =
     let m = c .before in
     let e = d (b m) in
     c .root .ensures .root (q e) (tables e .powers) (below m)
-    ∙ times-in (q e) (tables e .field .known) (s e .args .a) (s e .args .b) (b m .before .log .result) (b m .log2 .result) (m .modulo .result) (log-a (b m)) (log-b (b m)) (exponent m)
+    ∙ times-lent (q e) (tables e .field .known) (s e .args .a) (s e .args .b) (b m .before .log .result) (b m .log2 .result) (m .modulo .result) (log-a (b m)) (log-b (b m)) (exponent m)
 
-pub times-in-spec : {M : Type 1} → statement M
-times-in-spec =
+pub times-lent-spec : {M : Type 1} → statement M
+times-lent-spec =
     tie.close
     (tie.spec
     returns

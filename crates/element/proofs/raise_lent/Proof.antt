@@ -7,9 +7,9 @@ use borrow.Author.Needs.{needs}
 use Rattle.element.specs.Exponents.{raise, raise-zero, raise-none}
 use Rattle.element.specs.declared.Field.{Field}
 use Rattle.element.specs.Fields.{size-most, size-least}
-use Rattle.element.specs.Lent.{LogOf, Tables, power-room, log-room, exponent-lt, raise-by}
-use Rattle.element.proofs.raise_in.Statement.{statement}
-use Rattle.element.proofs.raise_in.Tie as tie
+use Rattle.element.specs.Lent.{LogOf, Tables, power-room, log-room, exponent-lt, raise-lent}
+use Rattle.element.proofs.raise_lent.Statement.{statement}
+use Rattle.element.proofs.raise_lent.Tie as tie
 
 returns : tie.Need-returns
 returns c = let s = c .before .before .before .args in sym (ap (raise (s .f .q) (s .a)) (c .if1 .taken) ∙ raise-zero (s .f .q) (s .a))
@@ -92,10 +92,10 @@ returns-3 c =
     let b = c .before .before in
     let g = d b in
     c .root .ensures .root (q g) (tables g .powers) (below b)
-    ∙ raise-in (q g) (tables g .field .known) (s g .args .a) (k b) (i b) (e b) (log-a b) (exponent b)
+    ∙ raise-lent (q g) (tables g .field .known) (s g .args .a) (k b) (i b) (e b) (log-a b) (exponent b)
 
-pub raise-in-spec : {M : Type 1} → statement M
-raise-in-spec =
+pub raise-lent-spec : {M : Type 1} → statement M
+raise-lent-spec =
     tie.close
     (tie.spec
     returns
