@@ -15,6 +15,7 @@ pub mod Move
 pub mod Degree
 pub mod Insert
 pub mod Table
+pub mod Step
 pub mod Sum
 pub mod Reduce
 pub mod Build

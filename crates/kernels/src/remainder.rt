@@ -8,8 +8,9 @@ ghost use Rattle.polynomial.specs.Digits.{value};
 ghost use Rattle.polynomial.specs.Xor.{xor};
 ghost use Rattle.kernels.specs.Reduce.{TopAdded};
 ghost use Rattle.kernels.specs.Row.{D};
+ghost use Rattle.kernels.specs.Step.{Adding, Reducing, RowFrom, Stepping};
 ghost use Rattle.kernels.specs.Sum.{Copied};
-ghost use Rattle.kernels.specs.Table.{Clear, MovedUp, RemainderBy, rowAt, four, Reduced};
+ghost use Rattle.kernels.specs.Table.{MovedUp, RemainderBy, rowAt, four, Reduced};
 use crate::bits::bits;
 use crate::row::clear;
 use crate::row::insert;
@@ -30,8 +31,8 @@ fn copy(dst: &mut [u64], src: &[u64], from: usize)
 
 // Four rows are added, which stand at a, b, c and d; their words below `from` are 0.
 fn add_rows(v: &mut [u64], t: &[u64], a: usize, b: usize, c: usize, d: usize, from: usize)
-    requires { ⌜ (length (now v) ≡ 12) × (length (now t) ≡ 3072) × (a + 12 ≤ 3072) × (b + 12 ≤ 3072) × (c + 12 ≤ 3072) × (d + 12 ≤ 3072)
-        × (from ≤ 12) × Clear (now t) a from × Clear (now t) b from × Clear (now t) c from × Clear (now t) d from ⌝ }
+    requires { ⌜ Adding (now v) (now t) from
+        × RowFrom (now t) a from × RowFrom (now t) b from × RowFrom (now t) c from × RowFrom (now t) d from ⌝ }
     ensures { λ x. ⌜ (value 64 (now (v .exit)) ≡ xor (value 64 (now (v .entry)))
         (xor (rowAt (now (t .entry)) a) (xor (rowAt (now (t .entry)) b) (xor (rowAt (now (t .entry)) c) (rowAt (now (t .entry)) d)))))
         × (take from (now (v .exit)) ≡ take from (now (v .entry))) ⌝ }
@@ -45,7 +46,7 @@ fn add_rows(v: &mut [u64], t: &[u64], a: usize, b: usize, c: usize, d: usize, fr
 
 // Four rows are added, which u's four lowest hex digits choose among the 64 rows from 64 k on.
 fn add_four(v: &mut [u64], t: &[u64], k: usize, u: u64, from: usize)
-    requires { ⌜ (length (now v) ≡ 12) × (length (now t) ≡ 3072) × (k < 4) × (from ≤ 12) × MovedUp (now t) (64 * from) ⌝ }
+    requires { ⌜ Adding (now v) (now t) from × MovedUp (now t) (64 * from) × (k < 4) ⌝ }
     ensures { λ x. ⌜ (value 64 (now (v .exit)) ≡ xor (value 64 (now (v .entry))) (four (now (t .entry)) (64 * k) u))
         × (take from (now (v .exit)) ≡ take from (now (v .entry))) ⌝ }
 {
@@ -59,7 +60,7 @@ fn add_four(v: &mut [u64], t: &[u64], k: usize, u: u64, from: usize)
 
 // The remainder of top · x^768 is added: the rows that top's hex digits choose, up to its highest that is not 0.
 fn add_top(v: &mut [u64], t: &[u64], top: u64, from: usize)
-    requires { ⌜ (length (now v) ≡ 12) × (length (now t) ≡ 3072) × (from ≤ 12) × MovedUp (now t) (64 * from) ⌝ }
+    requires { ⌜ Adding (now v) (now t) from × MovedUp (now t) (64 * from) ⌝ }
     ensures { λ x. ⌜ TopAdded (now (t .entry)) (value 64 (now (v .entry))) top (value 64 (now (v .exit)))
         × (take from (now (v .exit)) ≡ take from (now (v .entry))) ⌝ }
 {
@@ -74,8 +75,7 @@ fn add_top(v: &mut [u64], t: &[u64], top: u64, from: usize)
 
 // What stands in the 13th word is reduced; the words below `from` are 0, and stay it.
 fn reduce(r: &mut [u64], t: &[u64], from: usize)
-    requires { ⌜ (length (now r) ≡ 13) × (length (now t) ≡ 3072) × (from ≤ 12) × MovedUp (now t) (64 * from)
-        × (value 64 (now r) % 2 ^ (64 * from) ≡ 0) ⌝ }
+    requires { ⌜ Reducing (now r) (now t) (64 * from) ⌝ }
     ensures { λ x. ⌜ Reduced (now (t .entry)) (value 64 (now (r .entry))) (value 64 (now (r .exit))) ⌝ }
 {
     let top = r[12];
@@ -90,8 +90,7 @@ fn reduce(r: &mut [u64], t: &[u64], from: usize)
 // One step: the register is moved up by l places, u is added at place p, and what passes x^768 is reduced. All is a multiple of x^p: from
 // p = 384 on the lower six words are 0. Each call has its own number, so that the compiler makes straight code of the loops over words.
 pub fn step(r: &mut [u64], t: &[u64], u: u64, l: usize, p: usize)
-    requires { ⌜ (length (now r) ≡ 13) × (length (now t) ≡ 3072) × (1 ≤ l) × (l ≤ 64) × (p < 768) × (value 64 (now r) < 2 ^ D)
-        × MovedUp (now t) p × (value 64 (now r) % 2 ^ p ≡ 0) ⌝ }
+    requires { ⌜ Stepping (now r) (now t) p × (1 ≤ l) × (l ≤ 64) ⌝ }
     ensures { λ x. ⌜ Reduced (now (t .entry)) (xor (value 64 (now (r .entry)) * 2 ^ l) (u * 2 ^ p)) (value 64 (now (r .exit))) ⌝ }
 {
     shift(r, l);
@@ -120,8 +119,7 @@ fn copy_next(dst: &mut [u64], src: &[u64], from: usize)
 // A step by a whole word that enters at x^768: the register is moved up, and what passes x^768 is reduced with u.
 // The words below `from` are 0, and stay it.
 fn step_word(r: &mut [u64], t: &[u64], u: u64, from: usize)
-    requires { ⌜ (length (now r) ≡ 13) × (length (now t) ≡ 3072) × (from ≤ 11) × (value 64 (now r) < 2 ^ D) × MovedUp (now t) (64 * from)
-        × (value 64 (now r) % 2 ^ (64 * from) ≡ 0) ⌝ }
+    requires { ⌜ Stepping (now r) (now t) (64 * from) ⌝ }
     ensures { λ x. ⌜ Reduced (now (t .entry)) (xor (value 64 (now (r .entry)) * 2 ^ 64) (u * 2 ^ D)) (value 64 (now (r .exit))) ⌝ }
 {
     let top = r[11] ^ u;
@@ -133,8 +131,7 @@ fn step_word(r: &mut [u64], t: &[u64], u: u64, from: usize)
 
 // The same, where all is a multiple of x^p.
 fn step_whole(r: &mut [u64], t: &[u64], u: u64, p: usize)
-    requires { ⌜ (length (now r) ≡ 13) × (length (now t) ≡ 3072) × (p < 768) × (value 64 (now r) < 2 ^ D) × MovedUp (now t) p
-        × (value 64 (now r) % 2 ^ p ≡ 0) ⌝ }
+    requires { ⌜ Stepping (now r) (now t) p ⌝ }
     ensures { λ x. ⌜ Reduced (now (t .entry)) (xor (value 64 (now (r .entry)) * 2 ^ 64) (u * 2 ^ D)) (value 64 (now (r .exit))) ⌝ }
 {
     if p < 384 {
@@ -146,8 +143,7 @@ fn step_whole(r: &mut [u64], t: &[u64], u: u64, p: usize)
 
 // A step by l places, fewer than 64, that enters at x^768: u is added below, and moved up with the register.
 fn step_part(r: &mut [u64], t: &[u64], u: u64, l: usize, p: usize)
-    requires { ⌜ (length (now r) ≡ 13) × (length (now t) ≡ 3072) × (1 ≤ l) × (l ≤ 64) × (p < 768) × (value 64 (now r) < 2 ^ D) × (u < 2 ^ l)
-        × MovedUp (now t) p × (value 64 (now r) % 2 ^ p ≡ 0) ⌝ }
+    requires { ⌜ Stepping (now r) (now t) p × (1 ≤ l) × (l ≤ 64) × (u < 2 ^ l) ⌝ }
     ensures { λ x. ⌜ Reduced (now (t .entry)) (xor (value 64 (now (r .entry)) * 2 ^ l) (u * 2 ^ D)) (value 64 (now (r .exit))) ⌝ }
 {
     insert(r, u, 768 - l);
@@ -161,8 +157,7 @@ fn step_part(r: &mut [u64], t: &[u64], u: u64, l: usize, p: usize)
 
 // One step at x^768: the register is moved up by l places, u is added from x^768 on, and what stands there is reduced.
 fn step_top(r: &mut [u64], t: &[u64], u: u64, l: usize, p: usize)
-    requires { ⌜ (length (now r) ≡ 13) × (length (now t) ≡ 3072) × (1 ≤ l) × (l ≤ 64) × (p < 768) × (value 64 (now r) < 2 ^ D) × (u < 2 ^ l)
-        × MovedUp (now t) p × (value 64 (now r) % 2 ^ p ≡ 0) ⌝ }
+    requires { ⌜ Stepping (now r) (now t) p × (1 ≤ l) × (l ≤ 64) × (u < 2 ^ l) ⌝ }
     ensures { λ x. ⌜ Reduced (now (t .entry)) (xor (value 64 (now (r .entry)) * 2 ^ l) (u * 2 ^ D)) (value 64 (now (r .exit))) ⌝ }
 {
     if l == 64 {

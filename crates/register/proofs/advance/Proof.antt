@@ -38,14 +38,16 @@ step-requires : tie.Need-step-requires
 step-requires c κs =
     let al = c .before .before .before in
     let s = al .before .before .before .before .before .before in (
-      search needs,
-      search needs,
+      record {
+        words = search needs;
+        table = search needs;
+        place = place-lt _ (s .pre .0) _ _ (s .pre .2) (s .pre .3);
+        small = aligned-lt _ (s .pre .0) _ _ (s .pre .2) (s .pre .3) _ _ (s .pre .4) (al .align .ensures);
+        moved = prepared-up (s .args .p) (s .args .a) (s .args .w) _ (s .pre .3) (al .before .before .before .before .prepare .ensures);
+        low = rw (al .align .ensures) (mul-mod-left _ (2 ^ (768 - s .args .w)));
+      },
       s .pre .5,
       s .pre .6,
-      place-lt _ (s .pre .0) _ _ (s .pre .2) (s .pre .3),
-      aligned-lt _ (s .pre .0) _ _ (s .pre .2) (s .pre .3) _ _ (s .pre .4) (al .align .ensures),
-      prepared-up (s .args .p) (s .args .a) (s .args .w) _ (s .pre .3) (al .before .before .before .before .prepare .ensures),
-      rw (al .align .ensures) (mul-mod-left _ (2 ^ (768 - s .args .w))),
     )
 
 slice-aggregate-lower : tie.Need-slice-aggregate-lower

@@ -1,9 +1,10 @@
 -- The four rows are those that u chooses: four-at.
 use borrow.Author.Needs.{needs}
-use Prim.Native.Nat.{_+_, _*_, _/_, _%_}
+use Prim.Native.Nat.{ℕ, _+_, _*_, _/_, _%_, _<_}
 use native.Mathlib.Omega.{arith}
-use mathlib.Core.Path.{ap, _∙_}
+use mathlib.Core.Path.{_≡_, ap, _∙_}
 use Rattle.polynomial.specs.Xor.{xor}
+use Rattle.kernels.specs.Step.{RowFrom}
 use Rattle.kernels.specs.Table.{four-at, row-clear}
 use Rattle.kernels.proofs.remainder.add_four.Statement.{statement}
 use Rattle.kernels.proofs.remainder.add_four.Tie as tie
@@ -48,18 +49,13 @@ add-d-2 c = search needs
 add-rows-requires : tie.Need-add-rows-requires
 add-rows-requires c κs =
     let s = c .before .before .before in
-    let z = row-clear (s .args .t .now) (s .args .from) (s .pre .4) (λ k. c .before .shared-slice-known .given k .fits) (s .pre .1) (s .pre .3) in (
+    let z = row-clear (s .args .t .now) (s .args .from) (s .pre .1) (λ k. c .before .shared-slice-known .given k .fits) (s .pre .0 .table) (s .pre .0 .from) in
+    let row : (n at : ℕ) → n < 256 → at ≡ n * 12 → RowFrom (s .args .t .now) at (s .args .from) = λ n at h e. record { inside = omega (arith, h, e); clear = z n at h e } in (
       s .pre .0,
-      s .pre .1,
-      omega arith,
-      omega arith,
-      omega arith,
-      omega arith,
-      s .pre .3,
-      z (64 * s .args .k + s .args .u % 16) (s .args .k * 768 + s .args .u % 16 * 12) (omega arith) (omega arith),
-      z (64 * s .args .k + 16 + s .args .u / 16 % 16) (s .args .k * 768 + 192 + s .args .u / 16 % 16 * 12) (omega arith) (omega arith),
-      z (64 * s .args .k + 32 + s .args .u / 256 % 16) (s .args .k * 768 + 384 + s .args .u / 256 % 16 * 12) (omega arith) (omega arith),
-      z (64 * s .args .k + 48 + s .args .u / 4096 % 16) (s .args .k * 768 + 576 + s .args .u / 4096 % 16 * 12) (omega arith) (omega arith),
+      row (64 * s .args .k + s .args .u % 16) (s .args .k * 768 + s .args .u % 16 * 12) (omega arith) (omega arith),
+      row (64 * s .args .k + 16 + s .args .u / 16 % 16) (s .args .k * 768 + 192 + s .args .u / 16 % 16 * 12) (omega arith) (omega arith),
+      row (64 * s .args .k + 32 + s .args .u / 256 % 16) (s .args .k * 768 + 384 + s .args .u / 256 % 16 * 12) (omega arith) (omega arith),
+      row (64 * s .args .k + 48 + s .args .u / 4096 % 16) (s .args .k * 768 + 576 + s .args .u / 4096 % 16 * 12) (omega arith) (omega arith),
     )
 
 same-length : tie.Need-same-length

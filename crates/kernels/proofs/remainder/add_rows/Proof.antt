@@ -20,8 +20,13 @@ abbrev μ-loop : tie.MeasureT-loop
 loop-holds : tie.Need-loop-holds Inv-loop μ-loop
 loop-holds c =
     let a = c .args in
-    let q = c .pre .6 in
-    (omega arith, refl, c .pre .6, c .pre .0, rows-start (a .t .now) (a .a) (a .b) (a .c) (a .d) (a .from) _ (c .pre .7) (c .pre .8) (c .pre .9) (c .pre .10))
+    let q = c .pre .0 in (
+      omega (arith, q .from),
+      refl,
+      q .from,
+      q .words,
+      rows-start (a .t .now) (a .a) (a .b) (a .c) (a .d) (a .from) _ (c .pre .1 .clear) (c .pre .2 .clear) (c .pre .3 .clear) (c .pre .4 .clear),
+    )
 
 mul-v : tie.Need-mul-v Inv-loop μ-loop
 mul-v c = search needs

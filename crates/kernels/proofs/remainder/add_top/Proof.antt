@@ -14,13 +14,13 @@ abbrev μ-loop : tie.MeasureT-loop
 μ-loop v₀ t top from u₀ k₀ v u k = u
 
 loop-holds : tie.Need-loop-holds Inv-loop μ-loop
-loop-holds c = (c .before .before .pre .0, refl, top-start _ _ _ (c .before .before .fits .top .fits))
+loop-holds c = (c .before .before .pre .0 .words, refl, top-start _ _ _ (c .before .before .fits .top .fits))
 
 add-four-requires : tie.Need-add-four-requires Inv-loop μ-loop
 add-four-requires c κs =
     let l = c .before .before .loop in
     let s = c .before .before .before .before .before in
-    (l .inv .0, s .pre .1, top-more _ _ _ _ (l .u) (l .k) (c .before .loop-test .taken) (l .inv .2), s .pre .2, s .pre .3)
+    (record { words = l .inv .0; table = s .pre .0 .table; from = s .pre .0 .from }, s .pre .1, top-more _ _ _ _ (l .u) (l .k) (c .before .loop-test .taken) (l .inv .2))
 
 add-k : tie.Need-add-k Inv-loop μ-loop
 add-k c =

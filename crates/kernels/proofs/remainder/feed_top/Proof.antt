@@ -10,6 +10,7 @@ use Rattle.polynomial.specs.Xor.{xor}
 use Rattle.kernels.specs.Above.{from-zero, low-top}
 use Rattle.kernels.specs.Feed.{start-fed, turn-fed}
 use Rattle.kernels.specs.Row.{D}
+use Rattle.kernels.specs.Step.{Stepping}
 use Rattle.kernels.specs.Table.{Reduced, reduced-low}
 use Rattle.kernels.proofs.remainder.feed_top.Statement.{statement}
 use Rattle.kernels.proofs.remainder.feed_top.Tie as tie
@@ -21,10 +22,17 @@ abbrev μ-loop : tie.MeasureT-loop
 μ-loop r₀ t s n w l p pos₀ r pos = pos
 
 -- the register is a multiple of x^p
-low : (l : tie.At-loop Inv-loop μ-loop) → value 64 (l .loop .r) % 2 ^ l .before .before .before .before .args .p ≡ 0
-low l =
+held : (l : tie.At-loop Inv-loop μ-loop) → (let a = l .before .before .before .before .args in Stepping (l .loop .r) (a .t .now) (a .p))
+held l =
     let s = l .before .before .before .before in
-    reduced-low (s .args .t .now) (s .args .p) _ _ (s .pre .4) (s .pre .8) (low-top (value 64 (s .args .r .now)) _ _ (s .args .p) (s .pre .4) (rw (s .pre .5) (Nat.zero-mod (2 ^ s .args .p)))) (l .loop .inv .3)
+    record {
+      words = l .loop .inv .2;
+      table = s .pre .1;
+      place = s .pre .4;
+      small = l .loop .inv .3 .small;
+      moved = s .pre .8;
+      low = reduced-low (s .args .t .now) (s .args .p) _ _ (s .pre .4) (s .pre .8) (low-top (value 64 (s .args .r .now)) _ _ (s .args .p) (s .pre .4) (rw (s .pre .5) (Nat.zero-mod (2 ^ s .args .p)))) (l .loop .inv .3);
+    }
 
 loop-holds : tie.Need-loop-holds Inv-loop μ-loop
 loop-holds c =
@@ -45,7 +53,7 @@ step-top-requires c κs =
     let b = c .before in
     let l = b .before .before in
     let s = l .before .before .before .before in
-    (l .loop .inv .2, s .pre .1, s .pre .2, s .pre .3, s .pre .4, l .loop .inv .3 .small, rw (b .bits .ensures) (Nat.mod-lt _ (pow-pos (s .args .l))), s .pre .8, low l)
+    (held l, s .pre .2, s .pre .3, rw (b .bits .ensures) (Nat.mod-lt _ (pow-pos (s .args .l))))
 
 loop-less : tie.Need-loop-less Inv-loop μ-loop
 loop-less c = search needs
@@ -79,7 +87,7 @@ step-top-requires-2 c κs =
     let n = b .before in
     let l = n .before .before in
     let s = l .before .before .before .before in
-    (l .loop .inv .2, s .pre .1, omega (arith, n .if1 .taken), omega (arith, n .before .loop-test .left, s .pre .3), s .pre .4, l .loop .inv .3 .small, rw (b .bits2 .ensures) (Nat.mod-lt _ (pow-pos (l .loop .pos - s .args .w))), s .pre .8, low l)
+    (held l, omega (arith, n .if1 .taken), omega (arith, n .before .loop-test .left, s .pre .3), rw (b .bits2 .ensures) (Nat.mod-lt _ (pow-pos (l .loop .pos - s .args .w))))
 
 same-length : tie.Need-same-length Inv-loop μ-loop
 same-length c =

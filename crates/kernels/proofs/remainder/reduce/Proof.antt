@@ -1,5 +1,6 @@
 -- The lower words are copied, the 13th's remainder is added, and they are copied back: reduce-law.
 use mathlib.Core.Path.{_∙_}
+use Prim.Native.Nat.{_≤_}
 use native.Mathlib.Omega.{arith}
 use lib.ListN.{length-set}
 use borrow.Author.Needs.{needs}
@@ -20,7 +21,8 @@ slice-aggregate-copy c = search needs
 copy-requires : tie.Need-copy-requires
 copy-requires c κs =
     let s = c .before .before .before .before .before in
-    (search needs, rw (length-set (s .args .r .now) 12 0) (omega (arith, s .pre .0)), s .pre .2, clear-in (s .args .r .now) (s .args .from) (λ k. c .before .before .before .before .slice-known .given k .fits) (s .pre .0) (s .pre .2) (s .pre .4))
+    let f : s .args .from ≤ 12 = omega (arith, s .pre .place) in
+    (search needs, rw (length-set (s .args .r .now) 12 0) (omega (arith, s .pre .words)), f, clear-in (s .args .r .now) (s .args .from) (λ k. c .before .before .before .before .slice-known .given k .fits) (s .pre .words) f (s .pre .low))
 
 slice-aggregate-add-top : tie.Need-slice-aggregate-add-top
 slice-aggregate-add-top c = search needs
@@ -37,7 +39,8 @@ copy-requires-2 c κs =
     let i = c .before .before .before .before .before .before .copy in
     let a = c .before .before .before .add-top in
     let k = a .kept .0 ∙ i .kept .0 in
-    (rw (length-set (s .args .r .now) 12 0) (omega (arith, s .pre .0)), omega (arith, k), s .pre .2, clear-out (s .args .r .now) _ (i .last .0) (a .last .0) (s .args .from) (s .pre .2) (i .ensures) (a .ensures .1))
+    let f : s .args .from ≤ 12 = omega (arith, s .pre .place) in
+    (rw (length-set (s .args .r .now) 12 0) (omega (arith, s .pre .words)), omega (arith, k), f, clear-out (s .args .r .now) _ (i .last .0) (a .last .0) (s .args .from) f (i .ensures) (a .ensures .1))
 
 same-length : tie.Need-same-length
 same-length c = c .before .before .copy2 .kept .0 ∙ length-set (c .before .before .before .before .before .before .before .before .before .before .before .before .before .before .before .args .r .now) 12 0
@@ -49,8 +52,8 @@ returns c =
     let i = c .before .before .before .before .before .before .before .before .before .copy in
     let a = c .before .before .before .before .before .before .add-top in
     let o = c .before .before .copy2 in
-    reduce-law (s .args .t .now) (s .args .r .now) _ (i .last .0) (a .last .0) (o .last .0) r (s .pre .0) (λ k. c .slice-known3 .given k .fits)
-    (o .kept .0 ∙ length-set (s .args .r .now) 12 0 ∙ s .pre .0) (i .kept .0) (a .kept .0 ∙ i .kept .0) (i .ensures) (a .ensures .0) (o .ensures)
+    reduce-law (s .args .t .now) (s .args .r .now) _ (i .last .0) (a .last .0) (o .last .0) r (s .pre .words) (λ k. c .slice-known3 .given k .fits)
+    (o .kept .0 ∙ length-set (s .args .r .now) 12 0 ∙ s .pre .words) (i .kept .0) (a .kept .0 ∙ i .kept .0) (i .ensures) (a .ensures .0) (o .ensures)
 
 pub reduce-spec : {M : Type 1} → statement M
 reduce-spec =

@@ -1,15 +1,14 @@
 use borrow.Author.Needs.{needs}
 use Prim.Native.Nat.{_-_}
 use native.Mathlib.Omega.{arith}
-use Rattle.kernels.specs.Shift.{low-less}
-use Rattle.kernels.specs.Table.{moved-less}
+use Rattle.kernels.specs.Step.{stepping-less}
 use Rattle.kernels.proofs.remainder.step_whole.Statement.{statement}
 use Rattle.kernels.proofs.remainder.step_whole.Tie as tie
 
 step-word-requires : tie.Need-step-word-requires
 step-word-requires c κs =
     let s = c .before .before .before .before in
-    (s .pre .0, s .pre .1, omega arith, s .pre .3, moved-less _ (s .args .p) 0 (omega arith) (s .pre .4), low-less _ (s .args .p) 0 (omega arith) (s .pre .5))
+    stepping-less _ _ (s .args .p) 0 (omega arith) (s .pre)
 
 same-length : tie.Need-same-length
 same-length c = search needs
@@ -20,7 +19,7 @@ returns c = search needs
 step-word-requires-2 : tie.Need-step-word-requires-2
 step-word-requires-2 c κs =
     let s = c .before .before .before .before in
-    (s .pre .0, s .pre .1, omega arith, s .pre .3, moved-less _ (s .args .p) 384 (c .before .if1 .left) (s .pre .4), low-less _ (s .args .p) 384 (c .before .if1 .left) (s .pre .5))
+    stepping-less _ _ (s .args .p) 384 (c .before .if1 .left) (s .pre)
 
 same-length-2 : tie.Need-same-length-2
 same-length-2 c = search needs

@@ -1,6 +1,6 @@
 use borrow.Author.Needs.{needs}
 use mathlib.Core.Path.{refl, _∙_}
-use Prim.Native.Nat.{_-_}
+use Prim.Native.Nat.{_-_, _≤_}
 use native.Mathlib.Omega.{arith}
 use Rattle.kernels.specs.Above.{next-clear, next-start, word-step}
 use Rattle.kernels.specs.Row.{top-zero}
@@ -18,7 +18,8 @@ copy-next-requires : tie.Need-copy-next-requires
 copy-next-requires c κs =
     let g = c .before .before .before .before in
     let s = g .before in
-    (refl, omega (arith, s .pre .0), s .pre .2, next-start (s .args .r .now) (s .args .from) (λ k. g .slice-known .given k .fits) (s .pre .0) (s .pre .2) (s .pre .5))
+    let f : s .args .from ≤ 11 = omega (arith, s .pre .place) in
+    (refl, omega (arith, s .pre .words), f, next-start (s .args .r .now) (s .args .from) (λ k. g .slice-known .given k .fits) (s .pre .words) f (s .pre .low))
 
 slice-aggregate-add-top : tie.Need-slice-aggregate-add-top
 slice-aggregate-add-top c = search needs
@@ -35,7 +36,8 @@ copy-requires c κs =
     let k = n .before .before .before in
     let g = k .before .before .before .before .before in
     let s = g .before in
-    (omega (arith, s .pre .0), omega (arith, n .add-top .kept .0, k .copy-next .kept .0), omega (arith, s .pre .2), next-clear (s .args .r .now) (k .copy-next .last .0) (n .add-top .last .0) (s .args .from) (λ j. g .slice-known .given j .fits) (s .pre .0) (s .pre .2) (s .pre .5) (k .copy-next .ensures .1) (n .add-top .ensures .1))
+    let f : s .args .from ≤ 11 = omega (arith, s .pre .place) in
+    (omega (arith, s .pre .words), omega (arith, n .add-top .kept .0, k .copy-next .kept .0), omega (arith, f), next-clear (s .args .r .now) (k .copy-next .last .0) (n .add-top .last .0) (s .args .from) (λ j. g .slice-known .given j .fits) (s .pre .words) f (s .pre .low) (k .copy-next .ensures .1) (n .add-top .ensures .1))
 
 same-length : tie.Need-same-length
 same-length c = search needs
@@ -48,8 +50,8 @@ returns c =
     let g = k .before .before .before .before .before in
     let s = g .before in
     let b : Bounded 64 (s .args .r .now) = λ j. g .slice-known .given j .fits in
-    word-step (s .args .t .now) (s .args .r .now) (k .copy-next .last .0) (n .add-top .last .0) (o .copy .last .0) (s .args .u) b (s .pre .0) (s .pre .3) (λ j. c .slice-known3 .given j .fits) (o .copy .kept .0 ∙ s .pre .0)
-    (n .add-top .kept .0 ∙ k .copy-next .kept .0) (top-zero (s .args .r .now) b (s .pre .0) (s .pre .3)) (k .copy-next .ensures .0) (n .add-top .ensures .0) (o .copy .ensures)
+    word-step (s .args .t .now) (s .args .r .now) (k .copy-next .last .0) (n .add-top .last .0) (o .copy .last .0) (s .args .u) b (s .pre .words) (s .pre .small) (λ j. c .slice-known3 .given j .fits) (o .copy .kept .0 ∙ s .pre .words)
+    (n .add-top .kept .0 ∙ k .copy-next .kept .0) (top-zero (s .args .r .now) b (s .pre .words) (s .pre .small)) (k .copy-next .ensures .0) (n .add-top .ensures .0) (o .copy .ensures)
 
 pub step-word-spec : {M : Type 1} → statement M
 step-word-spec =
