@@ -9,7 +9,7 @@ use native.Mathlib.Decide.{le-ind}
 use native.Mathlib.Omega.{arith}
 use lib.Dec.{T, eqb, leb, ltb, eqb→eq, leb→le, ltb→lt, le→leb, lit≤}
 use Rattle.polynomial.specs.Division.{Deg}
-use Rattle.field.specs.Fields.{BinaryField, Known, fieldOf, fieldOf-exponent, fieldOf-length}
+use Rattle.field.specs.Fields.{BinaryField, Known, fieldOf, fieldOf-exponent, fieldOf-length, by-known}
 use Rattle.field.specs.Irreducible.{both}
 use Rattle.field.specs.Powers.{n-pos, pow-mod, α≢0}
 use Rattle.generator.specs.Generator.{generator-deg, generator-iff, width-lt}
@@ -126,9 +126,7 @@ module _ (p : Parameters) where
       rules (a .0) (b .0) (c .0) (last 3 (clashes p) (c .1))
 
 pub q-high : (q : ℕ) → Known q → q ≤ 12
-q-high q (inl e) = rw e (lit≤ tt)
-q-high q (inr (inl e)) = rw e (lit≤ tt)
-q-high q (inr (inr e)) = rw e (lit≤ tt)
+q-high = by-known (λ q. q ≤ 12) (lit≤ tt) (lit≤ tt) (lit≤ tt)
 
 module _ (p : Parameters) (R : Rules p) where
   abbrev pub B : BinaryField

@@ -2,7 +2,6 @@
 --   IsWords p cs     m words of the stored places
 --   IsBlocks p ds    the data of m words, each of its block's bits
 use mathlib.Core.Path.{_≡_, refl, sym, ap, ap₂, _∙_}
-use mathlib.Core.Logic.{inl, inr}
 use mathlib.Core.Bool.{Bool, true, false, _&&_}
 use mathlib.Core.List.{List, [], _∷_, map}
 use Prim.Native.Nat.{ℕ, zero, suc, _+_, _-_, _*_, _/_, _^_, _≤_, _<_}
@@ -14,7 +13,7 @@ use lib.Pow.{pow-mono}
 use Rattle.polynomial.specs.Division.{xor-lt}
 use Rattle.polynomial.specs.Sums.{All, add, length-add}
 use Rattle.field.specs.Field.{zero-mul}
-use Rattle.field.specs.Fields.{Known}
+use Rattle.field.specs.Fields.{Known, by-known}
 use Rattle.field.specs.Irreducible.{both}
 use Rattle.code.specs.declared.Parameters.{Parameters}
 use Rattle.code.specs.Code as P
@@ -93,9 +92,7 @@ all-small n k (suc m) [] l e h = absurd (Nat.suc-ne-zero m (sym e))
 all-small n k (suc m) (c ∷ cs) l e h = (Nat.lt-of-lt-of-le (h .0) (pow-mono l), all-small n k m cs l (Nat.suc-inj e) (h .1))
 
 pub room : (q : ℕ) → Known q → 2 ^ q - 1 ≤ 8 * (2 ^ q / 8)
-room q (inl e) = rw e (lit≤ tt)
-room q (inr (inl e)) = rw e (lit≤ tt)
-room q (inr (inr e)) = rw e (lit≤ tt)
+room = by-known (λ q. 2 ^ q - 1 ≤ 8 * (2 ^ q / 8)) (lit≤ tt) (lit≤ tt) (lit≤ tt)
 
 pub record IsWords (p : Parameters) (cs : List ℕ) : Type 0 where
   pub many : length cs ≡ p .m

@@ -12,11 +12,10 @@ use mathlib.Core.Bool.{Bool, true, false, _&&_, _||_, cond, false≢true}
 use mathlib.Core.List.{List, [], _∷_}
 use Prim.Native.Nat.{ℕ, zero, suc, _-_, _^_, _≤_}
 use native.Mathlib.Nat as Nat
-use native.Mathlib.Omega.{arith}
-use lib.Dec.{eqb}
+use lib.Dec.{eqb, lit≤}
 use lib.Pow.{pow-mono}
 use borrow.Author.Tests.{ne-eqb, eqb-true}
-use Rattle.field.specs.Fields.{Known, fieldPolynomial}
+use Rattle.field.specs.Fields.{Known, fieldPolynomial, by-known}
 use Rattle.element.specs.declared.Field.{Field}
 use Rattle.element.specs.declared.Made.{Made}
 
@@ -61,9 +60,7 @@ unknown q a b c = simp (ne-eqb q 4 a, ne-eqb q 8 b, ne-eqb q 12 c)
 
 -- the last of the three
 pub known-last : (q : ℕ) → Known q → (q ≡ 4 → ⊥) → (q ≡ 8 → ⊥) → q ≡ 12
-known-last q (inl e) a b = absurd (a e)
-known-last q (inr (inl e)) a b = absurd (b e)
-known-last q (inr (inr e)) a b = e
+known-last = by-known (λ q. (q ≡ 4 → ⊥) → (q ≡ 8 → ⊥) → q ≡ 12) (λ a b. absurd (a refl)) (λ a b. absurd (b refl)) (λ a b. refl)
 
 -- ---- from the answer
 module _ (q : ℕ) (r : Made) (h : MadeOf q r) where
@@ -99,9 +96,7 @@ known-is q t = from (eqb q 4) (eqb q 8) (eqb q 12) (eqb-true q 4) (eqb-true q 8)
 
 -- ---- the numbers of a field
 exponent-range : (q : ℕ) → Known q → (4 ≤ q) × (q ≤ 12)
-exponent-range q (inl e) = rw e (omega arith, omega arith)
-exponent-range q (inr (inl e)) = rw e (omega arith, omega arith)
-exponent-range q (inr (inr e)) = rw e (omega arith, omega arith)
+exponent-range = by-known (λ q. (4 ≤ q) × (q ≤ 12)) (lit≤ tt, lit≤ tt) (lit≤ tt, lit≤ tt) (lit≤ tt, lit≤ tt)
 
 pub size-least : (q : ℕ) → Known q → 16 ≤ 2 ^ q
 size-least q h = pow-mono {i = 4} (exponent-range q h .0)

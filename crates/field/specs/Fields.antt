@@ -153,6 +153,12 @@ make g q p = binary g q (2 ^ q - 1) (p .degree) (sym (suc-ones q)) (p .two) (irr
 abbrev pub Known : ℕ → Type 0
 Known q = (q ≡ 4) ⊎ ((q ≡ 8) ⊎ (q ≡ 12))
 
+-- what holds at 4, 8 and 12 holds at q
+pub by-known : (P : ℕ → Type 0) → P 4 → P 8 → P 12 → (q : ℕ) → Known q → P q
+by-known P a b c q (inl e) = rw e a
+by-known P a b c q (inr (inl e)) = rw e b
+by-known P a b c q (inr (inr e)) = rw e c
+
 abbrev pub polynomialBy : Bool → Bool → ℕ
 polynomialBy true b = 19
 polynomialBy false true = 285
@@ -175,7 +181,7 @@ tested false false = tt
 pub passed : (a b : Bool) → Passed (polynomialBy a b) (exponentBy a b)
 passed a b = passes-is (polynomialBy a b) (exponentBy a b) (tested a b)
 
--- for another q than 4, 8 and 12 it is that of 12: no definition is stuck there, and a refusal stands before each use
+-- for another q than 4, 8 and 12 it is that of 12: no definition is stuck there
 unfoldable pub fieldOf : ℕ → BinaryField
 fieldOf q = make (polynomialBy (eqb q 4) (eqb q 8)) (exponentBy (eqb q 4) (eqb q 8)) (passed (eqb q 4) (eqb q 8))
 
@@ -185,9 +191,7 @@ fieldOf-polynomial q = refl
 
 pub fieldOf-exponent : (q : ℕ) → Known q → fieldOf q .q ≡ q
 unfolding fieldOf
-fieldOf-exponent q (inl e) = rw e refl
-fieldOf-exponent q (inr (inl e)) = rw e refl
-fieldOf-exponent q (inr (inr e)) = rw e refl
+fieldOf-exponent = by-known (λ q. fieldOf q .q ≡ q) refl refl refl
 
 pub fieldOf-length : (q : ℕ) → Known q → fieldOf q .n ≡ 2 ^ q - 1
 fieldOf-length q h = omega (arith, rw (fieldOf-exponent q h) at (fieldOf q .size))

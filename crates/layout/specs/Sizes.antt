@@ -1,7 +1,6 @@
 -- The numbers of accepted parameters: degrees, check and data bits, and their bounds.
 --   Degrees p w    w holds the degrees w_0 to w_v of the generators, in four places; those past v are 0
 use mathlib.Core.Path.{_≡_, refl, _∙_}
-use mathlib.Core.Logic.{inl, inr}
 use mathlib.Core.List.{List, [], _∷_}
 use Prim.Native.Nat.{ℕ, _+_, _-_, _*_, _/_, _%_, _^_, _≤_, _<_, zero-le, suc-le-suc}
 use native.Mathlib.Nat as Nat
@@ -9,7 +8,7 @@ use native.Mathlib.Omega.{arith}
 use lib.Dec.{lit≤, lit<}
 use lib.ListN.{length, getD}
 use lib.Pow.{shl-exact}
-use Rattle.field.specs.Fields.{BinaryField, Known, fieldOf, fieldOf-exponent}
+use Rattle.field.specs.Fields.{BinaryField, fieldOf, fieldOf-exponent, by-known}
 use Rattle.generator.specs.Exponents.{exponents, exponents-mem}
 use Rattle.generator.specs.Generator.{width, width-eq}
 use Rattle.generator.specs.Distinct.{Mem}
@@ -31,12 +30,6 @@ level-low p i = Nat.sub-le (p .v) i
 -- 2^k as a shift of 1
 pub shifted : (k : ℕ) → k < 64 → 1 * 2 ^ k % 2 ^ 64 ≡ 2 ^ k
 shifted k h = shl-exact 1 k 64 (lit< tt) (omega arith) ∙ Nat.one-mul (2 ^ k)
-
--- what holds at 4, 8 and 12 holds at q
-by-known : (P : ℕ → Type 0) → P 4 → P 8 → P 12 → (q : ℕ) → Known q → P q
-by-known P a b c q (inl e) = rw e a
-by-known P a b c q (inr (inl e)) = rw e b
-by-known P a b c q (inr (inr e)) = rw e c
 
 -- ---- a generator of positive strength has a positive degree
 mem-pos : (a : ℕ) (l : List ℕ) → Mem a l → 1 ≤ length l

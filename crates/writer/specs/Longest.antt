@@ -1,7 +1,7 @@
 -- The longest accepted input has 4,092 bytes: 4, the v + 1 strengths and the blocks.
 --   largest    the sheet whose input has as many
 use mathlib.Core.Path.{_≡_, refl, sym, ap, _∙_}
-use mathlib.Core.Logic.{inl, inr}
+use mathlib.Core.Logic.{inr}
 use mathlib.Core.Bool.{_&&_, not}
 use mathlib.Core.List.{[], _∷_, map}
 use Prim.Native.Nat.{ℕ, zero, suc, _+_, _-_, _*_, _/_, _^_, _≤_, _<_, zero-le}
@@ -11,7 +11,7 @@ use native.Mathlib.Numerals.{add-one}
 use native.Mathlib.Omega.{arith}
 use lib.Dec.{leb, ltb, ltb→lt, lit≤}
 use lib.ListN.{length}
-use Rattle.field.specs.Fields.{BinaryField, Known, fieldOf, fieldOf-exponent, fieldOf-length}
+use Rattle.field.specs.Fields.{BinaryField, Known, fieldOf, fieldOf-exponent, fieldOf-length, by-known}
 use Rattle.field.specs.Irreducible.{both}
 use Rattle.field.specs.Powers.{n-pos}
 use Rattle.generator.specs.Exponents.{exponents, exponents-mono, orbit-exponents, row, values}
@@ -61,9 +61,9 @@ higher p A =
 
 -- ---- data bits: at most 4,095 less c, if there are c check bits at q = 12
 data-most : (q w c : ℕ) → Known q → c ≤ 24 → (q ≡ 12 → c ≤ w) → 2 ^ q - 1 - w ≤ 4095 - c
-data-most q w c (inl e) l h = rw e (omega arith)
-data-most q w c (inr (inl e)) l h = rw e (omega arith)
-data-most q w c (inr (inr e)) l h = let k : c ≤ w = h e in rw e (omega arith)
+data-most q w c known l =
+    by-known (λ q. (q ≡ 12 → c ≤ w) → 2 ^ q - 1 - w ≤ 4095 - c) (λ h. omega arith) (λ h. omega arith) (λ h. let k : c ≤ w = h refl in omega arith)
+    q known
 
 module _ (p : Parameters) (A : Accepted p) where
   R : Rules p

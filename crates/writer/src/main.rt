@@ -139,18 +139,21 @@ fn page_written(input: &[u8], p: Parameters) -> Output
 
 // The output owed for the `got` bytes that were read to the room's start is written. That it goes to standard output, whole, is tested and
 // not proved: no contract speaks of what a program writes.
-fn put(room: &[u8], got: usize, out: Output)
+fn put(room: &[u8], got: usize, out: Output) -> Output
     requires { ⌜ Answered (now room) got (out .count) (out .bytes) ⌝ }
+    ensures { λ r. ⌜ r ≡ out ⌝ }
 {
     let count = out.count;
     let bytes = out.bytes;
     io::write_all(STDOUT_FILENO, &bytes[..count]);
+    out
 }
 
 // Byte 0 and the page, or the number of a refusal, for the `got` bytes that were read to the room's start:
 // no byte that comes after a full room alters it.
-fn respond(room: &[u8], got: usize)
+fn respond(room: &[u8], got: usize) -> Output
     requires { ⌜ (4093 ≤ length (now room)) × (got ≤ length (now room)) ⌝ }
+    ensures { λ r. ⌜ Answered (now (room .entry)) got (r .count) (r .bytes) ⌝ }
 {
     let input = &room[..got];
     let p = sheet_given(input);
@@ -166,8 +169,7 @@ fn respond(room: &[u8], got: usize)
     } = tested
     else {
         let k = tested_number(tested);
-        put(room, got, refused(k));
-        return;
+        return put(room, got, refused(k));
     };
     let accepted = Parameters {
         q: q,
@@ -178,7 +180,7 @@ fn respond(room: &[u8], got: usize)
         t2: t2,
         t3: t3,
     };
-    put(room, got, page_written(input, accepted));
+    put(room, got, page_written(input, accepted))
 }
 
 fn main() {
