@@ -62,7 +62,8 @@ higher p A =
 -- ---- data bits: at most 4,095 less c, if there are c check bits at q = 12
 data-most : (q w c : ℕ) → Known q → c ≤ 24 → (q ≡ 12 → c ≤ w) → 2 ^ q - 1 - w ≤ 4095 - c
 data-most q w c known l =
-    by-known (λ q. (q ≡ 12 → c ≤ w) → 2 ^ q - 1 - w ≤ 4095 - c) (λ h. omega arith) (λ h. omega arith) (λ h. let k : c ≤ w = h refl in omega arith)
+    by-known (λ q. (q ≡ 12 → c ≤ w) → 2 ^ q - 1 - w ≤ 4095 - c) (λ h. omega arith) (λ h. omega arith)
+    (λ h. let k : c ≤ w = h refl in omega arith)
     q known
 
 module _ (p : Parameters) (A : Accepted p) where
