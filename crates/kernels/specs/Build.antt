@@ -1,40 +1,32 @@
--- How a table comes about, row by row. G is the generator, D = 768; e is the remainder of a power of x from x^768 on.
---   Put t t′ at n            the row at `at` is n in t′; the rows below are those of t
---   Putting t₀ t at j n      the same with j words of the row written, whose number is n
---   Filled t t′ base m e b   b of the m rows from base + m on are those from base on, with e added
---   Blocking G t₀ t k s m e  of digit k, the rows of the m = 2^s lowest numbers are there, and e is the remainder of m · x^(4 k + 768)
---   Block G t t′ k e         the 16 rows of digit k are there, and e is the next digit's
---   Built G t k e            the rows of k digits are there
+-- How a table comes about, row by row. G is the generator, D = 768.
+--   Put t t′ at n          the row at `at` is n in t′; the rows below are those of t
+--   Putting t₀ t at j n    the same with j words of the row written, whose number is n
+--   Rows G t n             the first n rows of t are those of G's table
+--   Begun t n              so it is by some G
+--   Grown t t′ n n′        where t has n rows of a table, t′ has n′
+--   PowerOfTwo m           m is 2 ^ s for some s
 use mathlib.Core.Path.{_≡_, refl, sym, ap, ap₂, _∙_, subst}
-use mathlib.Core.Logic.{_⊎_, inl, inr, ⊎-elim}
 use mathlib.Core.List.{List, [], _∷_}
-use Prim.Native.Nat.{ℕ, zero, suc, _+_, _-_, _*_, _/_, _^_, _≤_, _<_}
-use native.Mathlib.Nat.{mul-comm, zero-mul, one-mul, zero-add}
+use Prim.Native.Nat.{ℕ, zero, suc, _+_, _-_, _*_, _/_, _%_, _^_, _≤_, _<_}
+use native.Mathlib.Nat.{zero-mul, one-mul, zero-add}
 use native.Mathlib.Nat as Nat
 use native.Mathlib.Numerals.{add-one}
 use native.Mathlib.Omega.{arith}
-use lib.Bits.{bitXor}
 use lib.ListN.{length, getD, take, drop, set, replicate, length-drop}
-use lib.Pow.{pow-pos, pow-add, pow-mono, high}
-use lib.Seq.{getD-drop, take-take, take-set-le, drop-set-add}
+use lib.Pow.{pow-pos, pow-add, pow-mono, shr-lt, shl-lt, split}
+use lib.Pow as Pow
+use lib.Seq.{getD-drop, getD-take, take-all, take-take, take-set-le, drop-set-add}
 use borrow.Author.Count.{below-more}
 use Rattle.polynomial.specs.Clmul.{clmul-one-l}
-use Rattle.polynomial.specs.Digits.{value}
-use Rattle.polynomial.specs.Division.{Deg, rem, rem-of, rem-small, rem-zero, xor-lt, xor-shr, lt-of-shr}
-use Rattle.polynomial.specs.Xor.{xor, xors, xor-is, xor-self, xor-comm}
-use Rattle.kernels.specs.Remainder.{rem-add2, rem-shift, rem-same}
+use Rattle.polynomial.specs.Digits.{value, value-at}
+use Rattle.polynomial.specs.Division.{Deg, rem, rem-of, rem-lt, rem-zero}
+use Rattle.polynomial.specs.Xor.{xor, xors, xor-comm}
+use Rattle.kernels.specs.Move.{moved-top}
+use Rattle.kernels.specs.Remainder.{rem-add, rem-shift, rem-top}
 use Rattle.kernels.specs.Row.{D, by-top, low-lt}
 use Rattle.kernels.specs.Shift.{join, xor-shl}
 use Rattle.kernels.specs.Table.{Table, rowAt, row, hex, hex-at}
-use Rattle.kernels.specs.Value.{Bounded, value-nil, take-more-set, take-lt, take-xor, bounded-drop}
-
--- ---- all indices below a sum
-split-at : (k m : ℕ) → (k < m) ⊎ (m ≤ k)
-split-at k m = ⊎-elim (λ e. inr (omega arith)) (λ h. inl (omega arith)) (Nat.eq-zero-or-pos (m - k))
-
-below-add : (P : ℕ → Type 0) (m n : ℕ) → ((k : ℕ) → k < m → P k) → ((i : ℕ) → i < n → P (m + i)) → (k : ℕ) → k < m + n → P k
-below-add P m n f g k h =
-    ⊎-elim (λ l. f k l) (λ l. subst P (Nat.add-sub-of-le l) (g (k - m) (omega arith))) (split-at k m)
+use Rattle.kernels.specs.Value.{Bounded, value-nil, take-more, take-more-set, bounded-all, bounded-take, bounded-drop}
 
 -- ---- one row is written
 pub record Put (t t′ : List ℕ) (at n : ℕ) : Type 0 where
@@ -77,186 +69,179 @@ pub put-done : (t₀ t : List ℕ) (at j n : ℕ) → j ≡ 12 → Putting t₀ 
 unfolding rowAt
 put-done t₀ t at j n e p = record { here = rw e at (p .done); below = same-rows t₀ t at (p .before) }
 
--- the sum of the first j words of the row at `from` and of e
-abbrev pub sums : List ℕ → ℕ → List ℕ → ℕ → ℕ
-sums t from e j = xor (value 64 (take j (drop from t))) (value 64 (take j e))
+pub put-turn : (t₀ t v : List ℕ) (at j : ℕ) → at + j < length t → j < length v → Putting t₀ t at j (value 64 (take j v))
+    → Putting t₀ (set t (at + j) (getD v j 0)) at (j + 1) (value 64 (take (j + 1) v))
+put-turn t₀ t v at j h l p =
+    subst (Putting t₀ (set t (at + j) (getD v j 0)) at (j + 1)) (sym (take-more 64 v j l))
+    (next-word t₀ t at j (getD v j 0) (value 64 (take j v)) h p)
 
-pub put-turn : (t₀ t e : List ℕ) (from to j : ℕ) → Bounded 64 t → Bounded 64 e → length t ≡ length t₀ → from + 12 ≤ to → to + j < length t
-    → j < 12 → j < length e → Putting t₀ t to j (sums t₀ from e j)
-    → Putting t₀ (set t (to + j) (bitXor (getD t (from + j) 0) (getD e j 0))) to (j + 1) (sums t₀ from e (j + 1))
-put-turn t₀ t e from to j d de hl hf ht hj he p =
-    subst (Putting t₀ (set t (to + j) v) to (j + 1)) sum-is (next-word t₀ t to j v (sums t₀ from e j) ht p)
-  where
-    a : ℕ
-    a = getD (drop from t) j 0
+pub put-end : (t₀ t v : List ℕ) (at j : ℕ) → length v ≡ 12 → j ≡ 12 → Putting t₀ t at j (value 64 (take j v)) → Put t₀ t at (value 64 v)
+put-end t₀ t v at j l e p =
+    subst (Put t₀ t at) (ap (value 64) (take-all j v (omega arith))) (put-done t₀ t at j (value 64 (take j v)) e p)
 
-    b : ℕ
-    b = getD e j 0
+-- a row is made aside from two parts
+pub aside : (x y a b : ℕ) → y ≡ xor (value 64 (replicate 12 0)) a → x ≡ xor y b → x ≡ xor a b
+unfolding value
+aside x y a b e f = f ∙ ap (λ (z : ℕ). xor z b) (e ∙ simp xors)
 
-    v : ℕ
-    v = bitXor (getD t (from + j) 0) b
+-- ---- the first n rows of a table are there
+abbrev pub Rows : ℕ → List ℕ → ℕ → Type 0
+Rows G t n = (i : ℕ) → i < n → row t i ≡ rem G D (hex i * 2 ^ D)
 
-    -- what is read was not written
-    read : (i : ℕ) → i ≤ 12 → sums t₀ from e i ≡ sums t from e i
-    read i h =
-        ap (λ (x : ℕ). xor x (value 64 (take i e)))
-        (ap (value 64) (sym (window i from to t₀ (omega arith)) ∙ ap (λ (l : List ℕ). take i (drop from l)) (sym (p .before))
-        ∙ window i from to t (omega arith)))
+pub record Begun (t : List ℕ) (n : ℕ) : Type 0 where
+  pub words : length t ≡ 3072
+  pub G : ℕ
+  pub deg : Deg G D
+  pub rows : Rows G t n
 
-    long : j < length (drop from t)
-    long = rw (length-drop from t) (omega arith)
+pub record Grown (t t′ : List ℕ) (n n′ : ℕ) : Type 0 where
+  pub grow : (G : ℕ) → Deg G D → Rows G t n → Rows G t′ n′
 
-    small : sums t from e j < 2 ^ (64 * j)
-    small =
-        xor-lt (64 * j) _ _ (take-lt 64 (drop from t) (bounded-drop 64 t d from) j (Nat.le-of-lt long))
-        (take-lt 64 e de j (Nat.le-of-lt he))
+pub grown-start : (t : List ℕ) (n : ℕ) → Grown t t n n
+grown-start t n = record { grow = λ G d R. R }
 
-    sum-is : v * 2 ^ (64 * j) + sums t₀ from e j ≡ sums t₀ from e (j + 1)
-    sum-is =
-        ap₂ (λ (x y : ℕ). x * 2 ^ (64 * j) + y) (ap (λ (x : ℕ). bitXor x b) (sym (getD-drop from t j 0)) ∙ xor-is a b)
-        (read j (omega arith))
-        ∙ join (xor a b) (64 * j) (sums t from e j) small
-        ∙ rw (xor-shl (64 * j) a b) (sym (read (j + 1) (omega arith)
-        ∙ ap₂ xor (take-xor 64 (drop from t) (bounded-drop 64 t d from) j long) (take-xor 64 e de j he) ∙ simp xors))
+pub grown-on : (t t′ t″ : List ℕ) (n n′ n″ : ℕ) → Grown t t′ n n′ → Grown t′ t″ n′ n″ → Grown t t″ n n″
+grown-on t t′ t″ n n′ n″ f g = record { grow = λ G d R. g .grow G d (f .grow G d R) }
 
-pub put-end : (t₀ t e : List ℕ) (from to j : ℕ) → j ≡ 12 → length e ≡ 13 → getD e 12 0 ≡ 0 → Putting t₀ t to j (sums t₀ from e j)
-    → Put t₀ t to (xor (rowAt t₀ from) (value 64 e))
-unfolding rowAt
-put-end t₀ t e from to j h he z p =
-    subst (Put t₀ t to) (rw h (ap (xor (value 64 (take 12 (drop from t₀)))) (sym (by-top e he ∙ rw (z, zero-mul, zero-add) refl))))
-    (put-done t₀ t to j (sums t₀ from e j) h p)
+pub begun-on : (t t′ : List ℕ) (n n′ : ℕ) → Begun t n → length t′ ≡ 3072 → Grown t t′ n n′ → Begun t′ n′
+begun-on t t′ n n′ B l f = record { words = l; G = B .G; deg = B .deg; rows = f .grow (B .G) (B .deg) (B .rows) }
 
--- ---- `fill`: b of m rows are there
-pub record Filled (t t′ : List ℕ) (base m e b : ℕ) : Type 0 where
-  pub fresh : (i : ℕ) → i < b → row t′ (base + m + i) ≡ xor (row t (base + i)) e
-  pub old : (n : ℕ) → n < base + m → row t′ n ≡ row t n
-
-pub fill-start : (t : List ℕ) (base m e : ℕ) → Filled t t base m e 0
-fill-start t base m e = record { fresh = λ i h. absurd (Nat.not-suc-le-zero h); old = λ n h. refl }
-
-pub fill-turn : (t₀ t t′ : List ℕ) (base m e b : ℕ) → b < m → Filled t₀ t base m e b
-    → Put t t′ ((base + m + b) * 12) (xor (rowAt t ((base + b) * 12)) e) → Filled t₀ t′ base m e (b + 1)
+-- row n is put
+grown-put : (t t′ : List ℕ) (n x : ℕ) → Put t t′ (n * 12) x → ((G : ℕ) → Deg G D → Rows G t n → x ≡ rem G D (hex n * 2 ^ D))
+    → Grown t t′ n (n + 1)
 unfolding row
-fill-turn t₀ t t′ base m e b h f p = record {
-  fresh =
-      below-more (λ (i : ℕ). rowAt t′ ((base + m + i) * 12) ≡ xor (rowAt t₀ ((base + i) * 12)) e) b
-      (λ i l. p .below ((base + m + i) * 12) (omega arith) ∙ f .fresh i l)
-      (p .here ∙ ap (λ (x : ℕ). xor x e) (f .old (base + b) (omega arith)));
-  old = λ n l. p .below (n * 12) (omega arith) ∙ f .old n l;
+grown-put t t′ n x p f = record {
+  grow = λ G d R.
+      below-more (λ (i : ℕ). rowAt t′ (i * 12) ≡ rem G D (hex i * 2 ^ D)) n
+      (λ i l. p .below (i * 12) (omega arith) ∙ R i l) (p .here ∙ f G d R);
 }
 
--- ---- `block`: with the rows of m = 2 ^ s numbers
-pub record Blocking (G : ℕ) (t₀ t : List ℕ) (k s m e : ℕ) : Type 0 where
-  pub power : m ≡ 2 ^ s
-  pub base : e ≡ rem G D (m * 2 ^ (4 * k) * 2 ^ D)
-  pub rows : (b : ℕ) → b < m → row t (k * 16 + b) ≡ rem G D (b * 2 ^ (4 * k) * 2 ^ D)
-  pub below : (n : ℕ) → n < k * 16 → row t n ≡ row t₀ n
+hex-zero : (k : ℕ) → hex (16 * k) ≡ 0
+hex-zero k = ap hex (sym (Nat.add-zero (16 * k))) ∙ hex-at k 0 (omega arith) ∙ zero-mul (2 ^ (4 * k))
 
-pub few : (s m : ℕ) → m ≡ 2 ^ s → s < 4 → m ≤ 8
-few s m e h = rw e (pow-mono {i = s} {j = 3} (omega arith))
+pub grown-clear : (t t′ : List ℕ) (k : ℕ) → Put t t′ (192 * k) 0 → Grown t t′ (16 * k) (16 * k + 1)
+grown-clear t t′ k p =
+    let e : 192 * k ≡ 16 * k * 12 = omega arith in
+    grown-put t t′ (16 * k) 0 (rw e at p)
+    (λ G d R. sym (rw (hex-zero k, zero-mul) (rem-zero G D)))
 
--- ---- `times_x`
-module _ (G : ℕ) (d : Deg G D) where
-  pub times-low : (e : List ℕ) (n : ℕ) → Bounded 64 e → length e ≡ 13 → value 64 e ≡ n * 2 ^ 1 → getD e 12 0 ≡ 0
-      → value 64 e ≡ rem G D (n * 2)
-  times-low e n de he h z =
-      let s : value 64 e < 2 ^ D = rw (by-top e he, z, zero-mul, zero-add) (low-lt e de he) in
-      sym (rem-small G D d (value 64 e) s) ∙ ap (rem G D) h
+pub grown-sum : (t t′ : List ℕ) (a b n x : ℕ) → a < n → b < n → hex n ≡ xor (hex a) (hex b)
+    → x ≡ xor (rowAt t (a * 12)) (rowAt t (b * 12)) → Put t t′ (n * 12) x → Grown t t′ n (n + 1)
+unfolding row
+grown-sum t t′ a b n x ha hb e s p =
+    grown-put t t′ n x p (λ G d R. rw e (s ∙ ap₂ xor (R a ha) (R b hb) ∙ rem-add G D d D (hex a) (hex b)))
 
-  pub times-high : (e : List ℕ) (n g : ℕ) → Bounded 64 e → length e ≡ 13 → value 64 e ≡ n * 2 ^ 1 → n < 2 ^ D → (getD e 12 0 ≡ 0 → ⊥)
-      → g ≡ G → xor (value 64 e) g ≡ rem G D (n * 2)
-  times-high e n g de he h hn z eg =
-      rw (h, eg) (sym (rem-same G D d (n * 2) one))
-    where
-      top : n * 2 / 2 ^ D ≡ getD e 12 0
-      top = ap (λ (x : ℕ). x / 2 ^ D) (sym h ∙ by-top e he) ∙ high (getD e 12 0) D (low-lt e de he)
+-- row i moved up by s places: what passes x^768 is below 2 ^ s, and its row is there
+top-lt : (x s : ℕ) → x < 2 ^ D → x * 2 ^ s / 2 ^ D < 2 ^ s
+top-lt x s h = shr-lt s D (rw (Nat.add-comm s D) (shl-lt D s h))
 
-      small : n * 2 / 2 ^ D < 2
-      small = Nat.div-lt-iff-lt-mul (pow-pos D) .1 (omega arith)
+pub top-is : (t : List ℕ) (n i s : ℕ) → Bounded 64 t → Begun t n → n < 256 → i < n → s ≤ 4
+    → (getD t (i * 12 + 11) 0 / 2 ^ (64 - s) ≡ rowAt t (i * 12) * 2 ^ s / 2 ^ D) × (getD t (i * 12 + 11) 0 / 2 ^ (64 - s) < 16)
+unfolding row rowAt
+top-is t n i s b B hn h hs =
+    let e : getD t (i * 12 + 11) 0 / 2 ^ (64 - s) ≡ rowAt t (i * 12) * 2 ^ s / 2 ^ D =
+    ap (λ (x : ℕ). x / 2 ^ (64 - s)) (sym (getD-drop (i * 12) t 11 0))
+    ∙ moved-top (drop (i * 12) t) s (bounded-drop 64 t b (i * 12)) (rw (length-drop (i * 12) t, B .words) (omega arith)) (omega arith) in (
+      e,
+      rw e (Nat.lt-of-lt-of-le (top-lt (rowAt t (i * 12)) s (rw (B .rows i h) (rem-lt (B .G) D (B .deg) (hex i * 2 ^ D))))
+          (pow-mono {i = s} {j = 4} hs)),
+    )
 
-      one : n * 2 / 2 ^ D ≡ 1
-      one = let w : getD e 12 0 ≡ 0 → ⊥ = z in omega (arith, top, small)
+module _ (G : ℕ) (d : Deg G D) (t : List ℕ) (n i s : ℕ) (R : Rows G t n) (h : i < n) where
+  abbrev y : ℕ
+  y = rowAt t (i * 12)
 
-  pub block-start : (t₀ t : List ℕ) (k e : ℕ) → Put t₀ t (k * 192) 0 → e ≡ rem G D (2 ^ (4 * k) * 2 ^ D) → Blocking G t t k 0 1 e
+  abbrev top : ℕ
+  top = y * 2 ^ s / 2 ^ D
+
+  small : top < 2 ^ s
   unfolding row
-  block-start t₀ t k e p h = record {
-    power = refl;
-    base = h ∙ rw (one-mul (2 ^ (4 * k))) refl;
-    rows = λ b l.
-        let z : b ≡ 0 = omega arith in
-        let w : (k * 16 + b) * 12 ≡ k * 192 = omega arith in
-        ap (rowAt t) w ∙ p .here ∙ sym (rw (z, zero-mul, zero-mul) (rem-zero G D));
-    below = λ n l. refl;
-  }
+  small = top-lt y s (rw (R i h) (rem-lt G D d (hex i * 2 ^ D)))
 
-  double : (s b : ℕ) → b < 2 ^ s → xor b (2 ^ s) ≡ 2 ^ s + b
-  double s b h =
-      xor-comm b (2 ^ s) ∙ sym (ap (λ (x : ℕ). x + b) (sym (one-mul (2 ^ s))) ∙ join 1 s b h ∙ ap (λ (x : ℕ). xor x b) (one-mul (2 ^ s)))
+  its-row : s ≤ 4 → 2 ^ s ≤ n → rowAt t (top * 12) ≡ rem G D (top * 2 ^ D)
+  unfolding row
+  its-row hs hn =
+      R top (Nat.lt-of-lt-of-le small hn)
+      ∙ ap (λ (z : ℕ). rem G D (z * 2 ^ D)) (ap hex (sym (zero-add top)) ∙ hex-at 0 top (Nat.lt-of-lt-of-le small (pow-mono {i = s} {j = 4} hs)) ∙ Nat.mul-one top)
 
-  pub block-turn : (t₀ t t′ : List ℕ) (k s m e e′ : ℕ) → Blocking G t₀ t k s m e → Filled t t′ (k * 16) m e m → e′ ≡ rem G D (e * 2)
-      → Blocking G t₀ t′ k (s + 1) (m * 2) e′
-  block-turn t₀ t t′ k s m e e′ p f h = record {
-    power = ap (λ (x : ℕ). x * 2) (p .power) ∙ sym (Nat.pow-suc 2 s) ∙ ap (λ (n : ℕ). 2 ^ n) (sym (add-one s));
-    base =
-        h ∙ ap (λ (x : ℕ). rem G D (x * 2)) (p .base) ∙ rem-shift G D d 1 (m * 2 ^ (4 * k) * 2 ^ D)
-        ∙ ap (rem G D) (Nat.mul-right-comm (m * 2 ^ (4 * k)) (2 ^ D) 2 ∙ ap (λ (x : ℕ). x * 2 ^ D) (Nat.mul-right-comm m (2 ^ (4 * k)) 2));
-    rows = λ b l.
-        below-add (λ (b : ℕ). row t′ (k * 16 + b) ≡ rem G D (b * 2 ^ (4 * k) * 2 ^ D)) m m
-        (λ b l. f .old (k * 16 + b) (omega arith) ∙ p .rows b l)
-        (λ i l.
-        ap (row t′) (sym (Nat.add-assoc (k * 16) m i)) ∙ f .fresh i l ∙ ap₂ xor (p .rows i l) (p .base)
-        ∙ rem-add2 G D d (4 * k) D i m ∙ ap (λ (x : ℕ). rem G D (x * 2 ^ (4 * k) * 2 ^ D)) (rw (p .power) (double s i (rw (← p .power) l))))
-        b (omega arith);
-    below = λ n l. f .old n (omega arith) ∙ p .below n l;
-  }
+  moved-is : s ≤ 4 → 2 ^ s ≤ n → xor (rowAt t (top * 12)) (y * 2 ^ s % 2 ^ D) ≡ rem G D (hex i * 2 ^ s * 2 ^ D)
+  unfolding row
+  moved-is hs hn =
+      ap (λ (z : ℕ). xor z (y * 2 ^ s % 2 ^ D)) (its-row hs hn) ∙ xor-comm (rem G D (top * 2 ^ D)) (y * 2 ^ s % 2 ^ D)
+      ∙ rem-top G D d top (y * 2 ^ s % 2 ^ D) (Nat.mod-lt (y * 2 ^ s) (pow-pos D)) ∙ ap (rem G D) (split (y * 2 ^ s) D)
+      ∙ ap (λ (z : ℕ). rem G D (z * 2 ^ s)) (R i h) ∙ rem-shift G D d s (hex i * 2 ^ D)
+      ∙ ap (rem G D) (Nat.mul-right-comm (hex i) (2 ^ D) (2 ^ s))
 
--- what `block` does
-pub record Block (G : ℕ) (t t′ : List ℕ) (k e : ℕ) : Type 0 where
-  pub rows : (b : ℕ) → b < 16 → row t′ (k * 16 + b) ≡ rem G D (b * 2 ^ (4 * k) * 2 ^ D)
-  pub below : (n : ℕ) → n < k * 16 → row t′ n ≡ row t n
-  pub further : e ≡ rem G D (2 ^ (4 * (k + 1)) * 2 ^ D)
+pub grown-move : (t t′ : List ℕ) (i s n x : ℕ) → i < n → s ≤ 4 → 2 ^ s ≤ n → hex n ≡ hex i * 2 ^ s
+    → x ≡ xor (rowAt t (rowAt t (i * 12) * 2 ^ s / 2 ^ D * 12)) (rowAt t (i * 12) * 2 ^ s % 2 ^ D)
+    → Put t t′ (n * 12) x → Grown t t′ n (n + 1)
+grown-move t t′ i s n x h hs hn e f p = grown-put t t′ n x p (λ G d R. rw e (f ∙ moved-is G d t n i s R h hs hn))
 
-pub block-done : (G : ℕ) (t₀ t₁ t : List ℕ) (k s m e : ℕ) → s ≡ 4 → Put t₀ t₁ (k * 192) 0 → Blocking G t₁ t k s m e → Block G t₀ t k e
-unfolding row
-block-done G t₀ t₁ t k s m e h put p =
-    let sixteen : m ≡ 16 = p .power ∙ ap (λ (n : ℕ). 2 ^ n) h in
-    record {
-      rows = λ b l. p .rows b (omega arith);
-      below = λ n l. p .below n l ∙ put .below (n * 12) (omega arith);
-      further = p .base ∙ ap (λ (x : ℕ). rem G D (x * 2 ^ D))
-          (ap (λ (x : ℕ). x * 2 ^ (4 * k)) sixteen ∙ sym (pow-add 2 4 (4 * k)) ∙ ap (λ (n : ℕ). 2 ^ n) (four k));
-    }
+-- the word before the row of a digit 1 is the last of a row of 0
+pub word-before : (t : List ℕ) (n i : ℕ) → Bounded 64 t → Begun t n → i < n → i % 16 ≡ 1 → getD t (i * 12 - 1) 0 ≡ 0
+unfolding row rowAt
+word-before t n i b B h e =
+    let k = i / 16 in
+    let at : 16 * k * 12 + 11 ≡ i * 12 - 1 = omega arith in
+    let l = drop (16 * k * 12) t in
+    let z : value 64 (take 12 l) ≡ 0 = B .rows (16 * k) (omega arith) ∙ rw (hex-zero k, zero-mul) (rem-zero (B .G) D) in
+    ap (λ (k : ℕ). getD t k 0) (sym at) ∙ sym (getD-drop (16 * k * 12) t 11 0) ∙ sym (getD-take 12 l 11 0 (omega arith))
+    ∙ sym (value-at 64 (take 12 l) (bounded-all 64 (take 12 l) (bounded-take 64 l (bounded-drop 64 t b (16 * k * 12)) 12)) 11)
+    ∙ ap (λ (x : ℕ). x / 2 ^ (64 * 11) % 2 ^ 64) z ∙ ap (λ (x : ℕ). x % 2 ^ 64) (Nat.zero-div (2 ^ (64 * 11)))
+
+-- ---- the digits that rows stand for
+pub record PowerOfTwo (m : ℕ) : Type 0 where
+  pub exponent : ℕ
+  pub is : m ≡ 2 ^ exponent
+
+pub few : (s m : ℕ) → m ≡ 2 ^ s → 1 ≤ s → s < 4 → (2 ≤ m) × (m ≤ 8)
+few s m e l h = rw e (pow-mono {i = 1} {j = s} l, pow-mono {i = s} {j = 3} (omega arith))
+
+pub next-power : (s m : ℕ) → m ≡ 2 ^ s → m * 2 ≡ 2 ^ (s + 1)
+next-power s m e = ap (λ (x : ℕ). x * 2) e ∙ sym (Nat.pow-suc 2 s) ∙ ap (λ (n : ℕ). 2 ^ n) (sym (add-one s))
+
+hex-sum-at : (k m b : ℕ) → m + b < 16 → xor b m ≡ m + b → hex (16 * k + m + b) ≡ xor (hex (16 * k + b)) (hex (16 * k + m))
+hex-sum-at k m b h e =
+    ap hex (Nat.add-assoc (16 * k) m b) ∙ hex-at k (m + b) h ∙ ap (λ (z : ℕ). z * 2 ^ (4 * k)) (sym e) ∙ xor-shl (4 * k) b m
+    ∙ sym (ap₂ xor (hex-at k b (omega arith)) (hex-at k m (omega arith)))
+
+pub hex-sum : (k m b : ℕ) → m ≤ 8 → b < m → PowerOfTwo m → hex (16 * k + m + b) ≡ xor (hex (16 * k + b)) (hex (16 * k + m))
+hex-sum k m b l h P = hex-sum-at k m b (omega arith) (rw (P .is) (double (P .exponent) b (rw (← P .is) h)))
   where
-    four : (k : ℕ) → 4 + 4 * k ≡ 4 * (k + 1)
-    four k = omega arith
+    double : (s b : ℕ) → b < 2 ^ s → xor b (2 ^ s) ≡ 2 ^ s + b
+    double s b h =
+        xor-comm b (2 ^ s) ∙ sym (ap (λ (x : ℕ). x + b) (sym (one-mul (2 ^ s))) ∙ join 1 s b h ∙ ap (λ (x : ℕ). xor x b) (one-mul (2 ^ s)))
 
--- ---- `build`: with k digits done
-pub record Built (G : ℕ) (t : List ℕ) (k e : ℕ) : Type 0 where
-  pub rows : (n : ℕ) → n < k * 16 → row t n ≡ rem G D (hex n * 2 ^ D)
-  pub base : e ≡ rem G D (2 ^ (4 * k) * 2 ^ D)
+hex-one : (k : ℕ) → hex (16 * k + 1) ≡ 2 ^ (4 * k)
+hex-one k = hex-at k 1 (omega arith) ∙ one-mul (2 ^ (4 * k))
 
-pub build-turn : (G : ℕ) (t t′ : List ℕ) (k e e′ : ℕ) → Built G t k e → Block G t t′ k e′ → Built G t′ (k + 1) e′
-build-turn G t t′ k e e′ p f = record {
-  rows = λ n l.
-      below-add (λ (n : ℕ). row t′ n ≡ rem G D (hex n * 2 ^ D)) (k * 16) 16
-      (λ n l. f .below n l ∙ p .rows n l)
-      (λ b l. f .rows b l ∙ ap (λ (x : ℕ). rem G D (x * 2 ^ D)) (sym (ap hex (ap (λ (x : ℕ). x + b) (mul-comm k 16)) ∙ hex-at k b l)))
-      n (omega arith);
-  base = f .further;
-}
+pub hex-move : (k m s : ℕ) → m ≡ 2 ^ s → m < 16 → hex (16 * k + m) ≡ hex (16 * k + 1) * 2 ^ s
+hex-move k m s e h = hex-at k m h ∙ ap (λ (z : ℕ). z * 2 ^ (4 * k)) e ∙ Nat.mul-comm (2 ^ s) (2 ^ (4 * k)) ∙ ap (λ (z : ℕ). z * 2 ^ s) (sym (hex-one k))
 
-pub build-done : (G : ℕ) (t : List ℕ) (k e : ℕ) → Deg G D → k ≡ 16 → Built G t k e → Table G t
-build-done G t k e d h p = record { deg = d; rows = λ n l. p .rows n (omega arith) }
+pub hex-next : (k : ℕ) → 1 ≤ k → hex (16 * k + 1) ≡ hex (16 * k - 15) * 2 ^ 4
+hex-next k h =
+    let e : 16 * (k - 1) + 1 ≡ 16 * k - 15 = omega arith in
+    let f : 4 * k ≡ 4 * (k - 1) + 4 = omega arith in
+    hex-one k ∙ ap (λ (n : ℕ). 2 ^ n) f ∙ pow-add 2 (4 * (k - 1)) 4 ∙ ap (λ (z : ℕ). z * 2 ^ 4) (sym (hex-one (k - 1)) ∙ ap hex e)
 
--- x^768 modulo G
-pub build-start : (G : ℕ) (t : List ℕ) (n : ℕ) → Deg G D → n ≡ xor (2 ^ D) G → Built G t 0 n
-build-start G t n d e = record {
-  rows = λ n l. absurd (Nat.not-suc-le-zero l);
-  base =
-      e ∙ sym (ap (rem G D) (one-mul (2 ^ D)) ∙ rem-of G D d (2 ^ D) 1 (xor (2 ^ D) G) (sym (rw (clmul-one-l G) (simp xors)))
-      (lt-of-shr D (xor-shr (2 ^ D) G D ∙ rw (Nat.div-self (pow-pos D), d) (xor-self 1))));
-}
+-- ---- the rows of 0 and 1 at place 0: x^768 modulo G is G without its highest coefficient
+pub rows-start : (t t₁ t₂ g : List ℕ) → Bounded 64 g → length g ≡ 13 → Deg (value 64 g) D → Put t t₁ 0 0 → Put t₁ t₂ 12 (value 64 (take 12 g))
+    → Rows (value 64 g) t₂ 2
+unfolding row
+rows-start t t₁ t₂ g b l d p q zero h = q .below 0 (omega arith) ∙ p .here ∙ sym (rw (hex-zero 0, zero-mul) (rem-zero (value 64 g) D))
+rows-start t t₁ t₂ g b l d p q (suc zero) h =
+    q .here ∙ sym (ap (λ (z : ℕ). rem (value 64 g) D (z * 2 ^ D)) (hex-one 0)
+    ∙ rem-of (value 64 g) D d (1 * 2 ^ D) 1 low (is ∙ ap (λ (z : ℕ). xor z low) (sym (clmul-one-l (value 64 g)))) (low-lt g b l))
+  where
+    low : ℕ
+    low = value 64 (take 12 g)
 
-pub one-at-D : value 64 (set (replicate 13 0) 12 1) ≡ 2 ^ D
-unfolding value D
-one-at-D = refl
+    top : getD g 12 0 ≡ 1
+    top = sym (Pow.high (getD g 12 0) D (low-lt g b l)) ∙ ap (λ (z : ℕ). z / 2 ^ D) (sym (by-top g l)) ∙ d
+
+    is : 1 * 2 ^ D ≡ xor (value 64 g) low
+    is = sym (ap (λ (z : ℕ). xor z low) (by-top g l ∙ ap (λ (z : ℕ). z * 2 ^ D + low) top ∙ join 1 D low (low-lt g b l)) ∙ simp xors)
+rows-start t t₁ t₂ g b l d p q (suc (suc i)) h = absurd (Nat.not-suc-le-zero (Nat.le-of-suc-le-suc (Nat.le-of-suc-le-suc h)))
+
+pub rows-done : (G : ℕ) (t : List ℕ) (k : ℕ) → Deg G D → k ≡ 16 → Rows G t (16 * k) → Table G t
+rows-done G t k d e R = record { deg = d; rows = λ n l. R n (omega arith) }

@@ -1,20 +1,26 @@
 -- Rows moved up and down, word by word.
 --   Shifted r₀ r l c i    i words of r₀ are moved up by l, which makes r, and c is carried on
+--   Moving r s n c v j    v is n with the first j words of r, moved up by s, added up to word j, and c is carried on
 use mathlib.Core.Path.{_≡_, refl, sym, ap, ap₂, _∙_}
 use mathlib.Core.List.{List}
 use Prim.Native.Nat.{ℕ, _+_, _-_, _*_, _/_, _%_, _^_, _≤_, _<_}
 use native.Mathlib.Nat.{mul-assoc, mul-comm, add-mul, add-comm, lt-of-lt-of-le, lt-of-le-of-lt, mod-eq-of-lt, div-one}
 use native.Mathlib.Nat as Nat
 use native.Mathlib.Omega.{arith}
-use lib.ListN.{length, getD, take, drop, set}
-use lib.Pow.{pow-pos, pow-add, pow-mono, shl-lt, shr-shr, shr-le}
+use lib.Arith.{digits-lt}
+use lib.Bits.{bitXor}
+use lib.ListN.{length, getD, take, drop, set, length-drop}
+use lib.Pow.{pow-pos, pow-add, pow-mono, shl-lt, shr-lt, shr-shr, shr-le, high, low, split}
+use lib.Seq.{getD-drop}
 use Rattle.polynomial.specs.Digits.{value, value-at}
 use Rattle.polynomial.specs.Division.{Deg}
+use Rattle.polynomial.specs.Xor.{xor, xor-is, xor-assoc, xor-comm, xor-zero-r}
 use Rattle.kernels.specs.Remainder.{deg-up}
 use Rattle.kernels.specs.Row.{D, pow-D, set-top, by-top, D-is}
-use Rattle.kernels.specs.Shift.{up-up}
-use Rattle.kernels.specs.Value.{drop-next, same-at, Bounded, value-nil, take-more, take-more-set, bounded-all, value-lt, drop-shr}
-use Rattle.kernels.specs.Word.{moved, word-up, word-sum, carry-lt, mod-mul-mod, window}
+use Rattle.kernels.specs.Shift.{join, up-down, up-up}
+use Rattle.kernels.specs.Table.{rowAt}
+use Rattle.kernels.specs.Value.{bounded-drop, drop-next, same-at, Bounded, value-nil, take-more, take-more-set, take-lt, set-xor, bounded-all, value-lt, drop-shr}
+use Rattle.kernels.specs.Word.{moved, word-up, word-up-lt, word-sum, carry-lt, mod-mul-mod, window}
 
 -- ---- up by 1 to 64 places, in place
 alg : (lo c c′ P B T w Q n : ℕ) → T + c * P ≡ n * Q → lo + c′ * B ≡ w * Q → (lo + c) * P + T + c′ * (P * B) ≡ (w * P + n) * Q
@@ -67,6 +73,96 @@ shift-done r₀ r l c i h₀ h z e s =
     let f : value 64 (take 12 r) + c * 2 ^ (64 * 12) ≡ value 64 (take 12 r₀) * 2 ^ l = rw e at (s .done) in
     set-top r c h ∙ Nat.add-comm (c * 2 ^ D) (value 64 (take 12 r)) ∙ ap (λ (x : ℕ). value 64 (take 12 r) + c * x) pow-D ∙ f
     ∙ rw (by-top r₀ h₀, z, Nat.zero-mul, Nat.zero-add) refl
+
+-- ---- up by s places, added into another row: after j words of r the j lowest of what is moved are added, and the rest is carried on
+abbrev up : List ℕ → ℕ → ℕ → ℕ
+up r s j = value 64 (take j r) * 2 ^ s
+
+pub record Moving (r : List ℕ) (s n c : ℕ) (v : List ℕ) (j : ℕ) : Type 0 where
+  pub carry : c ≡ up r s j / 2 ^ (64 * j)
+  pub sum : value 64 v ≡ xor n (up r s j % 2 ^ (64 * j))
+
+module _ (r : List ℕ) (s n c : ℕ) (v : List ℕ) (j : ℕ) (br : Bounded 64 r) (bv : Bounded 64 v) (h : s < 64) (lr : j < length r)
+    (lv : j < length v) (M : Moving r s n c v j) where
+  abbrev w : ℕ
+  w = getD r j 0
+
+  abbrev lo : ℕ
+  lo = w * 2 ^ s % 2 ^ 64
+
+  c-lt : c < 2 ^ s
+  c-lt = rw (M .carry) (shr-lt s (64 * j) (rw (add-comm s (64 * j)) (shl-lt (64 * j) s (take-lt 64 r br j (Nat.le-of-lt lr)))))
+
+  lo-lt : lo + c < 2 ^ 64
+  lo-lt = word-up-lt w s c (Nat.le-of-lt h) c-lt
+
+  -- what is added at word j, and below
+  abbrev part : ℕ
+  part = (lo + c) * 2 ^ (64 * j) + up r s j % 2 ^ (64 * j)
+
+  pow-more : 2 ^ (64 * (j + 1)) ≡ 2 ^ (64 * j) * 2 ^ 64
+  pow-more =
+      let f : 64 * (j + 1) ≡ 64 * j + 64 = omega arith in
+      ap (λ (k : ℕ). 2 ^ k) f ∙ pow-add 2 (64 * j) 64
+
+  part-lt : part < 2 ^ (64 * (j + 1))
+  part-lt = rw (pow-more, mul-comm (2 ^ (64 * j)) (2 ^ 64)) (digits-lt lo-lt (Nat.mod-lt (up r s j) (pow-pos (64 * j))))
+
+  whole : w / 2 ^ (64 - s) * 2 ^ (64 * (j + 1)) + part ≡ up r s (j + 1)
+  whole =
+      rw (pow-more, take-more 64 r j lr) (add-comm (w / 2 ^ (64 - s) * (2 ^ (64 * j) * 2 ^ 64)) part
+      ∙ rw (word-up w s (Nat.le-of-lt h)) (alg (w % 2 ^ (64 - s) * 2 ^ s) c (w / 2 ^ (64 - s)) (2 ^ (64 * j)) (2 ^ 64)
+      (up r s j % 2 ^ (64 * j)) w (2 ^ s) (value 64 (take j r))
+      (rw (M .carry) (add-comm (up r s j % 2 ^ (64 * j)) (up r s j / 2 ^ (64 * j) * 2 ^ (64 * j)) ∙ split (up r s j) (64 * j)))
+      (word-sum w s (64 - s) (omega arith))))
+
+  moving-turn : Moving r s n (w / 2 ^ (64 - s)) (set v j (bitXor (bitXor (getD v j 0) lo) c)) (j + 1)
+  moving-turn = record {
+    carry = sym (ap (λ (x : ℕ). x / 2 ^ (64 * (j + 1))) (sym whole) ∙ high (w / 2 ^ (64 - s)) (64 * (j + 1)) part-lt);
+    sum =
+        ap (λ (x : ℕ). value 64 (set v j x)) (xor-is _ c ∙ ap (λ (x : ℕ). xor x c) (xor-is (getD v j 0) lo) ∙ xor-assoc (getD v j 0) lo c
+        ∙ ap (xor (getD v j 0)) (sym both))
+        ∙ set-xor 64 v bv j (lo + c) lv lo-lt
+        ∙ ap (λ (x : ℕ). xor x ((lo + c) * 2 ^ (64 * j))) (M .sum) ∙ xor-assoc n _ _
+        ∙ ap (xor n) (xor-comm _ _ ∙ sym (join (lo + c) (64 * j) (up r s j % 2 ^ (64 * j)) (Nat.mod-lt (up r s j) (pow-pos (64 * j))))
+        ∙ sym (ap (λ (x : ℕ). x % 2 ^ (64 * (j + 1))) (sym whole) ∙ low (w / 2 ^ (64 - s)) (64 * (j + 1)) part-lt));
+  }
+    where
+      both : lo + c ≡ xor lo c
+      both = rw (word-up w s (Nat.le-of-lt h)) (join (w % 2 ^ (64 - s)) s c c-lt)
+
+-- the same for the row that stands at `at` in t: the word below is read off t
+pub row-moving-start : (t : List ℕ) (at s : ℕ) (v : List ℕ) → getD t (at - 1) 0 ≡ 0
+    → Moving (drop at t) s (value 64 v) (getD t (at + 0 - 1) 0 / 2 ^ (64 - s)) v 0
+row-moving-start t at s v z =
+    let e : at + 0 - 1 ≡ at - 1 = omega arith in
+    let y : up (drop at t) s 0 ≡ 0 = rw (value-nil 64) (Nat.zero-mul (2 ^ s)) in
+    record {
+      carry = rw (e, z, y) (Nat.zero-div (2 ^ (64 - s)) ∙ sym (Nat.zero-div (2 ^ (64 * 0))));
+      sum = sym (rw (y, Nat.zero-mod) (xor-zero-r (value 64 v)));
+    }
+
+pub row-moving-turn : (t : List ℕ) (at s n : ℕ) (v : List ℕ) (j : ℕ) → Bounded 64 t → Bounded 64 v → s < 64 → at + j < length t → j < length v
+    → Moving (drop at t) s n (getD t (at + j - 1) 0 / 2 ^ (64 - s)) v j
+    → Moving (drop at t) s n (getD t (at + (j + 1) - 1) 0 / 2 ^ (64 - s))
+    (set v j (bitXor (bitXor (getD v j 0) (getD t (at + j) 0 * 2 ^ s % 2 ^ 64)) (getD t (at + j - 1) 0 / 2 ^ (64 - s)))) (j + 1)
+row-moving-turn t at s n v j bt bv h lt lv M =
+    let e : at + (j + 1) - 1 ≡ at + j = omega arith in
+    rw (e, ← getD-drop at t j 0) (moving-turn (drop at t) s n _ v j (bounded-drop 64 t bt at) bv h (rw (length-drop at t) (omega arith)) lv M)
+
+pub row-moved-done : (t : List ℕ) (at s n c : ℕ) (v : List ℕ) (j : ℕ) → j ≡ 12 → Moving (drop at t) s n c v j
+    → value 64 v ≡ xor n (rowAt t at * 2 ^ s % 2 ^ D)
+unfolding rowAt
+row-moved-done t at s n c v j e M = rw pow-D (rw e at (M .sum))
+
+-- what passes the 12th word
+pub moved-top : (r : List ℕ) (s : ℕ) → Bounded 64 r → 12 ≤ length r → s ≤ 64 → getD r 11 0 / 2 ^ (64 - s) ≡ value 64 (take 12 r) * 2 ^ s / 2 ^ D
+moved-top r s b l h =
+    let e : 64 * 11 + (64 - s) ≡ 64 * 12 - s = omega arith in
+    sym (rw pow-D (up-down (value 64 (take 12 r)) s (64 * 12) (omega arith)) ∙ ap (λ (k : ℕ). value 64 (take 12 r) / 2 ^ k) (sym e)
+    ∙ sym (shr-shr (value 64 (take 12 r)) (64 * 11) (64 - s))
+    ∙ ap (λ (x : ℕ). x / 2 ^ (64 - s)) (ap (λ (x : ℕ). x / 2 ^ (64 * 11)) (take-more 64 r 11 (omega arith))
+    ∙ high (getD r 11 0) (64 * 11) (take-lt 64 r b 11 (omega arith))))
 
 -- ---- by any number of places
 -- the 64 coefficients from x^pos on lie in two words

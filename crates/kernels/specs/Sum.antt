@@ -24,6 +24,18 @@ add-turn k n r A j hr ha lr la e =
     ap (λ (x : ℕ). value k (set r j x)) (xor-is (getD r j 0) (getD A j 0))
     ∙ set-xor k r hr j (getD A j 0) lr (ha j) ∙ rw (take-xor k A ha j la, e) (simp xors)
 
+-- ---- one row, added word by word
+pub row-turn : (t : List ℕ) (at n : ℕ) (v : List ℕ) (j : ℕ) → Bounded 64 v → Bounded 64 t → j < length v → at + j < length t
+    → value 64 v ≡ xor n (value 64 (take j (drop at t)))
+    → value 64 (set v j (bitXor (getD v j 0) (getD t (at + j) 0))) ≡ xor n (value 64 (take (j + 1) (drop at t)))
+row-turn t at n v j hv ht lv la e =
+    ap (λ (x : ℕ). value 64 (set v j (bitXor (getD v j 0) x))) (sym (getD-drop at t j 0))
+    ∙ add-turn 64 n v (drop at t) j hv (bounded-drop 64 t ht at) lv (rw (length-drop at t) (omega arith)) e
+
+pub row-done : (t : List ℕ) (at n m j : ℕ) → j ≡ 12 → m ≡ xor n (value 64 (take j (drop at t))) → m ≡ xor n (rowAt t at)
+unfolding rowAt
+row-done t at n m j h s = rw h at s
+
 -- ---- four rows, added word by word
 unfoldable pub rows-of : List ℕ → ℕ → ℕ → ℕ → ℕ → ℕ → ℕ
 rows-of t a b c e j =

@@ -1,22 +1,21 @@
 -- The quotient of two rows, a coefficient a step. f is divided by g, of degree w; A and G are f and g moved up to degree 768, D.
 --   Stepped G q r q′ r′     one step takes the quotient q and the rest r to q′ and r′: r′ is the rest of r · x
 --   Dividing G A j q r      after j steps q and r are quotient and rest of A · x^j
-use mathlib.Core.Path.{_≡_, refl, sym, ap, _∙_}
+use mathlib.Core.Path.{_≡_, sym, ap, _∙_}
 use mathlib.Core.Logic.{_⊎_, inl, inr}
 use mathlib.Core.List.{List}
 use Prim.Native.Nat.{ℕ, _+_, _-_, _*_, _/_, _^_, _≤_, _<_}
 use native.Mathlib.Nat as Nat
 use native.Mathlib.Omega.{arith}
 use lib.ListN.{length, getD}
-use lib.Pow.{pow-add, pow-mono, pow-pos}
+use lib.Pow.{high, pow-add, pow-mono, pow-pos}
 use Rattle.polynomial.specs.Clmul.{clmul, clmul-dbl-l, clmul-one-l, clmul-pow, clmul-left-comm, clmul-xor-l}
 use Rattle.polynomial.specs.Digits.{value}
 use Rattle.polynomial.specs.Division.{Deg, deg, deg-is, deg-mul, lt-of-shr, quot, quot-is, rem, rem-lt, unique, xor-shr}
 use Rattle.polynomial.specs.Multiple.{deg-pos}
 use Rattle.polynomial.specs.Xor.{xor, xors, xor-dbl, xor-eq-zero, xor-half, xor-self, xor-zero-r, dbl-half}
-use Rattle.kernels.specs.Build.{times-high, times-low}
 use Rattle.kernels.specs.Remainder.{deg-up}
-use Rattle.kernels.specs.Row.{D, D-is}
+use Rattle.kernels.specs.Row.{D, D-is, by-top, low-lt}
 use Rattle.kernels.specs.Shift.{xor-shl}
 use Rattle.kernels.specs.Value.{Bounded}
 
@@ -52,9 +51,19 @@ pub record Stepped (G q r q′ r′ : ℕ) : Type 0 where
   pub same : xor (clmul q′ G) r′ ≡ xor (clmul q G) r * 2
 
 module _ (G : ℕ) (d : Deg G D) (e : List ℕ) (r : ℕ) (b : Bounded 64 e) (l : length e ≡ 13) (h : value 64 e ≡ r * 2 ^ 1) where
+  -- the 13th word is what stands from x^768 on
+  top : value 64 e / 2 ^ D ≡ getD e 12 0
+  top = ap (λ (x : ℕ). x / 2 ^ D) (by-top e l) ∙ high (getD e 12 0) D (low-lt e b l)
+
+  one : r < 2 ^ D → (getD e 12 0 ≡ 0 → ⊥) → value 64 e / 2 ^ D ≡ 1
+  one s z =
+      let small : r * 2 / 2 ^ D < 2 = Nat.div-lt-iff-lt-mul (pow-pos D) .1 (omega arith) in
+      let w : getD e 12 0 ≡ 0 → ⊥ = z in
+      omega (arith, top, rw (← h) at small)
+
   pub step-low : (q q′ : ℕ) → q′ ≡ q * 2 ^ 1 → getD e 12 0 ≡ 0 → Stepped G q r q′ (value 64 e)
   step-low q q′ f z = record {
-    low = rw (times-low G d e r b l h z) (rem-lt G D d (r * 2));
+    low = lt-of-shr D (top ∙ z);
     half = ap (λ (x : ℕ). x / 2) f ∙ dbl-half q;
     same = rw (f, h) (simp (clmul-dbl-l, xor-dbl));
   }
@@ -62,7 +71,7 @@ module _ (G : ℕ) (d : Deg G D) (e : List ℕ) (r : ℕ) (b : Bounded 64 e) (l 
   pub step-high : (q q₁ q′ r′ : ℕ) → q₁ ≡ q * 2 ^ 1 → q′ ≡ xor q₁ (1 * 2 ^ 0) → r′ ≡ xor (value 64 e) G → r < 2 ^ D → (getD e 12 0 ≡ 0 → ⊥)
       → Stepped G q r q′ r′
   step-high q q₁ q′ r′ f f′ g s z = record {
-    low = rw (g, times-high G d e r G b l h s z refl) (rem-lt G D d (r * 2));
+    low = rw g (lt-of-shr D (xor-shr (value 64 e) G D ∙ rw (one s z, d) (xor-self 1)));
     half = ap (λ (x : ℕ). x / 2) f′ ∙ xor-half q₁ 1 ∙ rw f (rw (dbl-half q) (xor-zero-r q));
     same = rw (f′, f, g, h) (simp (clmul-xor-l, clmul-one-l, clmul-dbl-l, ← xor-dbl, xors));
   }

@@ -1,45 +1,71 @@
--- The loop: the rows of k digits are there.
-use mathlib.Core.Path.{_≡_, sym, ap, _∙_}
-use Prim.Native.Nat.{ℕ, _-_, _≤_}
+-- The loop: the rows of k places are there.
+use mathlib.Core.Path.{_≡_, sym, _∙_, subst}
+use mathlib.Core.List.{List}
+use Prim.Native.Nat.{ℕ, _+_, _-_, _*_, _≤_}
 use native.Mathlib.Omega.{arith}
-use lib.ListN.{length}
-use borrow.Author.Needs.{needs}
+use lib.ListN.{length, take}
+use lib.Seq.{length-take-le}
 use Rattle.polynomial.specs.Digits.{value}
-use Rattle.polynomial.specs.Xor.{xor}
-use Rattle.kernels.specs.Build.{Built, build-done, build-start, build-turn, one-at-D}
+use Rattle.kernels.specs.Build.{Rows, rows-done, rows-start}
+use borrow.Author.Needs.{needs}
 use Rattle.kernels.proofs.table.build.Statement.{statement}
 use Rattle.kernels.proofs.table.build.Tie as tie
+use Rattle.kernels.proofs.table.clear_row.Reads as clear-row-reads
+use Rattle.kernels.proofs.table.fill_place.Reads as fill-place-reads
+use Rattle.kernels.proofs.table.place.Reads as place-reads
+use Rattle.kernels.proofs.table.put_row.Reads as put-row-reads
 
 abbrev Inv-loop : tie.InvT-loop
-Inv-loop t₀ g e₀ k₀ t e k = (k ≤ 16) × (length t ≡ 3072) × (length e ≡ 13) × Built (value 64 g) t k (value 64 e)
+Inv-loop t₀ g k₀ t k = (1 ≤ k) × (k ≤ 16) × (length t ≡ 3072) × Rows (value 64 g) t (16 * k)
 
 abbrev μ-loop : tie.MeasureT-loop
-μ-loop t₀ g e₀ k₀ t e k = 16 - k
+μ-loop t₀ g k₀ t k = 16 - k
 
-array-write-e : tie.Need-array-write-e Inv-loop μ-loop
-array-write-e c = search needs
+-- the lower 12 words of 13
+twelve : (g : List ℕ) → length g ≡ 13 → length (take 12 g) ≡ 12
+twelve g e = length-take-le 12 g (omega arith)
 
-slice-aggregate-add : tie.Need-slice-aggregate-add Inv-loop μ-loop
-slice-aggregate-add c = search needs
+clear-row-requires : tie.Need-clear-row-requires Inv-loop μ-loop
+clear-row-requires c κs = search needs
 
-add-requires : tie.Need-add-requires Inv-loop μ-loop
-add-requires c κs = search needs
+slice-aggregate-put-row : tie.Need-slice-aggregate-put-row Inv-loop μ-loop
+slice-aggregate-put-row c = let s = c .before .before .before .before .before .before .before .before in sym (twelve (s .args .g .now) (s .pre .1))
+
+put-row-requires : tie.Need-put-row-requires Inv-loop μ-loop
+put-row-requires c κs = let s = c .before .before .before .before .before .before .before .before in (c .before .before .before .before .clear-row .kept .0 ∙ s .pre .0, twelve (s .args .g .now) (s .pre .1), omega arith)
+
+fill-place-requires : tie.Need-fill-place-requires Inv-loop μ-loop
+fill-place-requires c κs =
+    let s = c .before .before .before .before .before .before .before .before .before .before .before .before in
+    let q = c .before .before .before .before .before .before .before .before .clear-row in
+    let r = c .before .before .before .put-row in (
+      record {
+        words = r .kept .0 ∙ q .kept .0 ∙ s .pre .0;
+        G = value 64 (s .args .g .now);
+        deg = s .pre .2;
+        rows = rows-start (s .args .t .now) (q .last .0) (r .last .0) (s .args .g .now) (λ k. c .before .before .before .before .before .before .before .before .before .before .shared-slice-known .given k .fits) (s .pre .1) (s .pre .2) (q .ensures) (r .ensures);
+      },
+      omega arith,
+    )
 
 loop-holds : tie.Need-loop-holds Inv-loop μ-loop
 loop-holds c =
-    let s = c .before .before .before .before .before in (
+    let s = c .before .before .before .before .before .before .before .before .before .before .before .before .before .before .before in
+    let q = c .before .before .before .before .before .before .before .before .before .before .before .clear-row in
+    let r = c .before .before .before .before .before .before .put-row in
+    let x = c .before .before .fill-place in (
       omega arith,
-      s .pre .0,
-      c .before .add .kept .0,
-      build-start (value 64 (s .args .g .now)) (s .args .t .now) (value 64 (c .before .add .last .0)) (s .pre .2)
-          (c .before .add .ensures ∙ ap (λ (x : ℕ). xor x (value 64 (s .args .g .now))) one-at-D),
+      omega arith,
+      x .kept .0 ∙ r .kept .0 ∙ q .kept .0 ∙ s .pre .0,
+      x .ensures .grow (value 64 (s .args .g .now)) (s .pre .2)
+          (rows-start (s .args .t .now) (q .last .0) (r .last .0) (s .args .g .now) (λ k. c .before .before .before .before .before .before .before .before .before .before .before .before .before .shared-slice-known .given k .fits) (s .pre .1) (s .pre .2) (q .ensures) (r .ensures)),
     )
 
-slice-aggregate-block : tie.Need-slice-aggregate-block Inv-loop μ-loop
-slice-aggregate-block c = sym (c .before .before .before .loop .inv .2)
-
-block-requires : tie.Need-block-requires Inv-loop μ-loop
-block-requires c κs = let s = c .before .before .before .before .before .before .before .before .before in let l = c .before .before .before .loop in (l .inv .1, l .inv .2, s .pre .1, omega arith, s .pre .2, l .inv .3 .base)
+place-requires : tie.Need-place-requires Inv-loop μ-loop
+place-requires c κs =
+    let s = c .before .before .before .before .before .before .before .before .before .before .before .before .before .before .before .before .before .before in
+    let l = c .before .before .loop in
+    (record { words = l .inv .2; G = value 64 (s .args .g .now); deg = s .pre .2; rows = l .inv .3 }, l .inv .0, omega arith)
 
 add-k : tie.Need-add-k Inv-loop μ-loop
 add-k c = search needs
@@ -49,22 +75,20 @@ loop-less c = search needs
 
 loop-again : tie.Need-loop-again Inv-loop μ-loop
 loop-again c =
-    let s = c .before .before .before .before .before .before .before .before .before .before .before .before .before in
-    let l = c .before .before .before .before .before .before .before .loop in (
-      omega arith,
-      c .before .before .before .block .kept .0 ∙ l .inv .1,
-      c .before .before .before .block .kept .1 .0 ∙ l .inv .2,
-      build-turn (value 64 (s .args .g .now)) (l .t) (c .before .before .before .block .last .0) (l .k) (value 64 (l .e)) (value 64 (c .before .before .before .block .last .1 .0)) (l .inv .3) (c .before .before .before .block .ensures),
-    )
+    let s = c .before .before .before .before .before .before .before .before .before .before .before .before .before .before .before .before .before .before .before .before .before in
+    let l = c .before .before .before .before .before .loop in
+    let x = c .before .before .place in
+    let e : 16 * l .k + 16 ≡ 16 * (l .k + 1) = omega arith in
+    (omega arith, omega arith, x .kept .0 ∙ l .inv .2, subst (Rows (value 64 (s .args .g .now)) (x .last .0)) e (x .ensures .grow (value 64 (s .args .g .now)) (s .pre .2) (l .inv .3)))
 
 same-length : tie.Need-same-length Inv-loop μ-loop
 same-length c = search needs
 
 returns : tie.Need-returns Inv-loop μ-loop
 returns c =
-    let s = c .before .before .before .before .before .before .before in
+    let s = c .before .before .before .before .before .before .before .before .before .before .before .before .before .before .before .before .before in
     let l = c .before .loop in
-    build-done (value 64 (s .args .g .now)) (l .t) (l .k) (value 64 (l .e)) (s .pre .2) (omega arith) (l .inv .3)
+    rows-done (value 64 (s .args .g .now)) (l .t) (l .k) (s .pre .2) (omega arith) (l .inv .3)
 
 pub build-spec : {M : Type 1} → statement M
 build-spec =
@@ -72,12 +96,12 @@ build-spec =
     (tie.spec
     Inv-loop
     μ-loop
-    array-write-e
-    slice-aggregate-add
-    add-requires
+    clear-row-requires
+    slice-aggregate-put-row
+    put-row-requires
+    fill-place-requires
     loop-holds
-    slice-aggregate-block
-    block-requires
+    place-requires
     add-k
     loop-less
     loop-again

@@ -1,45 +1,55 @@
--- The loop: b of the m rows are there.
-use mathlib.Core.Path.{_≡_, _∙_}
-use Prim.Native.Nat.{_-_, _≤_}
+-- The loop: the rows of the digits up to m + b - 1 are there.
+use mathlib.Core.Path.{_≡_, _∙_, subst}
+use Prim.Native.Nat.{_+_, _-_, _*_, _≤_}
+use native.Mathlib.Nat as Nat
 use native.Mathlib.Omega.{arith}
 use lib.ListN.{length}
+use Rattle.kernels.specs.Build.{Grown, begun-on, grown-on, grown-start, hex-sum}
 use borrow.Author.Needs.{needs}
-use Rattle.polynomial.specs.Digits.{value}
-use Rattle.kernels.specs.Build.{Filled, fill-start, fill-turn}
-use Rattle.kernels.specs.Row.{top-zero}
-use Rattle.kernels.specs.Value.{Bounded}
 use Rattle.kernels.proofs.table.fill.Statement.{statement}
 use Rattle.kernels.proofs.table.fill.Tie as tie
+use Rattle.kernels.proofs.table.sum_row.Reads as sum-row-reads
 
 abbrev Inv-loop : tie.InvT-loop
-Inv-loop t₀ e base m b₀ t b = (b ≤ m) × (length t ≡ 3072) × Filled t₀ t base m (value 64 e) b
+Inv-loop t₀ k m b₀ t b = (1 ≤ b) × (b ≤ m) × (length t ≡ 3072) × Grown t₀ t (16 * k + m + 1) (16 * k + m + b)
 
 abbrev μ-loop : tie.MeasureT-loop
-μ-loop t₀ e base m b₀ t b = m - b
+μ-loop t₀ k m b₀ t b = m - b
 
 loop-holds : tie.Need-loop-holds Inv-loop μ-loop
-loop-holds c = (omega arith, c .before .before .pre .0, fill-start _ _ _ _)
+loop-holds c = let s = c .before in (omega arith, s .pre .2, s .pre .0 .words, grown-start (s .args .t .now) (16 * s .args .k + s .args .m + 1))
 
-add-put-row : tie.Need-add-put-row Inv-loop μ-loop
-add-put-row c = search needs
+mul-sum-row : tie.Need-mul-sum-row Inv-loop μ-loop
+mul-sum-row c = search needs
 
-mul-put-row : tie.Need-mul-put-row Inv-loop μ-loop
-mul-put-row c = search needs
+add-sum-row : tie.Need-add-sum-row Inv-loop μ-loop
+add-sum-row c = search needs
 
-add-put-row-2 : tie.Need-add-put-row-2 Inv-loop μ-loop
-add-put-row-2 c = search needs
+mul-sum-row-2 : tie.Need-mul-sum-row-2 Inv-loop μ-loop
+mul-sum-row-2 c = search needs
 
-add-put-row-3 : tie.Need-add-put-row-3 Inv-loop μ-loop
-add-put-row-3 c = search needs
+add-sum-row-2 : tie.Need-add-sum-row-2 Inv-loop μ-loop
+add-sum-row-2 c = search needs
 
-mul-put-row-2 : tie.Need-mul-put-row-2 Inv-loop μ-loop
-mul-put-row-2 c = search needs
+mul-sum-row-3 : tie.Need-mul-sum-row-3 Inv-loop μ-loop
+mul-sum-row-3 c = search needs
 
-put-row-requires : tie.Need-put-row-requires Inv-loop μ-loop
-put-row-requires c κs =
-    let s = c .before .before .before .before .before in
-    let b : Bounded 64 (s .args .e .now) = λ k. c .before .before .before .shared-slice-known .given k .fits in
-    (c .before .before .loop .inv .1, s .pre .1, top-zero (s .args .e .now) b (s .pre .1) (s .pre .2), omega arith, omega arith)
+add-sum-row-3 : tie.Need-add-sum-row-3 Inv-loop μ-loop
+add-sum-row-3 c = search needs
+
+add-sum-row-4 : tie.Need-add-sum-row-4 Inv-loop μ-loop
+add-sum-row-4 c = search needs
+
+sum-row-requires : tie.Need-sum-row-requires Inv-loop μ-loop
+sum-row-requires c κs =
+    let s = c .before .before .before .before in
+    let l = c .before .before .loop in (
+      begun-on (s .args .t .now) (l .t) _ _ (s .pre .0) (l .inv .2) (l .inv .3),
+      omega arith,
+      omega arith,
+      omega arith,
+      hex-sum (s .args .k) (s .args .m) (l .b) (s .pre .3) (omega arith) (s .pre .4),
+    )
 
 add-b : tie.Need-add-b Inv-loop μ-loop
 add-b c = search needs
@@ -49,11 +59,14 @@ loop-less c = search needs
 
 loop-again : tie.Need-loop-again Inv-loop μ-loop
 loop-again c =
+    let s = c .before .before .before .before .before .before .before in
     let l = c .before .before .before .before .before .loop in
-    let a = c .before .before .before .before .before .before .before .before .args in (
+    let q = c .before .before .sum-row in (
       omega arith,
-      c .before .before .put-row .kept .0 ∙ l .inv .1,
-      fill-turn (a .t .now) (l .t) (c .before .before .put-row .last .0) (a .base) (a .m) (value 64 (a .e .now)) (l .b) (c .before .before .before .before .loop-test .taken) (l .inv .2) (c .before .before .put-row .ensures),
+      omega arith,
+      q .kept .0 ∙ l .inv .2,
+      grown-on (s .args .t .now) (l .t) (q .last .0) _ _ _ (l .inv .3)
+          (subst (Grown (l .t) (q .last .0) (16 * s .args .k + s .args .m + l .b)) (Nat.add-assoc (16 * s .args .k + s .args .m) (l .b) 1) (q .ensures)),
     )
 
 same-length : tie.Need-same-length Inv-loop μ-loop
@@ -61,8 +74,10 @@ same-length c = search needs
 
 returns : tie.Need-returns Inv-loop μ-loop
 returns c =
-    let e : c .before .loop .b ≡ c .before .before .before .before .args .m = omega arith in
-    rw e at (c .before .loop .inv .2)
+    let s = c .before .before .before in
+    let l = c .before .loop in
+    let e : l .b ≡ s .args .m = omega arith in
+    rw e at (l .inv .3)
 
 pub fill-spec : {M : Type 1} → statement M
 fill-spec =
@@ -71,12 +86,14 @@ fill-spec =
     Inv-loop
     μ-loop
     loop-holds
-    add-put-row
-    mul-put-row
-    add-put-row-2
-    add-put-row-3
-    mul-put-row-2
-    put-row-requires
+    mul-sum-row
+    add-sum-row
+    mul-sum-row-2
+    add-sum-row-2
+    mul-sum-row-3
+    add-sum-row-3
+    add-sum-row-4
+    sum-row-requires
     add-b
     loop-less
     loop-again
