@@ -109,10 +109,6 @@ low-top x u l p h z =
     (ap (λ (n : ℕ). u * 2 ^ n) (sym e) ∙ ap (λ (n : ℕ). u * n) (pow-add 2 (D - p) p) ∙ sym (Nat.mul-assoc u (2 ^ (D - p)) (2 ^ p)))
     ∙ low-fed x (u * 2 ^ (D - p)) l p z
 
--- fed to a register of 0
-pub from-zero : (t : List ℕ) (n k y r : ℕ) → n ≡ 0 → Reduced t (xor (n * 2 ^ k) y) r → Reduced t y r
-from-zero t n k y r z q = rw (z, Nat.zero-mul (2 ^ k), xor-zero-l y) at q
-
 -- ---- words added from the lowest on
 pub low-turn : (r : List ℕ) (n x j i k v : ℕ) → Bounded 64 r → j < length r → i ≤ 64 → i + 64 * j ≡ k → v ≡ x / 2 ^ (64 * j) % 2 ^ i
     → value 64 r ≡ xor n (x % 2 ^ (64 * j)) → value 64 (set r j (bitXor (getD r j 0) v)) ≡ xor n (x % 2 ^ k)

@@ -16,10 +16,6 @@ module _ (g k : ℕ) (d : Deg g k) where
       sym (ap (rem g k) (join top k low h) ∙ rem-xor g k d (top * 2 ^ k) low
       ∙ rw (rem-small g k d low h) (xor-comm (rem g k (top * 2 ^ k)) low))
 
-  -- of the degree of g: g is taken away once
-  pub rem-same : (f : ℕ) → Deg f k → rem g k f ≡ xor f g
-  rem-same f e = rem-of g k d f 1 (xor f g) (sym (simp (clmul-one-l, xors))) (lt-of-shr k (xor-shr f g k ∙ rw (e, d) (xor-self 1)))
-
   -- a remainder moved up
   pub rem-shift : (l f : ℕ) → rem g k (rem g k f * 2 ^ l) ≡ rem g k (f * 2 ^ l)
   rem-shift l f = ap (rem g k) (sym (clmul-pow l (rem g k f))) ∙ rem-clmul-r g k d (2 ^ l) f ∙ ap (rem g k) (clmul-pow l f)

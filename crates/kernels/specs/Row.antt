@@ -2,11 +2,10 @@
 --   D    768, the degree to which generators are moved up; shut, since a number of 2 ^ 768's size stops `omega`
 use mathlib.Core.Path.{_≡_, refl, sym, ap, _∙_}
 use mathlib.Core.List.{List}
-use Prim.Native.Nat.{ℕ, _+_, _*_, _/_, _^_, _<_}
+use Prim.Native.Nat.{ℕ, zero, suc, _+_, _*_, _^_, _<_}
 use native.Mathlib.Nat as Nat
 use native.Mathlib.Omega.{arith}
 use lib.ListN.{length, getD, take, set, length-set}
-use lib.Pow.{high}
 use lib.Seq.{take-all}
 use Rattle.polynomial.specs.Digits.{value}
 use Rattle.kernels.specs.Value.{Bounded, take-more, take-more-set, take-lt}
@@ -34,5 +33,9 @@ by-top r h =
 pub low-lt : (r : List ℕ) → Bounded 64 r → length r ≡ 13 → value 64 (take 12 r) < 2 ^ D
 low-lt r d h = rw pow-D (take-lt 64 r d 12 (omega arith))
 
-pub top-zero : (r : List ℕ) → Bounded 64 r → length r ≡ 13 → value 64 r < 2 ^ D → getD r 12 0 ≡ 0
-top-zero r d h s = sym (high (getD r 12 0) D (low-lt r d h)) ∙ ap (λ (x : ℕ). x / 2 ^ D) (sym (by-top r h)) ∙ Nat.div-eq-of-lt s
+pub top-zero : (r : List ℕ) → length r ≡ 13 → value 64 r < 2 ^ D → getD r 12 0 ≡ 0
+top-zero r h s = none (getD r 12 0) (2 ^ D) (value 64 (take 12 r)) (rw (by-top r h) at s)
+  where
+    none : (x P y : ℕ) → x * P + y < P → x ≡ 0
+    none zero P y h = refl
+    none (suc k) P y h = absurd (Nat.not-suc-le-zero {n = 0} (omega (arith, Nat.suc-mul k P, h)))

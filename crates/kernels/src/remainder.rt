@@ -141,7 +141,7 @@ fn step_whole(r: &mut [u64], t: &[u64], u: u64, p: usize)
     step_word(r, t, u, 6);
 }
 
-// A step by l places, fewer than 64, that enters at x^768: u is added below, and moved up with the register.
+// A step by l places that enters at x^768: u is added below, and moved up with the register.
 fn step_part(r: &mut [u64], t: &[u64], u: u64, l: usize, p: usize)
     requires { ⌜ Stepping (now r) (now t) p × (1 ≤ l) × (l ≤ 64) × (u < 2 ^ l) ⌝ }
     ensures { λ x. ⌜ Reduced (now (t .entry)) (xor (value 64 (now (r .entry)) * 2 ^ l) (u * 2 ^ D)) (value 64 (now (r .exit))) ⌝ }
@@ -155,34 +155,43 @@ fn step_part(r: &mut [u64], t: &[u64], u: u64, l: usize, p: usize)
     reduce(r, t, 6);
 }
 
-// One step at x^768: the register is moved up by l places, u is added from x^768 on, and what stands there is reduced.
-fn step_top(r: &mut [u64], t: &[u64], u: u64, l: usize, p: usize)
-    requires { ⌜ Stepping (now r) (now t) p × (1 ≤ l) × (l ≤ 64) × (u < 2 ^ l) ⌝ }
-    ensures { λ x. ⌜ Reduced (now (t .entry)) (xor (value 64 (now (r .entry)) * 2 ^ l) (u * 2 ^ D)) (value 64 (now (r .exit))) ⌝ }
+// The coefficients of s from x^w on, below x^n, are fed to a register of 0 at x^768 in whole words, as far as these reach: down to the
+// place that is handed back. The register is kept aside, where the compiler can hold it from step to step.
+fn feed_words(r: &mut [u64], t: &[u64], s: &[u8], n: usize, w: usize, p: usize) -> usize
+    requires { ⌜ (length (now r) ≡ 13) × (length (now t) ≡ 3072) × (p < 768) × (value 64 (now r) ≡ 0) × (w ≤ n) × (n < 1000000)
+        × MovedUp (now t) p ⌝ }
+    ensures { λ q. ⌜ (w ≤ q) × (q ≤ n) × (q < w + 64)
+        × Reduced (now (t .entry)) (value 8 (now (s .entry)) % 2 ^ n / 2 ^ q * 2 ^ D) (value 64 (now (r .exit))) ⌝ }
 {
-    if l == 64 {
-        step_whole(r, t, u, p);
-        return;
+    let mut v = [0u64; 13];
+    let mut q = n;
+    while w + 64 <= q {
+        q -= 64;
+        let u = bits(s, q, 64);
+        step_whole(&mut v, t, u, p);
     }
-    step_part(r, t, u, l, p);
+    copy(r, &v, 0);
+    q
 }
 
-// The coefficients of s from x^w on, below x^n, are fed to a register of 0 at x^768, l at a time,
-// the short chunk last. l is not in the result.
+// The same l at a time, the short chunk last. l is not in the result.
 fn feed_top(r: &mut [u64], t: &[u64], s: &[u8], n: usize, w: usize, l: usize, p: usize)
     requires { ⌜ (length (now r) ≡ 13) × (length (now t) ≡ 3072) × (1 ≤ l) × (l ≤ 64) × (p < 768) × (value 64 (now r) ≡ 0) × (w ≤ n)
         × (n < 1000000) × MovedUp (now t) p ⌝ }
     ensures { λ x. ⌜ Reduced (now (t .entry)) (value 8 (now (s .entry)) % 2 ^ n / 2 ^ w * 2 ^ D) (value 64 (now (r .exit))) ⌝ }
 {
     let mut pos = n;
+    if l == 64 {
+        pos = feed_words(r, t, s, n, w, p);
+    }
     while w + l <= pos {
         pos = pos - l;
         let u = bits(s, pos, l);
-        step_top(r, t, u, l, p);
+        step_part(r, t, u, l, p);
     }
     if w < pos {
         let u = bits(s, w, pos - w);
-        step_top(r, t, u, pos - w, p);
+        step_part(r, t, u, pos - w, p);
     }
 }
 

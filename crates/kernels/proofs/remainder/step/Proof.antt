@@ -14,7 +14,7 @@ use Rattle.kernels.proofs.remainder.step.Tie as tie
 shift-requires : tie.Need-shift-requires
 shift-requires c κs =
     let s = c .before .before .before in
-    (s .pre .0 .words, s .pre .1, s .pre .2, top-zero (s .args .r .now) (λ k. c .before .before .slice-known .given k .fits) (s .pre .0 .words) (s .pre .0 .small))
+    (s .pre .0 .words, s .pre .1, s .pre .2, top-zero (s .args .r .now) (s .pre .0 .words) (s .pre .0 .small))
 
 insert-requires : tie.Need-insert-requires
 insert-requires c κs = search needs

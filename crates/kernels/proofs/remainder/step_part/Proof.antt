@@ -42,7 +42,7 @@ shift-requires c κs =
     let i = c .before .before .before in
     let s = i .before .before .before .before in
     let k = i .insert .kept .0 ∙ s .pre .0 .words in
-    (k, s .pre .1, s .pre .2, top-zero (i .insert .last .0) (λ j. c .before .slice-known2 .given j .fits) k (rw (i .insert .ensures) (part-lt _ (s .args .u) (s .args .l) (s .pre .0 .small) (s .pre .3) (s .pre .2))))
+    (k, s .pre .1, s .pre .2, top-zero (i .insert .last .0) k (rw (i .insert .ensures) (part-lt _ (s .args .u) (s .args .l) (s .pre .0 .small) (s .pre .3) (s .pre .2))))
 
 reduce-requires : tie.Need-reduce-requires
 reduce-requires c κs =

@@ -51,7 +51,7 @@ returns c =
     let s = g .before in
     let b : Bounded 64 (s .args .r .now) = λ j. g .slice-known .given j .fits in
     word-step (s .args .t .now) (s .args .r .now) (k .copy-next .last .0) (n .add-top .last .0) (o .copy .last .0) (s .args .u) b (s .pre .words) (s .pre .small) (λ j. c .slice-known3 .given j .fits) (o .copy .kept .0 ∙ s .pre .words)
-    (n .add-top .kept .0 ∙ k .copy-next .kept .0) (top-zero (s .args .r .now) b (s .pre .words) (s .pre .small)) (k .copy-next .ensures .0) (n .add-top .ensures .0) (o .copy .ensures)
+    (n .add-top .kept .0 ∙ k .copy-next .kept .0) (top-zero (s .args .r .now) (s .pre .words) (s .pre .small)) (k .copy-next .ensures .0) (n .add-top .ensures .0) (o .copy .ensures)
 
 pub step-word-spec : {M : Type 1} → statement M
 step-word-spec =

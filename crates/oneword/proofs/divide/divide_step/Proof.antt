@@ -11,13 +11,13 @@ shift-requires : tie.Need-shift-requires
 shift-requires c κs =
     let k = c .before .before .before in
     let s = k .before in
-    (s .pre .0, omega arith, omega arith, top-zero (s .args .q .now) (λ i. k .slice-known .given i .fits) (s .pre .0) (s .pre .4))
+    (s .pre .0, omega arith, omega arith, top-zero (s .args .q .now) (s .pre .0) (s .pre .4))
 
 shift-requires-2 : tie.Need-shift-requires-2
 shift-requires-2 c κs =
     let k = c .before .before .before .before .before .before in
     let s = k .before .before in
-    (s .pre .1, omega arith, omega arith, top-zero (s .args .r .now) (λ i. k .slice-known2 .given i .fits) (s .pre .1) (s .pre .5))
+    (s .pre .1, omega arith, omega arith, top-zero (s .args .r .now) (s .pre .1) (s .pre .5))
 
 slice-read-if1 : tie.Need-slice-read-if1
 slice-read-if1 c = search needs
