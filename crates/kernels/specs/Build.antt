@@ -13,8 +13,7 @@ use native.Mathlib.Nat as Nat
 use native.Mathlib.Numerals.{add-one}
 use native.Mathlib.Omega.{arith}
 use lib.ListN.{length, getD, take, drop, set, replicate, length-drop}
-use lib.Pow.{pow-pos, pow-add, pow-mono, shr-lt, shl-lt, split}
-use lib.Pow as Pow
+use lib.Pow.{pow-pos, pow-add, pow-mono, shr-lt, shl-lt, high, split}
 use lib.Seq.{getD-drop, getD-take, take-all, take-take, take-set-le, drop-set-add}
 use borrow.Author.Count.{below-more}
 use Rattle.polynomial.specs.Clmul.{clmul-one-l}
@@ -237,7 +236,7 @@ rows-start t t₁ t₂ g b l d p q (suc zero) h =
     low = value 64 (take 12 g)
 
     top : getD g 12 0 ≡ 1
-    top = sym (Pow.high (getD g 12 0) D (low-lt g b l)) ∙ ap (λ (z : ℕ). z / 2 ^ D) (sym (by-top g l)) ∙ d
+    top = sym (high (getD g 12 0) D (low-lt g b l)) ∙ ap (λ (z : ℕ). z / 2 ^ D) (sym (by-top g l)) ∙ d
 
     is : 1 * 2 ^ D ≡ xor (value 64 g) low
     is = sym (ap (λ (z : ℕ). xor z low) (by-top g l ∙ ap (λ (z : ℕ). z * 2 ^ D + low) top ∙ join 1 D low (low-lt g b l)) ∙ simp xors)

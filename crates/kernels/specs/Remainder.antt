@@ -4,9 +4,9 @@ use Prim.Native.Nat.{ℕ, _+_, _-_, _*_, _/_, _%_, _^_, _≤_, _<_}
 use native.Mathlib.Nat as Nat
 use native.Mathlib.Omega.{arith}
 use lib.Pow.{pow-pos, pow-add, shl-shr, shr-shr}
-use Rattle.polynomial.specs.Clmul.{clmul, clmul-pow, clmul-left-comm, clmul-one-l}
-use Rattle.polynomial.specs.Division.{Deg, rem, rem-lt, rem-of, rem-small, rem-xor, rem-clmul-r, division, xor-shr, lt-of-shr}
-use Rattle.polynomial.specs.Xor.{xor, xors, xor-comm, xor-self}
+use Rattle.polynomial.specs.Clmul.{clmul, clmul-pow, clmul-left-comm}
+use Rattle.polynomial.specs.Division.{Deg, rem, rem-lt, rem-of, rem-small, rem-xor, rem-clmul-r, division}
+use Rattle.polynomial.specs.Xor.{xor, xor-comm}
 use Rattle.kernels.specs.Shift.{join, whole, xor-shl}
 
 module _ (g k : ℕ) (d : Deg g k) where

@@ -1,5 +1,5 @@
 -- The loop: what stands from x^q on is fed to v.
-use mathlib.Core.Path.{_≡_, refl, sym, _∙_}
+use mathlib.Core.Path.{_≡_, refl, _∙_}
 use Prim.Native.Nat.{_*_, _/_, _%_, _^_, _-_, _≤_}
 use native.Mathlib.Nat as Nat
 use native.Mathlib.Omega.{arith}
