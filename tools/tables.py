@@ -1,18 +1,24 @@
 #!/usr/bin/env python3
-"""Makes the constants of crates/tables: powers of alpha, their logs, and the factors of the generators.
+"""Makes the constants of crates/tables: powers of alpha, their logs, and the generators.
 
-    python3 tools/tables.py            writes crates/tables/src/powers.rt, logs.rt and factors.rt, in rt fmt's layout
+    python3 tools/tables.py            writes src/powers.rt, logs.rt and generators.rt of crates/tables, and proofs/Lists.antt
     python3 tools/tables.py --check    compares them with what is stored; ends with 1 and the files that differ
 
-The powers come by shifting and reducing by the field polynomial, the logs undo them. Factor t is for j = 2t + 1: the
-product of x + alpha^s over the s in the coset of j, its minimal polynomial, if j is the least of its coset, else 1.
-crates/tables proves what every entry is, so nothing rests on this program.
+The powers come by shifting and reducing by the field polynomial, the logs undo them. The generator of strength t is the
+product of the minimal polynomials of alpha^j over the odd j below 2t that are the least of their cosets; the minimal
+polynomial of alpha^j is the product of x + alpha^s over the s in the coset of j. The constants have a generator's words of
+64 bits, lowest first, as many as the largest of the field needs, and 16 generators each: a read of a constant copies it
+whole. Lists.antt has the generators as numbers, which the proofs test and compare the constants with.
+crates/tables proves what every entry is, so nothing rests on this program. All files are in rt fmt's layout.
 """
 import sys
 from pathlib import Path
 
-SRC = Path(__file__).resolve().parent.parent / "crates" / "tables" / "src"
+ROOT = Path(__file__).resolve().parent.parent
+TABLES = "crates/tables"
 FIELDS = {4: 19, 8: 285, 12: 4179}
+WORDS = {4: 1, 8: 4, 12: 12}               # of a generator
+BLOCK = 16                                 # generators in a constant
 COLUMNS = 100                              # what is longer takes a line an entry
 
 
@@ -61,40 +67,80 @@ def minimal(q, j):
     return sum(c << k for k, c in enumerate(out))
 
 
-def factors(q):
-    """One for each strength that the field allows: up to 64, and 2t <= n - 1."""
-    strengths = min(64, (2**q - 2) // 2)
-    return [minimal(q, j) if j == min(coset(q, j)) else 1 for j in range(1, 2 * strengths, 2)]
+def times(a, b):
+    """The product of two polynomials over GF(2)."""
+    return times(a << 1, b >> 1) ^ (a if b & 1 else 0) if b else 0
 
 
-def constant(name, entries):
-    head = f"pub const {name}: [u16; {len(entries)}] = ["
+def generators(q):
+    """The generators, one for each strength that the field allows: up to 64, and 2t <= n - 1."""
+    out = [1]
+    for j in range(1, 2 * min(64, (2**q - 2) // 2), 2):
+        out.append(times(out[-1], minimal(q, j)) if j == min(coset(q, j)) else out[-1])
+    assert out[-1] >> 64 * WORDS[q] == 0
+    return out[1:]
+
+
+def words(q, rows):
+    return [g >> 64 * i & 2**64 - 1 for g in rows for i in range(WORDS[q])]
+
+
+def constant(name, kind, entries):
+    head = f"pub const {name}: [{kind}; {len(entries)}] = ["
     line = head + ", ".join(map(str, entries)) + "];"
     return line if len(line) <= COLUMNS else "\n".join([head, *(f"    {x}," for x in entries), "];"])
 
 
+def rattle(about, constants):
+    return f"// {about}\n" + "\n\n".join(constants) + "\n"
+
+
+def blocks(q):
+    rows = generators(q)
+    if len(rows) < BLOCK:
+        return [constant(f"GENERATORS{q}", "u64", words(q, rows))]
+    return [constant(f"GENERATORS{q}_{k // BLOCK}", "u64", words(q, rows[k : k + BLOCK])) for k in range(0, len(rows), BLOCK)]
+
+
+def listed(q):
+    name, entries = f"generators{q}", [*map(str, generators(q)), "[]"]
+    line = f"{name} = " + " ∷ ".join(entries)
+    rows = line if len(line) <= COLUMNS else f"{name} =\n    " + "\n    ∷ ".join(entries)
+    return f"abbrev pub {name} : List ℕ\n{rows}\n"
+
+
+LISTS = """-- The generators in the three fields as numbers, from strength 1 on. Made by tools/tables.py; tested in Generated.
+use mathlib.Core.List.{List, [], _∷_}
+use Prim.Native.Nat.{ℕ}
+
+"""
+
 FILES = {
-    "powers.rt": ("The powers of alpha in the three fields: entry k is alpha^k.", powers),
-    "logs.rt": ("The logs of the elements in the three fields: entry a is the k with alpha^k = a; entry 0 is not used, and is 0.", logs),
-    "factors.rt": ("The factors of the generators in the three fields: entry t is what generator t is multiplied by to give generator t + 1.", factors),
+    "src/powers.rt": rattle(
+        "The powers of alpha in the three fields: entry k is alpha^k.", [constant(f"POWERS{q}", "u16", powers(q)) for q in FIELDS]
+    ),
+    "src/logs.rt": rattle(
+        "The logs of the elements in the three fields: entry a is the k with alpha^k = a; entry 0 is not used, and is 0.",
+        [constant(f"LOGS{q}", "u16", logs(q)) for q in FIELDS],
+    ),
+    "src/generators.rt": rattle(
+        "The generators in the three fields, 1, 4 and 12 words each, lowest first; constant _b has those of strength 16 b + 1 to 16 b + 16.",
+        [c for q in FIELDS for c in blocks(q)],
+    ),
+    "proofs/Lists.antt": LISTS + "\n".join(listed(q) for q in FIELDS),
 }
-
-
-def text(file):
-    about, table = FILES[file]
-    return f"// {about}\n" + "\n\n".join(constant(f"{table.__name__.upper()}{q}", table(q)) for q in FIELDS) + "\n"
 
 
 def main():
     if sys.argv[1:] == ["--check"]:
-        differ = [file for file in FILES if not (SRC / file).is_file() or (SRC / file).read_text() != text(file)]
+        differ = [file for file in FILES if not (ROOT / TABLES / file).is_file() or (ROOT / TABLES / file).read_text() != FILES[file]]
         for file in differ:
-            print(f"crates/tables/src/{file} is not what tools/tables.py makes")
+            print(f"{TABLES}/{file} is not what tools/tables.py makes")
         sys.exit(1 if differ else 0)
     if sys.argv[1:]:
         sys.exit(__doc__)
     for file in FILES:
-        (SRC / file).write_text(text(file))
+        (ROOT / TABLES / file).write_text(FILES[file])
 
 
 main()

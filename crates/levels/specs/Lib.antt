@@ -1,7 +1,4 @@
 -- A sheet's levels: the rows of their generators, what the loops that make them know, and levels made ready for remainders.
-pub mod Carry
 pub mod Rows
-pub mod Product
-pub mod Raise
 pub mod Levels
 pub mod Ready

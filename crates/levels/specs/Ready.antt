@@ -2,15 +2,12 @@
 --   RowOf p a g         the row g is level a's generator
 --   Prepared p a t      t is the table of level a's generator
 --   Counted p k w       the first k places of w hold the degrees of levels 0 to k - 1, and the rest 0
-use mathlib.Core.Path.{_≡_, refl, ap, _∙_}
-use mathlib.Core.Logic.{_⊎_, inl, inr}
+use mathlib.Core.Path.{_≡_, ap, _∙_}
 use mathlib.Core.List.{List, []}
-use Prim.Native.Nat.{ℕ, zero, suc, _+_, _-_, _*_, _^_, _≤_, _<_}
-use native.Mathlib.Nat as Nat
+use Prim.Native.Nat.{ℕ, _+_, _-_, _*_, _^_, _≤_, _<_}
 use native.Mathlib.Numerals.{add-one}
 use native.Mathlib.Omega.{arith}
 use lib.ListN.{length, getD, set, replicate}
-use lib.Seq.{getD-set-same, getD-set-other}
 use Rattle.polynomial.specs.Digits.{value}
 use Rattle.polynomial.specs.Division.{Deg, deg, deg-is, deg-unique, lt-of-deg}
 use Rattle.polynomial.specs.Multiple.{deg-pos}
@@ -24,6 +21,7 @@ use Rattle.code.specs.Calls.{generators}
 use Rattle.code.specs.Code.{gen, degree, remainder}
 use Rattle.code.specs.Parameters.{Accepted}
 use Rattle.layout.specs.Sizes.{Degrees, check-low}
+use Rattle.levels.specs.Rows.{Filled, filled-start, filled-next}
 
 pub record RowOf (p : Parameters) (a : ℕ) (g : List ℕ) : Type 0 where
   pub words : length g ≡ 13
@@ -86,29 +84,14 @@ module _ (p : Parameters) (A : Accepted p) where
       Q .rest (gen p a) (degree p a) (degree-of p R a h) k (rw e (P .table))
 
 -- ---- the degrees, one by one
-pub record Counted (p : Parameters) (k : ℕ) (w : List ℕ) : Type 0 where
-  pub first : (a : ℕ) → a < k → getD w a 0 ≡ degree p a
-  pub rest : (a : ℕ) → k ≤ a → getD w a 0 ≡ 0
+abbrev pub Counted : Parameters → ℕ → List ℕ → Type 0
+Counted p k w = Filled (degree p) k w
 
 pub counted-start : (p : Parameters) → Counted p 0 (replicate 4 0)
-counted-start p = record { first = λ a h. absurd (Nat.not-suc-le-zero h); rest = λ a h. go a }
-  where
-    go : (a : ℕ) → _≡_ {A = ℕ} (getD (replicate 4 0) a 0) 0
-    go zero = refl
-    go (suc zero) = refl
-    go (suc (suc zero)) = refl
-    go (suc (suc (suc zero))) = refl
-    go (suc (suc (suc (suc a)))) = refl
+counted-start p = filled-start (degree p) 4
 
 pub counted-next : (p : Parameters) (k d : ℕ) (w : List ℕ) → k < length w → Counted p k w → d ≡ degree p k → Counted p (k + 1) (set w k d)
-counted-next p k d w h c e = record {
-  first = λ a l. go a (Nat.eq-or-lt-of-le (Nat.le-of-suc-le-suc (omega arith)));
-  rest = λ a l. getD-set-other w k a d 0 (λ g. omega arith) ∙ c .rest a (omega arith);
-}
-  where
-    go : (a : ℕ) → (a ≡ k) ⊎ (a < k) → getD (set w k d) a 0 ≡ degree p a
-    go a (inl f) = rw f (getD-set-same w k d 0 h ∙ e)
-    go a (inr f) = getD-set-other w k a d 0 (λ g. omega arith) ∙ c .first a f
+counted-next p = filled-next (degree p)
 
 pub counted-all : (p : Parameters) (k : ℕ) (w : List ℕ) → length w ≡ 4 → k ≡ p .v + 1 → Counted p k w → Degrees p w
 counted-all p k w e h c = record { four = e; at = λ a l. c .first a (omega arith); past = λ a l. c .rest a (omega arith) }

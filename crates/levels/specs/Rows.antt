@@ -1,137 +1,83 @@
--- Rows of 13 words: what the functions that make them leave, and what their loops know.
---   row g                 the 13 words of the polynomial g
---   low n g               its n lowest words, and 0 above them
---   Added a g n k r       r is a + g x^k, in the n lowest words
---   Multiplied g m n r    r is g m, in the n lowest words
---   Raised f s t g r      r is the generator of strength t where g is that of strength s and f holds the factors
---   Written a₀ a w i      a is a₀ with its first i words replaced by those of w
---   Adding a₀ g n k a i   a is a₀ with its first i words replaced by those of a₀ + g x^k
-use mathlib.Core.Path.{_≡_, refl, sym, ap, ap₂, _∙_}
-use mathlib.Core.List.{List, [], _∷_, _++_}
-use Prim.Native.Nat.{ℕ, zero, suc, _+_, _*_, _/_, _-_, _%_, _^_, _≤_, _<_}
+-- Rows of 13 words, out of tables of generators; lists that a loop fills from the front.
+--   row g           the 13 words of the polynomial g
+--   Filled f k l    the first k places of l hold f 0 to f (k - 1), and the rest 0
+--   Row t s w r     the first w of the 13 words of r are those of t from place s on, and the rest is 0
+use mathlib.Core.Path.{_≡_, refl, sym, ap, _∙_}
+use mathlib.Core.Logic.{_⊎_, inl, inr}
+use mathlib.Core.Bool.{Bool, true, false}
+use mathlib.Core.List.{List}
+use Prim.Native.Nat.{ℕ, zero, suc, _+_, _*_, _/_, _%_, _^_, _≤_, _<_}
 use native.Mathlib.Nat as Nat
-use native.Mathlib.Numerals.{add-one}
 use native.Mathlib.Omega.{arith}
-use lib.Arith.{lt-one}
-use lib.Bits.{bitXor}
-use lib.ListN.{length, getD, take, drop, set, replicate, length-set, length-append, length-replicate, take-append-drop, List·getD-append}
-use lib.Pow.{shr-lt}
-use lib.Seq.{take-suc, take-suc-set, take-at, drop-at, drop-set-lt, drop-drop, getD-drop}
-use Rattle.polynomial.specs.Clmul.{clmul}
+use lib.Dec.{ltb}
+use lib.ListN.{length, getD, set, replicate, length-set}
+use lib.Pow.{pow-mono}
+use lib.Seq.{ext-getD, getD-set-same, getD-set-other}
+use borrow.Author.Tests.{ltb-true, ltb-false}
 use Rattle.polynomial.specs.Digits.{digits, digits-at, length-digits}
-use Rattle.polynomial.specs.Xor.{xor}
-use Rattle.field.specs.Fields.{Known, fieldOf}
+use Rattle.field.specs.Fields.{fieldOf}
 use Rattle.generator.specs.Generator.{generator}
-use Rattle.tables.specs.Factors.{Factors}
-use Rattle.levels.specs.Carry.{first-word, next-word}
+use Rattle.tables.specs.Generators.{Generators}
 
 abbrev pub row : ℕ → List ℕ
 row g = digits 64 13 g
 
-abbrev pub low : ℕ → ℕ → List ℕ
-low n g = digits 64 n g ++ replicate (13 - n) 0
-
-pub record Added (a g : List ℕ) (n k : ℕ) (r : List ℕ) : Type 0 where
-  pub sum : (A G : ℕ) → a ≡ low n A → g ≡ row G → r ≡ low n (xor A (G * 2 ^ k))
-
-pub record Multiplied (g : List ℕ) (m n : ℕ) (r : List ℕ) : Type 0 where
-  pub product : (G : ℕ) → g ≡ row G → r ≡ low n (clmul m G)
-
-pub record Raised (f : List ℕ) (s t : ℕ) (g r : List ℕ) : Type 0 where
-  pub raise : (q : ℕ) → Known q → Factors q f → g ≡ row (generator (fieldOf q) s) → r ≡ row (generator (fieldOf q) t)
-
--- ---- the n lowest words
-digits-zero : (n : ℕ) → digits 64 n 0 ≡ replicate n 0
-unfolding digits
-digits-zero zero = refl
-digits-zero (suc n) = ap (λ (l : List ℕ). 0 ∷ l) (digits-zero n)
-
-digits-more : (n j x : ℕ) → x < 2 ^ (64 * n) → digits 64 n x ++ replicate j 0 ≡ digits 64 (n + j) x
-unfolding digits
-digits-more zero j x h = sym (rw (lt-one h, Nat.zero-add j) (digits-zero j))
-digits-more (suc n) j x h =
-    rw (Nat.suc-add n j) (ap (λ (l : List ℕ). x % 2 ^ 64 ∷ l) (digits-more n j (x / 2 ^ 64) (shr-lt (64 * n) 64 (rw Nat.mul-suc at h))))
-
-pub low-row : (n x : ℕ) → n ≤ 13 → x < 2 ^ (64 * n) → low n x ≡ row x
-low-row n x h l = let e : n + (13 - n) ≡ 13 = omega arith in digits-more n (13 - n) x l ∙ ap (λ (k : ℕ). digits 64 k x) e
-
 pub row-zero : row 0 ≡ replicate 13 0
-row-zero = digits-zero 13
+unfolding digits
+row-zero = refl
 
-length-low : (n x : ℕ) → n ≤ 13 → length (low n x) ≡ 13
-length-low n x h = simp (length-append, length-digits, length-replicate) (omega arith)
+-- ---- place by place
+pub record Filled (f : ℕ → ℕ) (k : ℕ) (l : List ℕ) : Type 0 where
+  pub first : (a : ℕ) → a < k → getD l a 0 ≡ f a
+  pub rest : (a : ℕ) → k ≤ a → getD l a 0 ≡ 0
 
-row-at : (x i : ℕ) (l : List ℕ) → l ≡ row x → i < 13 → getD l i 0 ≡ x / 2 ^ (64 * i) % 2 ^ 64
-row-at x i l e b = ap (λ (l : List ℕ). getD l i 0) e ∙ digits-at 64 13 x i b
+module _ (f : ℕ → ℕ) where
+  pub filled-start : (n : ℕ) → Filled f 0 (replicate n 0)
+  filled-start n = record { first = λ a h. absurd (Nat.not-suc-le-zero h); rest = λ a h. go n a }
+    where
+      go : (n a : ℕ) → _≡_ {A = ℕ} (getD (replicate n 0) a 0) 0
+      go zero a = refl
+      go (suc n) zero = refl
+      go (suc n) (suc a) = go n a
 
-low-at : (n x i : ℕ) (l : List ℕ) → l ≡ low n x → i < n → getD l i 0 ≡ x / 2 ^ (64 * i) % 2 ^ 64
-low-at n x i l e b =
-    ap (λ (l : List ℕ). getD l i 0) e ∙ List·getD-append (digits 64 n x) (replicate (13 - n) 0) 0 i (rw (length-digits 64 n x) b)
-    ∙ digits-at 64 n x i b
-
--- ---- a list that is replaced word by word
-pub record Written (a₀ a w : List ℕ) (i : ℕ) : Type 0 where
-  pub left : drop i a ≡ drop i a₀
-  pub done : take i a ≡ take i w
-
-same-at : (a₀ a w : List ℕ) (i : ℕ) → Written a₀ a w i → getD a i 0 ≡ getD a₀ i 0
-same-at a₀ a w i p =
-    let z : i + 0 ≡ i = omega arith in
-    ap (λ (n : ℕ). getD a n 0) (sym z) ∙ sym (getD-drop i a 0 0) ∙ ap (λ (l : List ℕ). getD l 0 0) (p .left) ∙ getD-drop i a₀ 0 0
-    ∙ ap (λ (n : ℕ). getD a₀ n 0) z
-
-written-turn : (a₀ a w : List ℕ) (i x : ℕ) → i < length a → i < length w → Written a₀ a w i → x ≡ getD w i 0
-    → Written a₀ (set a i x) w (i + 1)
-written-turn a₀ a w i x la lw p e = record {
-  left = drop-set-lt (i + 1) a i x (omega arith) ∙ sym (drop-drop 1 i a) ∙ ap (drop 1) (p .left) ∙ drop-drop 1 i a₀;
-  done = rw add-one (take-suc-set a i x la ∙ ap₂ (λ (l : List ℕ) (y : ℕ). l ++ (y ∷ [])) (p .done) e ∙ sym (take-suc w i 0 lw));
-}
-
-written-done : (a₀ a : List ℕ) (n A x : ℕ) → a₀ ≡ low n A → Written a₀ a (low n x) n → a ≡ low n x
-written-done a₀ a n A x e p =
-    sym (take-append-drop n a)
-    ∙ ap₂ _++_ (p .done ∙ take-at (digits 64 n x) (replicate (13 - n) 0) n (length-digits 64 n x))
-    (p .left ∙ ap (drop n) e ∙ drop-at (digits 64 n A) (replicate (13 - n) 0) n (length-digits 64 n A))
-
--- ---- a row is added: the words below i are those of the sum
-pub record Adding (a₀ g : List ℕ) (n k : ℕ) (a : List ℕ) (i : ℕ) : Type 0 where
-  pub length-is : length a ≡ 13
-  pub words : (A G : ℕ) → a₀ ≡ low n A → g ≡ row G → Written a₀ a (low n (xor A (G * 2 ^ k))) i
-
-module _ (a₀ g : List ℕ) (n k : ℕ) (top : n ≤ 13) where
-  pub adding-start : length a₀ ≡ 13 → 0 < n → Adding a₀ g n k (set a₀ 0 (bitXor (getD a₀ 0 0) (getD g 0 0 * 2 ^ k % 2 ^ 64))) 1
-  adding-start l p = record {
-    length-is = length-set a₀ 0 _ ∙ l;
-    words = λ A G ea eg.
-        let x : ℕ = xor A (G * 2 ^ k) in
-        written-turn a₀ a₀ (low n x) 0 (bitXor (getD a₀ 0 0) (getD g 0 0 * 2 ^ k % 2 ^ 64)) (omega arith)
-        (rw (length-low n x top) (omega arith)) (record { left = refl; done = refl })
-        (rw (low-at n A 0 a₀ ea p, row-at G 0 g eg (omega arith), Nat.div-one A, Nat.div-one G)
-        (sym (low-at n x 0 (low n x) refl p ∙ ap (λ (y : ℕ). y % 2 ^ 64) (Nat.div-one x) ∙ first-word A G k)));
-  }
-
-  pub adding-turn : (a : List ℕ) (i : ℕ) → k < 64 → 0 < i → i < n → Adding a₀ g n k a i
-      → Adding a₀ g n k (set a i (bitXor (bitXor (getD a i 0) (getD g i 0 * 2 ^ k % 2 ^ 64)) (getD g (i - 1) 0 / 2 / 2 ^ (63 - k)))) (i + 1)
-  adding-turn a zero h p b t = absurd (Nat.not-suc-le-zero p)
-  adding-turn a (suc i) h p b t = record {
-    length-is = length-set a (suc i) _ ∙ t .length-is;
-    words = λ A G ea eg.
-        let x : ℕ = xor A (G * 2 ^ k) in
-        written-turn a₀ a (low n x) (suc i)
-        (bitXor (bitXor (getD a (suc i) 0) (getD g (suc i) 0 * 2 ^ k % 2 ^ 64)) (getD g (suc i - 1) 0 / 2 / 2 ^ (63 - k)))
-        (omega (arith, t .length-is)) (rw (length-low n x top) (omega arith)) (t .words A G ea eg)
-        (rw (
-          same-at a₀ a (low n x) (suc i) (t .words A G ea eg),
-          low-at n A (suc i) a₀ ea b,
-          row-at G (suc i) g eg (omega arith),
-          e,
-          row-at G i g eg (omega arith),
-        )
-        (sym (low-at n x (suc i) (low n x) refl b ∙ next-word A G k i h)));
+  pub filled-next : (k d : ℕ) (l : List ℕ) → k < length l → Filled f k l → d ≡ f k → Filled f (k + 1) (set l k d)
+  filled-next k d l h c e = record {
+    first = λ a b. go a (Nat.eq-or-lt-of-le (Nat.le-of-suc-le-suc (omega arith)));
+    rest = λ a b. getD-set-other l k a d 0 (λ g. omega arith) ∙ c .rest a (omega arith);
   }
     where
-      e : suc i - 1 ≡ i
-      e = omega arith
+      go : (a : ℕ) → (a ≡ k) ⊎ (a < k) → getD (set l k d) a 0 ≡ f a
+      go a (inl b) = rw b (getD-set-same l k d 0 h ∙ e)
+      go a (inr b) = getD-set-other l k a d 0 (λ g. omega arith) ∙ c .first a b
 
-  pub adding-done : (a : List ℕ) (i : ℕ) → i ≡ n → Adding a₀ g n k a i → Added a₀ g n k a
-  adding-done a i e t = record { sum = λ A G ea eg. written-done a₀ a n A (xor A (G * 2 ^ k)) ea (rw e at (t .words A G ea eg)) }
+-- ---- a row of a table
+pub record Row (t : List ℕ) (s w : ℕ) (r : List ℕ) : Type 0 where
+  pub length-is : length r ≡ 13
+  pub words : Filled (λ j. getD t (s + j) 0) w r
+
+module _ (t : List ℕ) (s : ℕ) where
+  pub row-start : Row t s 0 (replicate 13 0)
+  row-start = record { length-is = refl; words = filled-start (λ j. getD t (s + j) 0) 13 }
+
+  pub row-next : (j : ℕ) (r : List ℕ) → j < 13 → Row t s j r → Row t s (j + 1) (set r j (getD t (s + j) 0))
+  row-next j r h p = record {
+    length-is = length-set r j (getD t (s + j) 0) ∙ p .length-is;
+    words = filled-next (λ j. getD t (s + j) 0) j (getD t (s + j) 0) r (omega (arith, p .length-is)) (p .words) refl;
+  }
+
+-- row k of a table of generators
+module _ (q w i n k : ℕ) (t r : List ℕ) (h : k < n) (G : Generators q w i n t) (R : Row t (w * k) w r) where
+  word-is : (j : ℕ) (c : Bool) → ltb j w ≡ c → getD r j 0 ≡ generator (fieldOf q) (suc (i + k)) / 2 ^ (64 * j) % 2 ^ 64
+  word-is j true e = let l : j < w = ltb-true j w e in R .words .first j l ∙ G .word k j h l
+  word-is j false e =
+      let l : w ≤ j = ltb-false j w e in
+      R .words .rest j l
+      ∙ sym (ap (λ (x : ℕ). x % 2 ^ 64) (Nat.div-eq-of-lt (Nat.lt-of-lt-of-le (G .fits k h) (pow-mono (Nat.mul-le-mul-left 64 l)))))
+
+  row-at : r ≡ row (generator (fieldOf q) (suc (i + k)))
+  row-at =
+      ext-getD 0 r (row (generator (fieldOf q) (suc (i + k)))) (R .length-is ∙ sym (length-digits 64 13 _))
+      (λ j l. word-is j (ltb j w) refl ∙ sym (digits-at 64 13 (generator (fieldOf q) (suc (i + k))) j (rw (R .length-is) at l)))
+
+  pub row-is : (x s : ℕ) → x ≡ q → s ≡ suc (i + k) → r ≡ row (generator (fieldOf x) s)
+  row-is x s e f = rw (e, f) row-at

@@ -1,12 +1,13 @@
-// The levels of a sheet: their generators, worked out together from the constant tables of factors, their degrees,
-// and tables for remainders.
+// The levels of a sheet: their generators, read from the constant tables, their degrees, and tables for remainders.
 ghost use mathlib.Core.Path.{_≡_};
-ghost use Prim.Native.Nat.{_<_, _≤_};
+ghost use Prim.Native.Nat.{_+_, _*_, _≤_};
 ghost use lib.ListN.{length};
 ghost use Rattle.code.specs.Calls.{generators};
 ghost use Rattle.code.specs.Parameters.{Accepted};
-ghost use Rattle.tables.specs.Factors.{Factors};
-ghost use Rattle.levels.specs.Rows.{Added, Multiplied, Raised};
+ghost use Rattle.field.specs.Fields.{Known, fieldOf};
+ghost use Rattle.generator.specs.Generator.{generator};
+ghost use Rattle.tables.specs.Generators.{strengths};
+ghost use Rattle.levels.specs.Rows.{row, Row};
 ghost use Rattle.code.specs.Code.{degree};
 ghost use Rattle.layout.specs.Sizes.{Degrees};
 ghost use Rattle.levels.specs.Ready.{Prepared};
@@ -14,81 +15,37 @@ use code::Parameters;
 use code::Tested;
 use element::Field;
 
-// g times x^k is added into the n lowest words of a. The move down goes in two steps, since k may be 0.
-fn add_shifted(a: &mut [u64], g: &[u64], n: usize, k: u32)
-    requires { ⌜ (length (now a) ≡ 13) × (length (now g) ≡ 13) × (1 ≤ n) × (n ≤ 13) × (k < 64) ⌝ }
-    ensures { λ r. ⌜ Added (now (a .entry)) (now (g .entry)) n k (now (a .exit)) ⌝ }
+// Row k of a table with w words a row, and zeros above.
+fn row_of(table: &[u64], w: usize, k: usize) -> [u64; 13]
+    requires { ⌜ (w ≤ 13) × (w * k + w ≤ length (now table)) ⌝ }
+    ensures { λ r. ⌜ Row (now (table .entry)) (w * k) w r ⌝ }
 {
-    a[0] = a[0] ^ (g[0] << k);
-    let mut i: usize = 1;
-    while i < n {
-        a[i] = a[i] ^ (g[i] << k) ^ ((g[i - 1] >> 1) >> (63 - k));
-        i += 1;
+    let mut g = [0u64; 13];
+    let s = w * k;
+    let mut j: usize = 0;
+    while j < w {
+        g[j] = table[s + j];
+        j += 1;
     }
+    g
 }
 
-// The product of a row and a factor, its n lowest words.
-fn product(g: [u64; 13], m: u16, n: usize) -> [u64; 13]
-    requires { ⌜ (length g ≡ 13) × (1 ≤ n) × (n ≤ 13) ⌝ }
-    ensures { λ r. ⌜ (length r ≡ 13) × Multiplied g m n r ⌝ }
+// The row of the generator of strength t.
+fn generator_row(f: Field, t: usize) -> [u64; 13]
+    requires { ⌜ Known (f .q) × (1 ≤ t) × (t ≤ strengths (f .q)) ⌝ }
+    ensures { λ r. ⌜ r ≡ row (generator (fieldOf (f .q)) t) ⌝ }
 {
-    let mut a = [0u64; 13];
-    let mut k: u32 = 0;
-    while k < 16 {
-        if (m >> k) % 2 == 1 {
-            add_shifted(&mut a, &g, n, k);
-        }
-        k += 1;
+    let k = t - 1;
+    if f.q == 4 {
+        let g = tables::generators4();
+        return row_of(&g, 1, k);
     }
-    a
-}
-
-// The generator of strength t from that of strength s; a factor 1 is passed over. Generator k + 1 has at most 12 (k + 1) + 1 bits.
-fn raised(g: [u64; 13], factors: &[u16], s: usize, t: usize) -> [u64; 13]
-    requires { ⌜ (length g ≡ 13) × (s ≤ t) × (t ≤ 64) × (t ≤ length (now factors)) ⌝ }
-    ensures { λ r. ⌜ (length r ≡ 13) × Raised (now (factors .entry)) s t g r ⌝ }
-{
-    let mut a = g;
-    let mut k = s;
-    while k < t {
-        let m = factors[k];
-        if m != 1 {
-            let n = 12 * (k + 1) / 64 + 1;
-            let b = product(a, m, n);
-            a = b;
-        }
-        k += 1;
+    if f.q == 8 {
+        let g = tables::generators8(k / 16);
+        return row_of(&g, 4, k % 16);
     }
-    a
-}
-
-// The rows of the generators, by the table of the factors of p's field.
-fn rows_from(p: Parameters, factors: &[u16]) -> [[u64; 13]; 4]
-    requires { ⌜ Accepted p × Factors (p .q) (now factors) ⌝ }
-    ensures { λ r. ⌜ r ≡ generators p ⌝ }
-{
-    let mut out = [[0u64; 13]; 4];
-    let mut one = [0u64; 13];
-    one[0] = 1;
-    let t0 = p.t0 as usize;
-    let t1 = p.t1 as usize;
-    let a = raised(one, factors, 0, t0);
-    out[0] = a;
-    let b = raised(a, factors, t0, t1);
-    out[1] = b;
-    if p.v < 2 {
-        return out;
-    }
-    let t2 = p.t2 as usize;
-    let c = raised(b, factors, t1, t2);
-    out[2] = c;
-    if p.v < 3 {
-        return out;
-    }
-    let t3 = p.t3 as usize;
-    let d = raised(c, factors, t2, t3);
-    out[3] = d;
-    out
+    let g = tables::generators12(k / 16);
+    row_of(&g, 12, k % 16)
 }
 
 // The rows of an accepted sheet's generators, by level; rows past v are 0.
@@ -97,16 +54,18 @@ pub fn rows(p: Parameters) -> [[u64; 13]; 4]
     ensures { λ r. ⌜ r ≡ generators p ⌝ }
 {
     let f = Field::of(p.q);
-    if f.q == 4 {
-        let t = tables::factors4();
-        return rows_from(p, &t);
+    let mut out = [[0u64; 13]; 4];
+    out[0] = generator_row(f, p.t0 as usize);
+    out[1] = generator_row(f, p.t1 as usize);
+    if p.v < 2 {
+        return out;
     }
-    if f.q == 8 {
-        let t = tables::factors8();
-        return rows_from(p, &t);
+    out[2] = generator_row(f, p.t2 as usize);
+    if p.v < 3 {
+        return out;
     }
-    let t = tables::factors12();
-    rows_from(p, &t)
+    out[3] = generator_row(f, p.t3 as usize);
+    out
 }
 
 // The same for any numbers; the rows of a refused sheet are 0.

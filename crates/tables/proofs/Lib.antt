@@ -2,4 +2,5 @@
 mod Every
 mod Read
 mod Computed
-mod Factored
+mod Lists
+mod Generated

@@ -1,4 +1,4 @@
 -- What the constant tables hold, and the laws of powers that they rest on.
 pub mod Powers
 pub mod Tables
-pub mod Factors
+pub mod Generators

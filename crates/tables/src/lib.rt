@@ -1,10 +1,11 @@
-// The constant tables of each field: powers of alpha, their logs, and the factors of its generators.
-ghost use Rattle.tables.specs.Factors.{Factors};
+// The constant tables of each field: powers of alpha, their logs, and its generators.
+ghost use Prim.Native.Nat.{_*_, _<_};
+ghost use Rattle.tables.specs.Generators.{Generators};
 ghost use Rattle.tables.specs.Tables.{Powers, Logs};
 
 mod powers; // powers.rt: the constants
 mod logs; // logs.rt: the constants
-mod factors; // factors.rt: the constants
+mod generators; // generators.rt: the constants
 
 // The tables by value. A read of a constant copies it whole: take a table once, and lend it down.
 pub fn powers4() -> [u16; 15]
@@ -43,20 +44,41 @@ pub fn logs12() -> [u16; 4096]
     logs::LOGS12
 }
 
-pub fn factors4() -> [u16; 7]
-    ensures { λ r. ⌜ Factors 4 r ⌝ }
+pub fn generators4() -> [u64; 7]
+    ensures { λ r. ⌜ Generators 4 1 0 7 r ⌝ }
 {
-    factors::FACTORS4
+    generators::GENERATORS4
 }
 
-pub fn factors8() -> [u16; 64]
-    ensures { λ r. ⌜ Factors 8 r ⌝ }
+// Block b: the generators of strength 16 b + 1 to 16 b + 16.
+pub fn generators8(b: usize) -> [u64; 64]
+    requires { ⌜ b < 4 ⌝ }
+    ensures { λ r. ⌜ Generators 8 4 (16 * b) 16 r ⌝ }
 {
-    factors::FACTORS8
+    if b == 0 {
+        return generators::GENERATORS8_0;
+    }
+    if b == 1 {
+        return generators::GENERATORS8_1;
+    }
+    if b == 2 {
+        return generators::GENERATORS8_2;
+    }
+    generators::GENERATORS8_3
 }
 
-pub fn factors12() -> [u16; 64]
-    ensures { λ r. ⌜ Factors 12 r ⌝ }
+pub fn generators12(b: usize) -> [u64; 192]
+    requires { ⌜ b < 4 ⌝ }
+    ensures { λ r. ⌜ Generators 12 12 (16 * b) 16 r ⌝ }
 {
-    factors::FACTORS12
+    if b == 0 {
+        return generators::GENERATORS12_0;
+    }
+    if b == 1 {
+        return generators::GENERATORS12_1;
+    }
+    if b == 2 {
+        return generators::GENERATORS12_2;
+    }
+    generators::GENERATORS12_3
 }
