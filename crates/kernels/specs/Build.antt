@@ -161,7 +161,8 @@ module _ (G : ℕ) (d : Deg G D) (t : List ℕ) (n i s : ℕ) (R : Rows G t n) (
   unfolding row
   its-row hs hn =
       R top (Nat.lt-of-lt-of-le small hn)
-      ∙ ap (λ (z : ℕ). rem G D (z * 2 ^ D)) (ap hex (sym (zero-add top)) ∙ hex-at 0 top (Nat.lt-of-lt-of-le small (pow-mono {i = s} {j = 4} hs)) ∙ Nat.mul-one top)
+      ∙ ap (λ (z : ℕ). rem G D (z * 2 ^ D))
+      (ap hex (sym (zero-add top)) ∙ hex-at 0 top (Nat.lt-of-lt-of-le small (pow-mono {i = s} {j = 4} hs)) ∙ Nat.mul-one top)
 
   moved-is : s ≤ 4 → 2 ^ s ≤ n → xor (rowAt t (top * 12)) (y * 2 ^ s % 2 ^ D) ≡ rem G D (hex i * 2 ^ s * 2 ^ D)
   unfolding row
@@ -215,7 +216,8 @@ hex-one : (k : ℕ) → hex (16 * k + 1) ≡ 2 ^ (4 * k)
 hex-one k = hex-at k 1 (omega arith) ∙ one-mul (2 ^ (4 * k))
 
 pub hex-move : (k m s : ℕ) → m ≡ 2 ^ s → m < 16 → hex (16 * k + m) ≡ hex (16 * k + 1) * 2 ^ s
-hex-move k m s e h = hex-at k m h ∙ ap (λ (z : ℕ). z * 2 ^ (4 * k)) e ∙ Nat.mul-comm (2 ^ s) (2 ^ (4 * k)) ∙ ap (λ (z : ℕ). z * 2 ^ s) (sym (hex-one k))
+hex-move k m s e h =
+    hex-at k m h ∙ ap (λ (z : ℕ). z * 2 ^ (4 * k)) e ∙ Nat.mul-comm (2 ^ s) (2 ^ (4 * k)) ∙ ap (λ (z : ℕ). z * 2 ^ s) (sym (hex-one k))
 
 pub hex-next : (k : ℕ) → 1 ≤ k → hex (16 * k + 1) ≡ hex (16 * k - 15) * 2 ^ 4
 hex-next k h =
@@ -224,8 +226,8 @@ hex-next k h =
     hex-one k ∙ ap (λ (n : ℕ). 2 ^ n) f ∙ pow-add 2 (4 * (k - 1)) 4 ∙ ap (λ (z : ℕ). z * 2 ^ 4) (sym (hex-one (k - 1)) ∙ ap hex e)
 
 -- ---- the rows of 0 and 1 at place 0: x^768 modulo G is G without its highest coefficient
-pub rows-start : (t t₁ t₂ g : List ℕ) → Bounded 64 g → length g ≡ 13 → Deg (value 64 g) D → Put t t₁ 0 0 → Put t₁ t₂ 12 (value 64 (take 12 g))
-    → Rows (value 64 g) t₂ 2
+pub rows-start : (t t₁ t₂ g : List ℕ) → Bounded 64 g → length g ≡ 13 → Deg (value 64 g) D → Put t t₁ 0 0
+    → Put t₁ t₂ 12 (value 64 (take 12 g)) → Rows (value 64 g) t₂ 2
 unfolding row
 rows-start t t₁ t₂ g b l d p q zero h = q .below 0 (omega arith) ∙ p .here ∙ sym (rw (hex-zero 0, zero-mul) (rem-zero (value 64 g) D))
 rows-start t t₁ t₂ g b l d p q (suc zero) h =

@@ -25,7 +25,8 @@ feed-turn : (t : List ℕ) (A u l r r′ : ℕ) → Reduced t (A * 2 ^ D) r → 
 feed-turn t A u l r r′ e f = record {
   small = f .small;
   rest = λ G T.
-      f .rest G T ∙ ap (λ (x : ℕ). rem G D (xor (x * 2 ^ l) (u * 2 ^ D))) (e .rest G T) ∙ rem-shift-add G D (T .deg) l (A * 2 ^ D) (u * 2 ^ D)
+      f .rest G T ∙ ap (λ (x : ℕ). rem G D (xor (x * 2 ^ l) (u * 2 ^ D))) (e .rest G T)
+      ∙ rem-shift-add G D (T .deg) l (A * 2 ^ D) (u * 2 ^ D)
       ∙ ap (rem G D) (ap (λ (x : ℕ). xor x (u * 2 ^ D)) (Nat.mul-right-comm A (2 ^ D) (2 ^ l)) ∙ sym (xor-shl D (A * 2 ^ l) u));
 }
 
@@ -55,7 +56,8 @@ turn-fed t f m pos q l r r′ e h a b =
     rw (chunk f m q l (omega arith), e) (feed-turn t (f % 2 ^ m / 2 ^ pos) (f / 2 ^ q % 2 ^ l) l r r′ a b)
 
 -- the register that holds what was fed is a multiple of x^p where the generator is one
-pub held : (r t : List ℕ) (A p : ℕ) → length r ≡ 13 → length t ≡ 3072 → p < 768 → MovedUp t p → Reduced t (A * 2 ^ D) (value 64 r) → Stepping r t p
+pub held : (r t : List ℕ) (A p : ℕ) → length r ≡ 13 → length t ≡ 3072 → p < 768 → MovedUp t p
+    → Reduced t (A * 2 ^ D) (value 64 r) → Stepping r t p
 held r t A p lr lt h M q = record {
   words = lr;
   table = lt;

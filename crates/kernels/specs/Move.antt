@@ -19,7 +19,8 @@ use Rattle.kernels.specs.Remainder.{deg-up}
 use Rattle.kernels.specs.Row.{D, pow-D, set-top, by-top, D-is}
 use Rattle.kernels.specs.Shift.{join, up-down, up-up}
 use Rattle.kernels.specs.Table.{rowAt}
-use Rattle.kernels.specs.Value.{bounded-drop, drop-next, same-at, Bounded, value-nil, take-more, take-more-set, take-lt, set-xor, bounded-all, value-lt, drop-shr}
+use Rattle.kernels.specs.Value.{Bounded, bounded-all, bounded-drop, drop-next, drop-shr, same-at, set-xor}
+use Rattle.kernels.specs.Value.{take-lt, take-more, take-more-set, value-lt, value-nil}
 use Rattle.kernels.specs.Word.{moved, word-up, word-up-lt, word-sum, carry-lt, mod-mul-mod, window}
 
 -- ---- up by 1 to 64 places, in place
@@ -142,13 +143,14 @@ row-moving-start t at s v z =
       sum = sym (rw (y, Nat.zero-mod) (xor-zero-r (value 64 v)));
     }
 
-pub row-moving-turn : (t : List ℕ) (at s n : ℕ) (v : List ℕ) (j : ℕ) → Bounded 64 t → Bounded 64 v → s < 64 → at + j < length t → j < length v
-    → Moving (drop at t) s n (getD t (at + j - 1) 0 / 2 ^ (64 - s)) v j
+pub row-moving-turn : (t : List ℕ) (at s n : ℕ) (v : List ℕ) (j : ℕ) → Bounded 64 t → Bounded 64 v → s < 64 → at + j < length t
+    → j < length v → Moving (drop at t) s n (getD t (at + j - 1) 0 / 2 ^ (64 - s)) v j
     → Moving (drop at t) s n (getD t (at + (j + 1) - 1) 0 / 2 ^ (64 - s))
     (set v j (bitXor (bitXor (getD v j 0) (getD t (at + j) 0 * 2 ^ s % 2 ^ 64)) (getD t (at + j - 1) 0 / 2 ^ (64 - s)))) (j + 1)
 row-moving-turn t at s n v j bt bv h lt lv M =
     let e : at + (j + 1) - 1 ≡ at + j = omega arith in
-    rw (e, ← getD-drop at t j 0) (moving-turn (drop at t) s n _ v j (bounded-drop 64 t bt at) bv h (rw (length-drop at t) (omega arith)) lv M)
+    rw (e, ← getD-drop at t j 0)
+    (moving-turn (drop at t) s n _ v j (bounded-drop 64 t bt at) bv h (rw (length-drop at t) (omega arith)) lv M)
 
 pub row-moved-done : (t : List ℕ) (at s n c : ℕ) (v : List ℕ) (j : ℕ) → j ≡ 12 → Moving (drop at t) s n c v j
     → value 64 v ≡ xor n (rowAt t at * 2 ^ s % 2 ^ D)
@@ -156,7 +158,8 @@ unfolding rowAt
 row-moved-done t at s n c v j e M = rw pow-D (rw e at (M .sum))
 
 -- what passes the 12th word
-pub moved-top : (r : List ℕ) (s : ℕ) → Bounded 64 r → 12 ≤ length r → s ≤ 64 → getD r 11 0 / 2 ^ (64 - s) ≡ value 64 (take 12 r) * 2 ^ s / 2 ^ D
+pub moved-top : (r : List ℕ) (s : ℕ) → Bounded 64 r → 12 ≤ length r → s ≤ 64
+    → getD r 11 0 / 2 ^ (64 - s) ≡ value 64 (take 12 r) * 2 ^ s / 2 ^ D
 moved-top r s b l h =
     let e : 64 * 11 + (64 - s) ≡ 64 * 12 - s = omega arith in
     sym (rw pow-D (up-down (value 64 (take 12 r)) s (64 * 12) (omega arith)) ∙ ap (λ (k : ℕ). value 64 (take 12 r) / 2 ^ k) (sym e)
