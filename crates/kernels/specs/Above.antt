@@ -6,15 +6,16 @@ use native.Mathlib.Nat as Nat
 use native.Mathlib.Omega.{arith}
 use lib.Bits.{bitXor}
 use lib.ListN.{length, getD, take, set, replicate}
-use lib.Pow.{mod-mod-pow, pow-add, pow-mono, pow-pos, shl-lt, split}
+use lib.Pow.{high, low, mod-mod-pow, pow-add, pow-mono, pow-pos, shl-lt, split}
 use lib.Seq.{length-take-le, take-all, take-take}
 use Rattle.polynomial.specs.Digits.{value}
 use Rattle.polynomial.specs.Division.{rem, rem-small, rem-xor, xor-lt}
 use Rattle.polynomial.specs.Xor.{xor, xor-assoc, xor-comm, xor-is, xor-zero-l, xor-zero-r}
+use Rattle.kernels.specs.Move.{moved-top}
 use Rattle.kernels.specs.Reduce.{TopAdded, zeros, zeros-clear}
 use Rattle.kernels.specs.Remainder.{rem-top}
-use Rattle.kernels.specs.Row.{D, D-is, by-top, low-lt, pow-D}
-use Rattle.kernels.specs.Shift.{join, low-fed, part, xor-block, xor-shl}
+use Rattle.kernels.specs.Row.{D, D-is, by-top, low-lt, pow-D, top-zero}
+use Rattle.kernels.specs.Shift.{join, part, xor-block}
 use Rattle.kernels.specs.Sum.{Copied}
 use Rattle.kernels.specs.Table.{Reduced, RemainderBy, lowered}
 use Rattle.kernels.specs.Value.{Bounded, same-at, set-xor, take-lt, take-mod, take-more, take-more-set}
@@ -40,74 +41,75 @@ pub next-start : (r : List ℕ) (f : ℕ) → Bounded 64 r → length r ≡ 13 �
     → value 64 (take (f + 1) (replicate 12 0)) ≡ value 64 (take f r) * 2 ^ 64
 next-start r f b h l z = zeros-clear 12 (f + 1) ∙ sym (rw (take-mod 64 r b f (omega arith), z) (Nat.zero-mul (2 ^ 64)))
 
-pub next-clear : (r v m : List ℕ) (f : ℕ) → Bounded 64 r → length r ≡ 13 → f ≤ 11 → value 64 r % 2 ^ (64 * f) ≡ 0
-    → take (f + 1) v ≡ take (f + 1) (replicate 12 0) → take f m ≡ take f v → take f r ≡ take f m
-next-clear r v m f b h l z e g =
+pub kept-clear : (r v m : List ℕ) (f : ℕ) → Bounded 64 r → length r ≡ 13 → f ≤ 11 → value 64 r % 2 ^ (64 * f) ≡ 0
+    → take f v ≡ take f (replicate 12 0) → take f m ≡ take f v → take f r ≡ take f m
+kept-clear r v m f b h l z e g =
     same (take f r) (take-mod 64 r b f (omega arith) ∙ z) (length-take-le f r (omega arith))
-    ∙ sym (g ∙ sym (take-take f (f + 1) v (omega arith)) ∙ ap (take f) e ∙ take-take f (f + 1) (replicate 12 0) (omega arith)
-    ∙ same (take f (replicate 12 0)) (zeros-clear 12 f) (length-take-le f (replicate 12 0) (omega arith)))
+    ∙ sym (g ∙ e ∙ same (take f (replicate 12 0)) (zeros-clear 12 f) (length-take-le f (replicate 12 0) (omega arith)))
   where
     same : (x : List ℕ) → value 64 x ≡ 0 → length x ≡ f → x ≡ replicate f 0
     same x y k = zeros x y ∙ ap (λ (n : ℕ). replicate n 0) k
 
--- ---- a step by a word: v is r's lower 11 words one place higher;
--- with the remainder of what passes x^768 and u added it is m, which is copied back
-pub word-step : (t r v m r′ : List ℕ) (u : ℕ) → Bounded 64 r → length r ≡ 13 → value 64 r < 2 ^ D → Bounded 64 r′ → length r′ ≡ 13
-    → length m ≡ 12 → getD r 12 0 ≡ 0 → value 64 v ≡ value 64 (take 11 r) * 2 ^ 64
-    → TopAdded t (value 64 v) (bitXor (getD r 11 0) u) (value 64 m) → Copied r r′ m 12
-    → Reduced t (xor (value 64 r * 2 ^ 64) (u * 2 ^ D)) (value 64 r′)
-word-step t r v m r′ u b h s b′ h′ k z e q p = record {
-  small = rw back (low-lt r′ b′ h′);
+pub one-less : (v w : List ℕ) (f : ℕ) → take (f + 1) v ≡ take (f + 1) w → take f v ≡ take f w
+one-less v w f e = sym (take-take f (f + 1) v (omega arith)) ∙ ap (take f) e ∙ take-take f (f + 1) w (omega arith)
+
+-- ---- a step by l places: r moved up is h from x^768 on and v below;
+-- with the remainder of h and u added v is m, which is copied back
+pub step-law : (t r v m r′ : List ℕ) (h u l : ℕ) → length r ≡ 13 → value 64 r < 2 ^ D → Bounded 64 r′ → length r′ ≡ 13 → length m ≡ 12
+    → value 64 v ≡ value 64 r * 2 ^ l % 2 ^ D → h ≡ value 64 r * 2 ^ l / 2 ^ D → TopAdded t (value 64 v) (bitXor h u) (value 64 m)
+    → Copied r r′ m 12 → Reduced t (xor (value 64 r * 2 ^ l) (u * 2 ^ D)) (value 64 r′)
+step-law t r v m r′ h u l n s b′ n′ k e f q p = record {
+  small = rw back (low-lt r′ b′ n′);
   rest = λ G T.
       back ∙ ap (value 64) (p .done ∙ take-all 12 m (omega arith)) ∙ q G T
-      ∙ ap (λ (x : ℕ). xor (value 64 v) (rem G D (x * 2 ^ D))) (xor-is (getD r 11 0) u)
-      ∙ rem-top G D (T .deg) (xor (getD r 11 0) u) (value 64 v) low ∙ ap (rem G D) sum;
+      ∙ ap (λ (x : ℕ). xor (value 64 v) (rem G D (x * 2 ^ D))) (xor-is h u)
+      ∙ rem-top G D (T .deg) (xor h u) (value 64 v) small ∙ ap (rem G D) sum;
 }
   where
     back : value 64 r′ ≡ value 64 (take 12 r′)
     back =
-        by-top r′ h′ ∙ ap (λ (x : ℕ). x * 2 ^ D + value 64 (take 12 r′)) (same-at r′ r 12 (p .left) ∙ z)
+        by-top r′ n′ ∙ ap (λ (x : ℕ). x * 2 ^ D + value 64 (take 12 r′)) (same-at r′ r 12 (p .left) ∙ top-zero r n s)
         ∙ rw (Nat.zero-mul (2 ^ D)) (Nat.zero-add (value 64 (take 12 r′)))
 
-    low : value 64 v < 2 ^ D
-    low = rw (e, pow-D) (shl-lt (64 * 11) 64 (take-lt 64 r b 11 (omega arith)))
+    small : value 64 v < 2 ^ D
+    small = rw e (Nat.mod-lt (value 64 r * 2 ^ l) (pow-pos D))
 
-    lower : value 64 r ≡ getD r 11 0 * 2 ^ (64 * 11) + value 64 (take 11 r)
-    lower =
-        by-top r h ∙ ap (λ (x : ℕ). x * 2 ^ D + value 64 (take 12 r)) z ∙ rw (Nat.zero-mul (2 ^ D)) (Nat.zero-add (value 64 (take 12 r)))
-        ∙ take-more 64 r 11 (omega arith)
+    up : value 64 r * 2 ^ l ≡ h * 2 ^ D + value 64 v
+    up = rw (e, f) (sym (split (value 64 r * 2 ^ l) D))
+
+    sum : xor h u * 2 ^ D + value 64 v ≡ xor (value 64 r * 2 ^ l) (u * 2 ^ D)
+    sum =
+        sym (ap₂ xor up (sym (Nat.add-zero (u * 2 ^ D))) ∙ xor-block D h u (value 64 v) 0 small (pow-pos D)
+        ∙ ap (λ (x : ℕ). xor h u * 2 ^ D + x) (xor-zero-r (value 64 v)))
+
+-- the lower 12 words are all
+lower : (r : List ℕ) → length r ≡ 13 → value 64 r < 2 ^ D → value 64 r ≡ value 64 (take 12 r)
+lower r h s =
+    by-top r h ∙ ap (λ (x : ℕ). x * 2 ^ D + value 64 (take 12 r)) (top-zero r h s)
+    ∙ rw (Nat.zero-mul (2 ^ D)) (Nat.zero-add (value 64 (take 12 r)))
+
+-- by a whole word v is the lower 11 words one place higher, and h the 12th
+pub word-parts : (r v : List ℕ) → Bounded 64 r → length r ≡ 13 → value 64 r < 2 ^ D → value 64 v ≡ value 64 (take 11 r) * 2 ^ 64
+    → (value 64 v ≡ value 64 r * 2 ^ 64 % 2 ^ D) × (getD r 11 0 ≡ value 64 r * 2 ^ 64 / 2 ^ D)
+word-parts r v b h s e = rw up (sym (low (getD r 11 0) D small), sym (high (getD r 11 0) D small))
+  where
+    small : value 64 v < 2 ^ D
+    small = rw (e, pow-D) (shl-lt (64 * 11) 64 (take-lt 64 r b 11 (omega arith)))
 
     up : value 64 r * 2 ^ 64 ≡ getD r 11 0 * 2 ^ D + value 64 v
     up =
-        ap (λ (x : ℕ). x * 2 ^ 64) lower ∙ Nat.add-mul (getD r 11 0 * 2 ^ (64 * 11)) (value 64 (take 11 r)) (2 ^ 64)
+        ap (λ (x : ℕ). x * 2 ^ 64) (lower r h s ∙ take-more 64 r 11 (omega arith))
+        ∙ Nat.add-mul (getD r 11 0 * 2 ^ (64 * 11)) (value 64 (take 11 r)) (2 ^ 64)
         ∙ ap₂ _+_ (Nat.mul-assoc (getD r 11 0) (2 ^ (64 * 11)) (2 ^ 64)
         ∙ ap (λ (x : ℕ). getD r 11 0 * x) (sym (pow-add 2 (64 * 11) 64) ∙ sym pow-D)) (sym e)
 
-    sum : xor (getD r 11 0) u * 2 ^ D + value 64 v ≡ xor (value 64 r * 2 ^ 64) (u * 2 ^ D)
-    sum =
-        sym (ap₂ xor up (sym (Nat.add-zero (u * 2 ^ D))) ∙ xor-block D (getD r 11 0) u (value 64 v) 0 low (pow-pos D)
-        ∙ ap (λ (x : ℕ). xor (getD r 11 0) u * 2 ^ D + x) (xor-zero-r (value 64 v)))
-
--- ---- a step by l places: u is added below x^768 and moved up
-pub part-lt : (x u l : ℕ) → x < 2 ^ D → u < 2 ^ l → l ≤ 64 → xor x (u * 2 ^ (768 - l)) < 2 ^ D
-part-lt x u l h k b =
-    let e : l + (768 - l) ≡ D = omega (arith, D-is) in
-    xor-lt D x (u * 2 ^ (768 - l)) h (rw (← e) (shl-lt l (768 - l) k))
-
-pub part-step : (x y z u l : ℕ) → l ≤ 64 → y ≡ xor x (u * 2 ^ (768 - l)) → z ≡ y * 2 ^ l → z ≡ xor (x * 2 ^ l) (u * 2 ^ D)
-part-step x y z u l h e f =
-    let g : (768 - l) + l ≡ D = omega (arith, D-is) in
-    f ∙ ap (λ (n : ℕ). n * 2 ^ l) e ∙ xor-shl l x (u * 2 ^ (768 - l))
-    ∙ ap (xor (x * 2 ^ l))
-    (Nat.mul-assoc u (2 ^ (768 - l)) (2 ^ l) ∙ ap (λ (n : ℕ). u * n) (sym (pow-add 2 (768 - l) l) ∙ ap (λ (n : ℕ). 2 ^ n) g))
-
--- a multiple of x^p stays one
-pub low-top : (x u l p : ℕ) → p < 768 → x % 2 ^ p ≡ 0 → xor (x * 2 ^ l) (u * 2 ^ D) % 2 ^ p ≡ 0
-low-top x u l p h z =
-    let e : (D - p) + p ≡ D = omega (arith, D-is) in
-    ap (λ (n : ℕ). xor (x * 2 ^ l) n % 2 ^ p)
-    (ap (λ (n : ℕ). u * 2 ^ n) (sym e) ∙ ap (λ (n : ℕ). u * n) (pow-add 2 (D - p) p) ∙ sym (Nat.mul-assoc u (2 ^ (D - p)) (2 ^ p)))
-    ∙ low-fed x (u * 2 ^ (D - p)) l p z
+-- by fewer, v is all lower words moved, added to 0
+pub part-parts : (r v : List ℕ) (l : ℕ) → Bounded 64 r → length r ≡ 13 → value 64 r < 2 ^ D → l < 64
+    → value 64 v ≡ xor (value 64 (replicate 12 0)) (value 64 (take 12 r) * 2 ^ l % 2 ^ D)
+    → (value 64 v ≡ value 64 r * 2 ^ l % 2 ^ D) × (getD r 11 0 / 2 ^ (64 - l) ≡ value 64 r * 2 ^ l / 2 ^ D)
+unfolding value
+part-parts r v l b h s k e =
+    rw (lower r h s) (e ∙ xor-zero-l (value 64 (take 12 r) * 2 ^ l % 2 ^ D), moved-top r l b (omega arith) (omega arith))
 
 -- ---- words added from the lowest on
 pub low-turn : (r : List ℕ) (n x j i k v : ℕ) → Bounded 64 r → j < length r → i ≤ 64 → i + 64 * j ≡ k → v ≡ x / 2 ^ (64 * j) % 2 ^ i

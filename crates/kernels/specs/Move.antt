@@ -117,7 +117,7 @@ module _ (r : List ℕ) (s n c : ℕ) (v : List ℕ) (j : ℕ) (br : Bounded 64 
       (rw (M .carry) (add-comm (up r s j % 2 ^ (64 * j)) (up r s j / 2 ^ (64 * j) * 2 ^ (64 * j)) ∙ split (up r s j) (64 * j)))
       (word-sum w s (64 - s) (omega arith))))
 
-  moving-turn : Moving r s n (w / 2 ^ (64 - s)) (set v j (bitXor (bitXor (getD v j 0) lo) c)) (j + 1)
+  pub moving-turn : Moving r s n (w / 2 ^ (64 - s)) (set v j (bitXor (bitXor (getD v j 0) lo) c)) (j + 1)
   moving-turn = record {
     carry = sym (ap (λ (x : ℕ). x / 2 ^ (64 * (j + 1))) (sym whole) ∙ high (w / 2 ^ (64 - s)) (64 * (j + 1)) part-lt);
     sum =
@@ -132,16 +132,21 @@ module _ (r : List ℕ) (s n c : ℕ) (v : List ℕ) (j : ℕ) (br : Bounded 64 
       both : lo + c ≡ xor lo c
       both = rw (word-up w s (Nat.le-of-lt h)) (join (w % 2 ^ (64 - s)) s c c-lt)
 
+pub moving-start : (r v : List ℕ) (s : ℕ) → Moving r s (value 64 v) 0 v 0
+moving-start r v s =
+    let y : up r s 0 ≡ 0 = rw (value-nil 64) (Nat.zero-mul (2 ^ s)) in
+    record { carry = sym (rw y (Nat.zero-div (2 ^ (64 * 0)))); sum = sym (rw (y, Nat.zero-mod) (xor-zero-r (value 64 v))) }
+
+pub moving-done : (r : List ℕ) (s n c : ℕ) (v : List ℕ) (j : ℕ) → j ≡ 12 → Moving r s n c v j
+    → value 64 v ≡ xor n (value 64 (take 12 r) * 2 ^ s % 2 ^ D)
+moving-done r s n c v j e M = rw pow-D (rw e at (M .sum))
+
 -- the same for the row that stands at `at` in t: the word below is read off t
 pub row-moving-start : (t : List ℕ) (at s : ℕ) (v : List ℕ) → getD t (at - 1) 0 ≡ 0
     → Moving (drop at t) s (value 64 v) (getD t (at + 0 - 1) 0 / 2 ^ (64 - s)) v 0
 row-moving-start t at s v z =
     let e : at + 0 - 1 ≡ at - 1 = omega arith in
-    let y : up (drop at t) s 0 ≡ 0 = rw (value-nil 64) (Nat.zero-mul (2 ^ s)) in
-    record {
-      carry = rw (e, z, y) (Nat.zero-div (2 ^ (64 - s)) ∙ sym (Nat.zero-div (2 ^ (64 * 0))));
-      sum = sym (rw (y, Nat.zero-mod) (xor-zero-r (value 64 v)));
-    }
+    rw (e, z, Nat.zero-div) (moving-start (drop at t) v s)
 
 pub row-moving-turn : (t : List ℕ) (at s n : ℕ) (v : List ℕ) (j : ℕ) → Bounded 64 t → Bounded 64 v → s < 64 → at + j < length t
     → j < length v → Moving (drop at t) s n (getD t (at + j - 1) 0 / 2 ^ (64 - s)) v j
@@ -155,7 +160,7 @@ row-moving-turn t at s n v j bt bv h lt lv M =
 pub row-moved-done : (t : List ℕ) (at s n c : ℕ) (v : List ℕ) (j : ℕ) → j ≡ 12 → Moving (drop at t) s n c v j
     → value 64 v ≡ xor n (rowAt t at * 2 ^ s % 2 ^ D)
 unfolding rowAt
-row-moved-done t at s n c v j e M = rw pow-D (rw e at (M .sum))
+row-moved-done t at s n c v j e M = moving-done (drop at t) s n c v j e M
 
 -- what passes the 12th word
 pub moved-top : (r : List ℕ) (s : ℕ) → Bounded 64 r → 12 ≤ length r → s ≤ 64

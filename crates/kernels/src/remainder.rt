@@ -141,18 +141,31 @@ fn step_whole(r: &mut [u64], t: &[u64], u: u64, p: usize)
     step_word(r, t, u, 6);
 }
 
-// A step by l places that enters at x^768: u is added below, and moved up with the register.
-fn step_part(r: &mut [u64], t: &[u64], u: u64, l: usize, p: usize)
-    requires { ⌜ Stepping (now r) (now t) p × (1 ≤ l) × (l ≤ 64) × (u < 2 ^ l) ⌝ }
+// The lower 12 words of r, moved up by l places, are added into v; what passes x^768 is lost.
+fn add_shifted(v: &mut [u64], r: &[u64], l: usize)
+    requires { ⌜ (length (now v) ≡ 12) × (12 ≤ length (now r)) × (1 ≤ l) × (l < 64) ⌝ }
+    ensures { λ x. ⌜ value 64 (now (v .exit)) ≡ xor (value 64 (now (v .entry))) (value 64 (take 12 (now (r .entry))) * 2 ^ l % 2 ^ D) ⌝ }
+{
+    let mut c: u64 = 0;
+    let mut j: usize = 0;
+    while j < 12 {
+        let w = r[j];
+        v[j] = v[j] ^ (w << l) ^ c;
+        c = w >> (64 - l);
+        j += 1;
+    }
+}
+
+// A step by l places, fewer than 64, that enters at x^768.
+fn step_part(r: &mut [u64], t: &[u64], u: u64, l: usize)
+    requires { ⌜ Stepping (now r) (now t) 0 × (1 ≤ l) × (l < 64) ⌝ }
     ensures { λ x. ⌜ Reduced (now (t .entry)) (xor (value 64 (now (r .entry)) * 2 ^ l) (u * 2 ^ D)) (value 64 (now (r .exit))) ⌝ }
 {
-    insert(r, u, 768 - l);
-    shift(r, l);
-    if p < 384 {
-        reduce(r, t, 0);
-        return;
-    }
-    reduce(r, t, 6);
+    let top = (r[11] >> (64 - l)) ^ u;
+    let mut v = [0u64; 12];
+    add_shifted(&mut v, r, l);
+    add_top(&mut v, t, top, 0);
+    copy(r, &v, 0);
 }
 
 // The coefficients of s from x^w on, below x^n, are fed to a register of 0 at x^768 in whole words, as far as these reach: down to the
@@ -174,25 +187,38 @@ fn feed_words(r: &mut [u64], t: &[u64], s: &[u8], n: usize, w: usize, p: usize) 
     q
 }
 
-// The same l at a time, the short chunk last. l is not in the result.
+// The size of the next chunk: at most `most` places of the `left` that are left.
+fn chunk_of(most: usize, left: usize) -> usize
+    requires { ⌜ (1 ≤ most) × (1 ≤ left) ⌝ }
+    ensures { λ k. ⌜ (1 ≤ k) × (k ≤ most) × (k ≤ left) ⌝ }
+{
+    if left < most {
+        return left;
+    }
+    most
+}
+
+// The same down to x^w, l at a time, the short chunk last. l is not in the result. Whole words have a loop of their own, and only there the
+// words that are 0 are left out: a loop that took all would not be held in registers.
 fn feed_top(r: &mut [u64], t: &[u64], s: &[u8], n: usize, w: usize, l: usize, p: usize)
-    requires { ⌜ (length (now r) ≡ 13) × (length (now t) ≡ 3072) × (1 ≤ l) × (l ≤ 64) × (p < 768) × (value 64 (now r) ≡ 0) × (w ≤ n)
-        × (n < 1000000) × MovedUp (now t) p ⌝ }
+    requires { ⌜ (length (now r) ≡ 13) × (length (now t) ≡ 3072) × (p < 768) × (value 64 (now r) ≡ 0) × (w ≤ n) × (n < 1000000)
+        × MovedUp (now t) p × (1 ≤ l) × (l ≤ 64) ⌝ }
     ensures { λ x. ⌜ Reduced (now (t .entry)) (value 8 (now (s .entry)) % 2 ^ n / 2 ^ w * 2 ^ D) (value 64 (now (r .exit))) ⌝ }
 {
-    let mut pos = n;
+    let mut v = [0u64; 13];
+    let mut q = n;
+    let mut most = l;
     if l == 64 {
-        pos = feed_words(r, t, s, n, w, p);
+        q = feed_words(&mut v, t, s, n, w, p);
+        most = 63;
     }
-    while w + l <= pos {
-        pos = pos - l;
-        let u = bits(s, pos, l);
-        step_part(r, t, u, l, p);
+    while w < q {
+        let k = chunk_of(most, q - w);
+        q -= k;
+        let u = bits(s, q, k);
+        step_part(&mut v, t, u, k);
     }
-    if w < pos {
-        let u = bits(s, w, pos - w);
-        step_part(r, t, u, pos - w, p);
-    }
+    copy(r, &v, 0);
 }
 
 // The k lowest coefficients of s are added.

@@ -11,9 +11,6 @@ use Rattle.kernels.specs.Table.{Reduced}
 use borrow.Author.Needs.{needs}
 use Rattle.kernels.proofs.remainder.feed_words.Statement.{statement}
 use Rattle.kernels.proofs.remainder.feed_words.Tie as tie
-use Rattle.kernels.proofs.bits.bits.Reads as bits-reads
-use Rattle.kernels.proofs.remainder.copy.Reads as copy-reads
-use Rattle.kernels.proofs.remainder.step_whole.Reads as step-whole-reads
 
 abbrev Inv-loop : tie.InvT-loop
 Inv-loop r t s n w p v₀ q₀ v q = (q ≤ n) × (w ≤ q) × (length v ≡ 13) × Reduced t (value 8 s % 2 ^ n / 2 ^ q * 2 ^ D) (value 64 v)

@@ -1,81 +1,66 @@
-use borrow.Author.Needs.{needs}
-use mathlib.Core.Path.{_≡_, _∙_}
-use Prim.Native.Nat.{_-_, _*_, _^_}
+-- The register is moved up aside, the remainder of what passes x^768 and u is added, and it is copied back: step-law.
+use mathlib.Core.Path.{refl, _∙_}
 use native.Mathlib.Omega.{arith}
-use Rattle.polynomial.specs.Digits.{value}
-use Rattle.polynomial.specs.Xor.{xor}
-use Rattle.kernels.specs.Above.{low-top, part-lt, part-step}
-use Rattle.kernels.specs.Row.{D, top-zero}
-use Rattle.kernels.specs.Step.{Reducing, reducing-less}
+use Rattle.kernels.specs.Above.{part-parts, step-law}
+use borrow.Author.Needs.{needs}
 use Rattle.kernels.proofs.remainder.step_part.Statement.{statement}
 use Rattle.kernels.proofs.remainder.step_part.Tie as tie
 
--- what is to be reduced
-fed : (k : tie.After-slice-known3) → (let a = k .before .before .before .before .before .before .before .before .before .before .args in value 64 (k .before .before .shift .last .0) ≡ xor (value 64 (a .r .now) * 2 ^ a .l) (a .u * 2 ^ D))
-fed k =
-    let h = k .before .before in
-    let i = h .before .before .before .before in
-    let s = i .before .before .before .before in
-    part-step _ _ _ (s .args .u) (s .args .l) (s .pre .2) (i .insert .ensures) (h .shift .ensures)
+slice-read-top : tie.Need-slice-read-top
+slice-read-top c = search needs
 
-held : (k : tie.After-slice-known3) → (let a = k .before .before .before .before .before .before .before .before .before .before .args in Reducing (k .before .before .shift .last .0) (a .t .now) (a .p))
-held k =
-    let h = k .before .before in
-    let i = h .before .before .before .before in
-    let s = i .before .before .before .before in
-    record {
-      words = h .shift .kept .0 ∙ i .insert .kept .0 ∙ s .pre .0 .words;
-      table = s .pre .0 .table;
-      place = omega (arith, s .pre .0 .place);
-      moved = s .pre .0 .moved;
-      low = rw (fed k) (low-top (value 64 (s .args .r .now)) (s .args .u) (s .args .l) (s .args .p) (s .pre .0 .place) (s .pre .0 .low));
-    }
+sub-top : tie.Need-sub-top
+sub-top c = search needs
 
-sub-insert : tie.Need-sub-insert
-sub-insert c = search needs
+shr-top : tie.Need-shr-top
+shr-top c = search needs
 
-insert-requires : tie.Need-insert-requires
-insert-requires c κs = search needs
+slice-aggregate-add-shifted : tie.Need-slice-aggregate-add-shifted
+slice-aggregate-add-shifted c = search needs
 
-shift-requires : tie.Need-shift-requires
-shift-requires c κs =
-    let i = c .before .before .before in
-    let s = i .before .before .before .before in
-    let k = i .insert .kept .0 ∙ s .pre .0 .words in
-    (k, s .pre .1, s .pre .2, top-zero (i .insert .last .0) k (rw (i .insert .ensures) (part-lt _ (s .args .u) (s .args .l) (s .pre .0 .small) (s .pre .3) (s .pre .2))))
+add-shifted-requires : tie.Need-add-shifted-requires
+add-shifted-requires c κs = let s = c .before .before .before .before .before in (refl, omega (arith, s .pre .0 .words), s .pre .1, s .pre .2)
 
-reduce-requires : tie.Need-reduce-requires
-reduce-requires c κs =
-    let k = c .before .before in
-    reducing-less _ _ (k .before .before .before .before .before .before .before .before .before .before .args .p) 0 (omega arith) (held k)
+slice-aggregate-add-top : tie.Need-slice-aggregate-add-top
+slice-aggregate-add-top c = search needs
+
+add-top-requires : tie.Need-add-top-requires
+add-top-requires c κs = search needs
+
+slice-aggregate-copy : tie.Need-slice-aggregate-copy
+slice-aggregate-copy c = search needs
+
+copy-requires : tie.Need-copy-requires
+copy-requires c κs =
+    let s = c .before .before .before .before .before .before .before .before .before .before .before .before in
+    (omega (arith, s .pre .0 .words), omega (arith, c .before .before .before .add-top .kept .0, c .before .before .before .before .before .before .add-shifted .kept .0), omega arith, refl)
 
 same-length : tie.Need-same-length
 same-length c = search needs
 
 returns : tie.Need-returns
-returns c = rw (← fed (c .before .before .before .before .before)) (c .before .before .reduce .ensures)
-
-reduce-requires-2 : tie.Need-reduce-requires-2
-reduce-requires-2 c κs =
-    let k = c .before .before in
-    reducing-less _ _ (k .before .before .before .before .before .before .before .before .before .before .args .p) 384 (c .before .if1 .left) (held k)
-
-same-length-2 : tie.Need-same-length-2
-same-length-2 c = search needs
-
-returns-2 : tie.Need-returns-2
-returns-2 c = rw (← fed (c .before .before .before .before .before)) (c .before .before .reduce2 .ensures)
+returns c =
+    let s = c .before .before .before .before .before .before .before .before .before .before .before .before .before .before .before in
+    let p = s .pre .0 in
+    let a = c .before .before .before .before .before .before .before .before .before .add-shifted in
+    let m = c .before .before .before .before .before .before .add-top in
+    let o = c .before .before .copy in
+    let w = part-parts (s .args .r .now) (a .last .0) (s .args .l) (λ k. c .before .before .before .before .before .before .before .before .before .before .before .before .before .before .slice-known .given k .fits) (p .words) (p .small) (s .pre .2) (a .ensures) in
+    step-law (s .args .t .now) (s .args .r .now) (a .last .0) (m .last .0) (o .last .0) _ (s .args .u) (s .args .l) (p .words) (p .small) (λ k. c .slice-known3 .given k .fits) (o .kept .0 ∙ p .words)
+    (m .kept .0 ∙ a .kept .0) (w .0) (w .1) (m .ensures .0) (o .ensures)
 
 pub step-part-spec : {M : Type 1} → statement M
 step-part-spec =
     tie.close
     (tie.spec
-    sub-insert
-    insert-requires
-    shift-requires
-    reduce-requires
+    slice-read-top
+    sub-top
+    shr-top
+    slice-aggregate-add-shifted
+    add-shifted-requires
+    slice-aggregate-add-top
+    add-top-requires
+    slice-aggregate-copy
+    copy-requires
     same-length
-    returns
-    reduce-requires-2
-    same-length-2
-    returns-2)
+    returns)

@@ -2,9 +2,7 @@ use borrow.Author.Needs.{needs}
 use mathlib.Core.Path.{refl, _∙_}
 use Prim.Native.Nat.{_-_, _≤_}
 use native.Mathlib.Omega.{arith}
-use Rattle.kernels.specs.Above.{next-clear, next-start, word-step}
-use Rattle.kernels.specs.Row.{top-zero}
-use Rattle.kernels.specs.Value.{Bounded}
+use Rattle.kernels.specs.Above.{kept-clear, next-start, one-less, step-law, word-parts}
 use Rattle.kernels.proofs.remainder.step_word.Statement.{statement}
 use Rattle.kernels.proofs.remainder.step_word.Tie as tie
 
@@ -37,7 +35,7 @@ copy-requires c κs =
     let g = k .before .before .before .before .before in
     let s = g .before in
     let f : s .args .from ≤ 11 = omega (arith, s .pre .place) in
-    (omega (arith, s .pre .words), omega (arith, n .add-top .kept .0, k .copy-next .kept .0), omega (arith, f), next-clear (s .args .r .now) (k .copy-next .last .0) (n .add-top .last .0) (s .args .from) (λ j. g .slice-known .given j .fits) (s .pre .words) f (s .pre .low) (k .copy-next .ensures .1) (n .add-top .ensures .1))
+    (omega (arith, s .pre .words), omega (arith, n .add-top .kept .0, k .copy-next .kept .0), omega (arith, f), kept-clear (s .args .r .now) (k .copy-next .last .0) (n .add-top .last .0) (s .args .from) (λ j. g .slice-known .given j .fits) (s .pre .words) f (s .pre .low) (one-less (k .copy-next .last .0) _ (s .args .from) (k .copy-next .ensures .1)) (n .add-top .ensures .1))
 
 same-length : tie.Need-same-length
 same-length c = search needs
@@ -49,9 +47,9 @@ returns c =
     let k = n .before .before .before in
     let g = k .before .before .before .before .before in
     let s = g .before in
-    let b : Bounded 64 (s .args .r .now) = λ j. g .slice-known .given j .fits in
-    word-step (s .args .t .now) (s .args .r .now) (k .copy-next .last .0) (n .add-top .last .0) (o .copy .last .0) (s .args .u) b (s .pre .words) (s .pre .small) (λ j. c .slice-known3 .given j .fits) (o .copy .kept .0 ∙ s .pre .words)
-    (n .add-top .kept .0 ∙ k .copy-next .kept .0) (top-zero (s .args .r .now) (s .pre .words) (s .pre .small)) (k .copy-next .ensures .0) (n .add-top .ensures .0) (o .copy .ensures)
+    let w = word-parts (s .args .r .now) (k .copy-next .last .0) (λ j. g .slice-known .given j .fits) (s .pre .words) (s .pre .small) (k .copy-next .ensures .0) in
+    step-law (s .args .t .now) (s .args .r .now) (k .copy-next .last .0) (n .add-top .last .0) (o .copy .last .0) _ (s .args .u) 64 (s .pre .words) (s .pre .small) (λ j. c .slice-known3 .given j .fits) (o .copy .kept .0 ∙ s .pre .words)
+    (n .add-top .kept .0 ∙ k .copy-next .kept .0) (w .0) (w .1) (n .add-top .ensures .0) (o .copy .ensures)
 
 pub step-word-spec : {M : Type 1} → statement M
 step-word-spec =

@@ -10,10 +10,6 @@ use Rattle.kernels.specs.Build.{Rows, rows-done, rows-start}
 use borrow.Author.Needs.{needs}
 use Rattle.kernels.proofs.table.build.Statement.{statement}
 use Rattle.kernels.proofs.table.build.Tie as tie
-use Rattle.kernels.proofs.table.clear_row.Reads as clear-row-reads
-use Rattle.kernels.proofs.table.fill_place.Reads as fill-place-reads
-use Rattle.kernels.proofs.table.place.Reads as place-reads
-use Rattle.kernels.proofs.table.put_row.Reads as put-row-reads
 
 abbrev Inv-loop : tie.InvT-loop
 Inv-loop t₀ g k₀ t k = (1 ≤ k) × (k ≤ 16) × (length t ≡ 3072) × Rows (value 64 g) t (16 * k)

@@ -8,7 +8,6 @@ use Rattle.kernels.specs.Build.{Grown, begun-on, grown-on, grown-start, 
 use borrow.Author.Needs.{needs}
 use Rattle.kernels.proofs.table.fill.Statement.{statement}
 use Rattle.kernels.proofs.table.fill.Tie as tie
-use Rattle.kernels.proofs.table.sum_row.Reads as sum-row-reads
 
 abbrev Inv-loop : tie.InvT-loop
 Inv-loop t₀ k m b₀ t b = (1 ≤ b) × (b ≤ m) × (length t ≡ 3072) × Grown t₀ t (16 * k + m + 1) (16 * k + m + b)

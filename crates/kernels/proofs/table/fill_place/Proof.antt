@@ -8,8 +8,6 @@ use Rattle.kernels.specs.Build.{Grown, begun-on, few, grown-on, grown-st
 use borrow.Author.Needs.{needs}
 use Rattle.kernels.proofs.table.fill_place.Statement.{statement}
 use Rattle.kernels.proofs.table.fill_place.Tie as tie
-use Rattle.kernels.proofs.table.fill.Reads as fill-reads
-use Rattle.kernels.proofs.table.move_row.Reads as move-row-reads
 
 abbrev Inv-loop : tie.InvT-loop
 Inv-loop t₀ k m₀ s₀ t m s = (1 ≤ s) × (s ≤ 4) × (m ≡ 2 ^ s) × (length t ≡ 3072) × Grown t₀ t (16 * k + 2) (16 * k + m)

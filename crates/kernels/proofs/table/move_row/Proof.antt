@@ -4,9 +4,6 @@ use Rattle.kernels.specs.Build.{aside, grown-move, top-is, word-before}
 use borrow.Author.Needs.{needs}
 use Rattle.kernels.proofs.table.move_row.Statement.{statement}
 use Rattle.kernels.proofs.table.move_row.Tie as tie
-use Rattle.kernels.proofs.table.add_moved.Reads as add-moved-reads
-use Rattle.kernels.proofs.table.add_row.Reads as add-row-reads
-use Rattle.kernels.proofs.table.put_row.Reads as put-row-reads
 
 mul-at : tie.Need-mul-at
 mul-at c = search needs

@@ -6,9 +6,6 @@ use Rattle.kernels.specs.Build.{Begun, Grown, begun-on, grown-clear, gro
 use borrow.Author.Needs.{needs}
 use Rattle.kernels.proofs.table.place.Statement.{statement}
 use Rattle.kernels.proofs.table.place.Tie as tie
-use Rattle.kernels.proofs.table.clear_row.Reads as clear-row-reads
-use Rattle.kernels.proofs.table.fill_place.Reads as fill-place-reads
-use Rattle.kernels.proofs.table.move_row.Reads as move-row-reads
 
 mul-clear-row : tie.Need-mul-clear-row
 mul-clear-row c = search needs

@@ -3,8 +3,6 @@ use Rattle.kernels.specs.Build.{aside, grown-sum}
 use borrow.Author.Needs.{needs}
 use Rattle.kernels.proofs.table.sum_row.Statement.{statement}
 use Rattle.kernels.proofs.table.sum_row.Tie as tie
-use Rattle.kernels.proofs.table.add_row.Reads as add-row-reads
-use Rattle.kernels.proofs.table.put_row.Reads as put-row-reads
 
 slice-aggregate-add-row : tie.Need-slice-aggregate-add-row
 slice-aggregate-add-row c = search needs
