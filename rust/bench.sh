@@ -12,7 +12,7 @@ python3 plot.py target/figures.csv ../docs/benchmarks.svg
 cat > ../docs/BENCHMARKS.md <<TEXT
 # Benchmarks
 
-Made by \`rust/bench.sh\` from the archive that \`rt staticlib\` builds. *Archive* is that archive's calls: everything is worked out afresh in each call, the sheet's test, generators, tables, and nothing is kept between
+Made by \`rust/bench.sh\` from the archive that \`rt staticlib\` builds. *Archive* is that archive's calls: in each call the sheet is tested, the generators are read from constants and their tables made; nothing is kept between
 calls. *Reference* is the independent Rust encoder of \`rust/reference\`, written for comparison and not for speed; it keeps its generators and tables between calls. CRC-32 is a table CRC, a byte at a time.
 
 ![Time against width, and against the page's bits](benchmarks.svg)
