@@ -14,7 +14,7 @@ use Rattle.field.specs.Fields.{Known}
 use Rattle.field.specs.Elements.{times, power}
 use Rattle.tables.specs.Tables.{Powers, Logs}
 use Rattle.element.specs.declared.Field.{Field}
-use Rattle.element.specs.Fields.{Sized, size-least}
+use Rattle.element.specs.Fields.{Sized, size-least, size-most}
 use Rattle.element.specs.Exponents.{raise, times-power, raise-power}
 
 -- a is α^k, with k below the order of α
@@ -63,6 +63,10 @@ module _ (f : Field) (p l : List ℕ) (t : Tables f p l) where
 module _ (q : ℕ) (known : Known q) where
   pub exponent-lt : (e k : ℕ) → e ≡ k % (2 ^ q - 1) → e < 2 ^ q - 1
   exponent-lt e k w = rw w (Nat.mod-lt k (omega (arith, size-least q known)))
+
+  -- the sum of two logs: 16 bits hold it
+  pub log-sum-most : (i j : ℕ) → i < 2 ^ q - 1 → j < 2 ^ q - 1 → i + j ≤ 8188
+  log-sum-most i j a b = omega (arith, size-most q known)
 
   pub times-lent : (a b i j e : ℕ) → LogOf q a i → LogOf q b j → e ≡ (i + j) % (2 ^ q - 1) → power q e ≡ times q a b
   times-lent a b i j e x y w = ap (power q) w ∙ sym (times-power q known i j) ∙ ap₂ (times q) (x .power) (y .power)

@@ -1,6 +1,6 @@
 // Elements of the three fields, as numbers below 2^q: sums, products and powers, by tables of powers and logs.
 ghost use mathlib.Core.Path.{_≡_};
-ghost use Prim.Native.Nat.{_+_, _%_, _^_, _<_};
+ghost use Prim.Native.Nat.{_+_, _-_, _%_, _^_, _<_};
 ghost use lib.ListN.{length};
 ghost use Rattle.field.specs.Elements.{times, power};
 ghost use Rattle.field.specs.Fields.{Known};
@@ -79,11 +79,11 @@ pub fn root(powers: &[u16], e: u32) -> u32
 }
 
 // The exponent of a, an element above 0.
-pub fn log(logs: &[u16], a: u32) -> u32
+pub fn log(logs: &[u16], a: u32) -> u16
     requires { ⌜ a < length (now logs) ⌝ }
     ensures { λ r. ⌜ LogIn (now (logs .entry)) a r ⌝ }
 {
-    logs[a as usize] as u32
+    logs[a as usize]
 }
 
 // s modulo n, for s below 2 n.
@@ -92,6 +92,17 @@ pub fn modulo(n: u32, s: u32) -> u32
     ensures { λ r. ⌜ (r ≡ s % n) × (r < n) ⌝ }
 {
     if s < n { s } else { s - n }
+}
+
+// The log of the product of two elements with the logs i and j: their sum modulo n = 2^q - 1. The sum is at most 8,188, and 16 bits hold
+// it. The test asks i, which is there before the sum.
+pub fn add_logs(f: Field, i: u16, j: u16) -> u16
+    requires { ⌜ Sized f × (i < 2 ^ f .q - 1) × (j < 2 ^ f .q - 1) ⌝ }
+    ensures { λ r. ⌜ r ≡ (i + j) % (2 ^ f .q - 1) ⌝ }
+{
+    let k = i + j;
+    let left = f.order as u16 - j;
+    if i < left { k } else { i - left }
 }
 
 // The product a b.
@@ -107,8 +118,8 @@ pub fn times_lent(powers: &[u16], logs: &[u16], f: Field, a: u32, b: u32) -> u32
     }
     let i = log(logs, a);
     let j = log(logs, b);
-    let e = modulo(f.order, i + j);
-    root(powers, e)
+    let e = add_logs(f, i, j);
+    root(powers, e as u32)
 }
 
 // The power a^k.

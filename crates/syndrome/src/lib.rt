@@ -28,7 +28,7 @@ fn coefficient_at(r: &[u64], k: usize) -> u32
 }
 
 // α^e, and 0 for another bit than 1.
-fn term(powers: &[u16], e: u32, b: u32) -> u32
+fn term(powers: &[u16], e: u16, b: u32) -> u32
     requires { ⌜ (e < length (now powers)) × (b < 2) ⌝ }
     ensures { λ r. ⌜ r ≡ b * getD (now (powers .entry)) e 0 ⌝ }
 {
@@ -41,14 +41,15 @@ pub fn syndrome_at(powers: &[u16], logs: &[u16], f: Field, r: &[u64], w: usize, 
     requires { ⌜ Tables f (now powers) (now logs) × (w ≤ 64 * length (now r)) × (value 64 (now r) < 2 ^ w) × (j < 2 ^ f .q - 1) ⌝ }
     ensures { λ x. ⌜ x ≡ syndrome (f .q) (value 64 (now (r .entry))) j ⌝ }
 {
+    let d = j as u16;
     let mut x: u32 = 0;
-    let mut e: u32 = 0;
+    let mut e: u16 = 0;
     let mut k: usize = 0;
     while k < w {
         let b = coefficient_at(r, k);
         let y = term(powers, e, b);
         x = x ^ y;
-        e = element::modulo(f.order, e + j);
+        e = element::add_logs(f, e, d);
         k += 1;
     }
     x

@@ -1,4 +1,3 @@
-use native.Mathlib.Omega.{arith}
 use borrow.Author.Needs.{needs}
 use Rattle.element.specs.Lent.{log-in}
 use Rattle.element.proofs.log.Statement.{statement}
@@ -10,11 +9,8 @@ mul-result c = search needs
 shared-slice-read-result : tie.Need-shared-slice-read-result
 shared-slice-read-result c = search needs
 
-cast-result : tie.Need-cast-result
-cast-result c = omega (arith, c .shared-slice-known .given (c .before .args .a))
-
 returns : tie.Need-returns
 returns c = log-in (c .before .args .logs .now) (c .before .args .a)
 
 pub log-spec : {M : Type 1} → statement M
-log-spec = tie.close (tie.spec mul-result shared-slice-read-result cast-result returns)
+log-spec = tie.close (tie.spec mul-result shared-slice-read-result returns)

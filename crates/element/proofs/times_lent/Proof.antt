@@ -1,12 +1,11 @@
-use mathlib.Core.Path.{_≡_, sym, ap, _∙_}
+use mathlib.Core.Path.{sym, ap, _∙_}
 use mathlib.Core.List.{List}
-use Prim.Native.Nat.{ℕ, _+_, _-_, _%_, _^_, _<_}
+use Prim.Native.Nat.{ℕ, _+_, _-_, _^_, _<_}
 use native.Mathlib.Nat.{pos-of-ne-zero, lt-of-lt-of-le}
-use native.Mathlib.Omega.{arith}
+use borrow.Author.Needs.{needs}
 use Rattle.field.specs.Elements.{times}
 use Rattle.element.specs.Exponents.{times-zero-l, times-zero-r}
 use Rattle.element.specs.declared.Field.{Field}
-use Rattle.element.specs.Fields.{size-most}
 use Rattle.element.specs.Lent.{LogOf, Tables, power-room, log-room, exponent-lt, times-lent}
 use Rattle.element.proofs.times_lent.Statement.{statement}
 use Rattle.element.proofs.times_lent.Tie as tie
@@ -54,22 +53,19 @@ module _ (c : tie.After-log2) where
   log-b : LogOf (q d) (s d .args .b) (c .log2 .result)
   log-b = c .log2 .ensures .log (q d) (tables d .logs) (pos-of-ne-zero (d .if2 .left)) (s d .pre .2)
 
-add-modulo : tie.Need-add-modulo
-add-modulo c = omega (arith, log-a c .below, log-b c .below, size-most (q (d c)) (tables (d c) .field .known))
-
-modulo-requires : tie.Need-modulo-requires
-modulo-requires c κs = omega (arith, log-a c .below, log-b c .below, tables (d c) .field .order)
+add-logs-requires : tie.Need-add-logs-requires
+add-logs-requires c κs = (tables (d c) .field, log-a c .below, log-b c .below)
 
 -- the exponent of the product
-module _ (c : tie.After-modulo) where
+module _ (c : tie.After-add-logs) where
   abbrev b : tie.After-log2
   b = c .before
 
-  exponent : c .modulo .result ≡ (b .before .log .result + b .log2 .result) % (2 ^ q (d b) - 1)
-  exponent = c .modulo .ensures .0 ∙ ap (λ (n : ℕ). (b .before .log .result + b .log2 .result) % n) (tables (d b) .field .order)
+  below : c .add-logs .result < 2 ^ q (d b) - 1
+  below = exponent-lt (q (d b)) (tables (d b) .field .known) (c .add-logs .result) (b .before .log .result + b .log2 .result) (c .add-logs .ensures)
 
-  below : c .modulo .result < 2 ^ q (d b) - 1
-  below = exponent-lt (q (d b)) (tables (d b) .field .known) (c .modulo .result) (b .before .log .result + b .log2 .result) exponent
+cast-root : tie.Need-cast-root
+cast-root c = search needs
 
 root-requires : tie.Need-root-requires
 root-requires c κs = let e = d (b c) in lt-of-lt-of-le (below c) (power-room (f e) (p e) (l e) (tables e))
@@ -79,7 +75,7 @@ returns-3 c =
     let m = c .before in
     let e = d (b m) in
     c .root .ensures .root (q e) (tables e .powers) (below m)
-    ∙ times-lent (q e) (tables e .field .known) (s e .args .a) (s e .args .b) (b m .before .log .result) (b m .log2 .result) (m .modulo .result) (log-a (b m)) (log-b (b m)) (exponent m)
+    ∙ times-lent (q e) (tables e .field .known) (s e .args .a) (s e .args .b) (b m .before .log .result) (b m .log2 .result) (m .add-logs .result) (log-a (b m)) (log-b (b m)) (m .add-logs .ensures)
 
 pub times-lent-spec : {M : Type 1} → statement M
 times-lent-spec =
@@ -89,7 +85,7 @@ times-lent-spec =
     returns-2
     log-requires
     log-requires-2
-    add-modulo
-    modulo-requires
+    add-logs-requires
+    cast-root
     root-requires
     returns-3)
