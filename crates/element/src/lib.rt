@@ -95,7 +95,7 @@ pub fn modulo(n: u32, s: u32) -> u32
 }
 
 // The log of the product of two elements with the logs i and j: their sum modulo n = 2^q - 1. The sum is at most 8,188, and 16 bits hold
-// it. The test asks i, which is there before the sum.
+// it. The test is of i against n - j, so that it does not wait for the sum.
 pub fn add_logs(f: Field, i: u16, j: u16) -> u16
     requires { ⌜ Sized f × (i < 2 ^ f .q - 1) × (j < 2 ^ f .q - 1) ⌝ }
     ensures { λ r. ⌜ r ≡ (i + j) % (2 ^ f .q - 1) ⌝ }

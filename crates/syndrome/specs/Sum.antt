@@ -16,10 +16,8 @@ use Rattle.polynomial.specs.Digits.{value, value-coefficient}
 use Rattle.polynomial.specs.Sums.{at-all}
 use Rattle.polynomial.specs.Xor.{xor, xor-is}
 use Rattle.field.specs.Elements.{power, sumBelow, sumBelow-zero, sumBelow-suc, syndrome, syndrome-sum}
-use Rattle.field.specs.Fields.{Known}
 use Rattle.element.specs.Exponents.{power-mod}
 use Rattle.element.specs.declared.Field.{Field}
-use Rattle.element.specs.Fields.{size-least}
 use Rattle.element.specs.Lent.{Tables}
 
 abbrev pub partSum : ℕ → ℕ → ℕ → ℕ → ℕ
@@ -60,10 +58,6 @@ module _ (f : Field) (p l : List ℕ) (t : Tables f p l) (c j : ℕ) where
 -- a coefficient in its word
 pub bit-at : (l : List ℕ) → ((i : ℕ) → getD l i 0 < 2 ^ 64) → (k : ℕ) → getD l (k / 64) 0 / 2 ^ (k % 64) % 2 ≡ coefficient (value 64 l) k
 bit-at l h k = sym (value-coefficient 64 (omega arith) l (at-all (λ d. d < 2 ^ 64) l (λ i b. h i)) k)
-
--- the next exponent is one
-pub exponent-lt : (q j k e : ℕ) → Known q → e ≡ j * k % (2 ^ q - 1) → e < 2 ^ q - 1
-exponent-lt q j k e h f = rw f (Nat.mod-lt (j * k) (omega (arith, size-least q h)))
 
 -- a bit times a number is no greater
 pub bit-times-lt : (b x w : ℕ) → b < 2 → x < 2 ^ w → b * x < 2 ^ w

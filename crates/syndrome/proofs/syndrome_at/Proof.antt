@@ -2,13 +2,13 @@ use borrow.Author.Needs.{needs}
 use mathlib.Core.List.{List}
 use native.Mathlib.Nat as Nat
 use native.Mathlib.Omega.{arith}
-use Prim.Native.Nat.{ℕ, _-_, _^_, _≤_, _<_}
+use Prim.Native.Nat.{ℕ, _-_, _*_, _^_, _≤_, _<_}
 use lib.Pow.{pow-mono}
 use Rattle.polynomial.specs.Digits.{value}
 use Rattle.element.specs.declared.Field.{Field}
 use Rattle.element.specs.Fields.{size-most}
-use Rattle.element.specs.Lent.{Tables, power-room}
-use Rattle.syndrome.specs.Sum.{Summing, sum-start, sum-next, sum-done, exponent-lt}
+use Rattle.element.specs.Lent.{Tables, power-room, exponent-lt}
+use Rattle.syndrome.specs.Sum.{Summing, sum-start, sum-next, sum-done}
 use Rattle.syndrome.proofs.syndrome_at.Statement.{statement}
 use Rattle.syndrome.proofs.syndrome_at.Tie as tie
 
@@ -50,9 +50,9 @@ loop-holds b = (sum-start (f b) (p b) (t b) (tables b) (c b) (j b), omega arith)
 coefficient-at-requires : tie.Need-coefficient-at-requires Inv-loop μ-loop
 coefficient-at-requires c κs = search needs
 
--- at the loop's test: the exponent is one
+-- at the loop's test the exponent is below n
 exponent-below : (l : tie.At-loop Inv-loop μ-loop) → l .loop .e < 2 ^ f (l .before) .q - 1
-exponent-below l = let b = l .before in exponent-lt (f b .q) (j b) (l .loop .k) (l .loop .e) (tables b .field .known) (l .loop .inv .0 .place)
+exponent-below l = let b = l .before in exponent-lt (f b .q) (tables b .field .known) (l .loop .e) (j b * l .loop .k) (l .loop .inv .0 .place)
 
 term-requires : tie.Need-term-requires Inv-loop μ-loop
 term-requires a κs =
