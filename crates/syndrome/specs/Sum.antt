@@ -3,13 +3,12 @@
 --   Summing q c j k e x    after k coefficients: the next exponent is e, the sum x
 use mathlib.Core.Path.{_≡_, sym, ap, ap₂, _∙_}
 use mathlib.Core.List.{List}
-use Prim.Native.Nat.{ℕ, zero, suc, _+_, _-_, _*_, _/_, _%_, _^_, _<_}
+use Prim.Native.Nat.{ℕ, _+_, _-_, _*_, _/_, _%_, _^_, _<_}
 use native.Mathlib.Nat as Nat
 use native.Mathlib.Numerals.{add-one}
 use native.Mathlib.Omega.{arith}
 use lib.Bits.{bitXor}
 use lib.ListN.{getD}
-use lib.Pow.{pow-pos}
 use lib.Seq.{getD-take}
 use Rattle.polynomial.specs.Bits.{coefficient}
 use Rattle.polynomial.specs.Digits.{value, value-coefficient}
@@ -58,9 +57,3 @@ module _ (f : Field) (p l : List ℕ) (t : Tables f p l) (c j : ℕ) where
 -- a coefficient in its word
 pub bit-at : (l : List ℕ) → ((i : ℕ) → getD l i 0 < 2 ^ 64) → (k : ℕ) → getD l (k / 64) 0 / 2 ^ (k % 64) % 2 ≡ coefficient (value 64 l) k
 bit-at l h k = sym (value-coefficient 64 (omega arith) l (at-all (λ d. d < 2 ^ 64) l (λ i b. h i)) k)
-
--- a bit times a number is no greater
-pub bit-times-lt : (b x w : ℕ) → b < 2 → x < 2 ^ w → b * x < 2 ^ w
-bit-times-lt zero x w h l = rw (Nat.zero-mul x) (pow-pos w)
-bit-times-lt (suc zero) x w h l = rw (Nat.one-mul x) l
-bit-times-lt (suc (suc b)) x w h l = absurd (omega arith)

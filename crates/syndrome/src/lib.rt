@@ -32,8 +32,10 @@ fn term(powers: &[u16], e: u16, b: u32) -> u32
     requires { ⌜ (e < length (now powers)) × (b < 2) ⌝ }
     ensures { λ r. ⌜ r ≡ b * getD (now (powers .entry)) e 0 ⌝ }
 {
-    let x = powers[e as usize];
-    b * (x as u32)
+    if b == 0 {
+        return 0;
+    }
+    powers[e as usize] as u32
 }
 
 // S_j of the polynomial in r, which has w coefficients at most.
