@@ -148,6 +148,12 @@ def distance(sheet):
     return min([(v + 1) * (2 * t[0] + 1)] + [b * (2 * t[v - b + 1] + 1) for b in range(1, v + 1)])
 
 
+def quote(sheet):
+    """The degrees in four places and the data bits in eight, 0 in those that are left."""
+    degrees = [degree(sheet, a) for a in range(sheet[2] + 1)]
+    return degrees + [0] * (4 - len(degrees)) + block_bits(sheet) + [0] * (8 - sheet[1])
+
+
 # ---- layout
 
 def bits_of_bytes(data):

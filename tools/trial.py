@@ -15,7 +15,7 @@ from pathlib import Path
 import cases
 from cases import A, ALIKE, B, DEEP, EIGHT, FIELD, LARGE, SMALL, TIGHT, WIDE, below, nesting, number, refusal, some_bytes, strength
 
-TEST, NESTING, GENERATORS, ELEMENTS, OPEN, FEED, REMAINDER, SHORT, NESTED, SYNDROMES, NESTED_SYNDROMES, JUDGE, READ_OUT, WRITE = range(14)
+TEST, NESTING, GENERATORS, ELEMENTS, OPEN, FEED, REMAINDER, SHORT, NESTED, SYNDROMES, NESTED_SYNDROMES, JUDGE, READ_OUT, WRITE, QUOTE = range(15)
 WIDTHS = (1, 7, 8, 63, 64)
 
 BYTE = (8, 4, 2, 3, 5, 9, 0)
@@ -124,7 +124,7 @@ assert ones() == other
 # ---- records
 
 given, expected = bytearray(), bytearray()
-seen = [set() for _ in range(14)]
+seen = [set() for _ in range(15)]
 
 
 def le(x, size=8):
@@ -155,6 +155,24 @@ def tests():
     assert len(every) == 104
     for s in every + [(4, m, 1, t0, t1, 0, 0) for m in (2, 3, 4, 6) for t0 in range(9) for t1 in range(9)]:
         test(s)
+
+
+def quotes():
+    def quote(s, size):
+        code = refusal(s, room=(size, lambda: 12))
+        record(QUOTE, s, le(code, 1) + b''.join(le(x, 2) for x in ([42405] * size if code else cases.quote(s))), size=size)
+
+    for s in SHEETS + REFUSED + EDGES:
+        for size in (12, 0, 4, 11, 13, 24):
+            quote(s, size)
+    for s in cases.every():
+        quote(s, 12)
+    # t 16 and 17 of q 8 have one generator; every strength of the large fields
+    assert cases.gen((8, 2, 1, 16, 17, 0, 0), 0) == cases.gen((8, 2, 1, 16, 17, 0, 0), 1)
+    for q in (8, 12):
+        for t in range(1, 64):
+            quote((q, 2, 1, t, t + 1, 0, 0), 12)
+    assert seen[QUOTE] == {0, 1, 2, 3, 4, 10}
 
 
 def nestings():
@@ -337,6 +355,7 @@ def pages():
 
 if __name__ == '__main__':
     tests()
+    quotes()
     nestings()
     elements()
     registers()

@@ -4,13 +4,16 @@
 --   outcome r, unlessRefused r v, leaves r x old   the answer and the buffer by the refusal r, 0 for none
 --   judgeNumber, judgeValues, readNumber, readValues    number and values of a page's verdict, apart from the enum: the refusal's,
 --                                                       else those of the first word that fails
+--   quote p                                        the 12 numbers of the quote
+--   sizeUnless r x                                 the size x or, under the refusal r, 0
 --   Made, Named, Judged, ReadOut, ..               what a call promises, of its answer and of the buffer after it;
 --                                                  the ..C ones are the C calls'
 use mathlib.Core.Path.{_≡_}
 use mathlib.Core.Bool.{cond}
+use mathlib.Core.Logic.{_≢_, _↔_}
 use mathlib.Core.List.{List, [], _∷_, _++_, map}
 use Prim.Native.Nat.{ℕ, zero, suc, _+_, _-_, _*_, _^_, _≤_}
-use lib.Dec.{leb}
+use lib.Dec.{leb, ltb}
 use lib.ListN.{length, getD, replicate}
 use Rattle.polynomial.specs.Digits.{value, digits}
 use Rattle.polynomial.specs.Division.{rem}
@@ -23,9 +26,9 @@ use Rattle.code.specs.Register.{Register, Fed}
 use Rattle.code.specs.Lists.{range, _orElse_, valuesBy, lastRefusal}
 use Rattle.code.specs.Parameters.{nestedBytes, strength, sheetRefusal}
 use Rattle.code.specs.Code.{gen, degree, remainder, nested, N, shortRemainder, syndromes, verdict, failingNumber, failingValues}
-use Rattle.code.specs.Layout.{wordsOf, pageOf, dataOf}
+use Rattle.code.specs.Layout.{wordsOf, pageOf, dataBits, dataOf}
 use Rattle.code.specs.Refusals.{writeRefusal, readRefusal, judgeRefusal, remainderRefusal, shortRefusal, nestedRefusal}
-use Rattle.code.specs.Refusals.{syndromesRefusal, nestedSyndromesRefusal, openRefusal, feedRefusal, nestingRefusal}
+use Rattle.code.specs.Refusals.{syndromesRefusal, nestedSyndromesRefusal, openRefusal, feedRefusal, quoteRefusal, nestingRefusal}
 
 -- ---- numbers and values of the answers
 abbrev pub outcomeNumber : Outcome → ℕ
@@ -244,6 +247,32 @@ rowsBy (suc k) rows = replicate 4 (replicate 13 0)
 unfoldable pub generators : Parameters → List (List ℕ)
 unfolding digits gen sheetRefusal
 generators p = rowsBy (sheetRefusal p) (map (generatorRow p) (range 0 4))
+
+-- ---- the quote: the degrees w_0 to w_v in four places and the data bits of blocks 0 to m - 1 in eight; the places past v and past m are 0
+abbrev pub degreeQuoted : Parameters → ℕ → ℕ
+degreeQuoted p a = cond (leb a (p .v)) (degree p a) 0
+
+abbrev pub bitsQuoted : Parameters → ℕ → ℕ
+bitsQuoted p i = cond (ltb i (p .m)) (dataBits p i) 0
+
+unfoldable pub quote : Parameters → List ℕ
+unfolding range degree
+quote p = map (degreeQuoted p) (range 0 4) ++ map (bitsQuoted p) (range 0 8)
+
+abbrev pub QuoteMade : Parameters → List ℕ → List ℕ → Outcome → Type 0
+QuoteMade p out after r = Made (quoteRefusal 1 p (length out)) (quote p) out after r
+
+abbrev pub QuoteMadeC : Parameters → List ℕ → List ℕ → ℕ → Type 0
+QuoteMadeC p out after r = MadeC (quoteRefusal 2 p (length out)) (asBytes (quote p)) out after r
+
+-- ---- C's sizes of a sheet: the size or, where the sheet is refused, 0, which is no size
+abbrev pub sizeUnless : ℕ → ℕ → ℕ
+sizeUnless zero size = size
+sizeUnless (suc k) size = 0
+
+pub record SizeC (p : Parameters) (size answer : ℕ) : Type 0 where
+  pub answers : answer ≡ sizeUnless (sheetRefusal p) size
+  pub refused : (answer ≡ 0) ↔ (sheetRefusal p ≢ 0)
 
 -- ---- the nesting coefficient's call
 abbrev pub nestingBy : ℕ → ℕ → Nesting

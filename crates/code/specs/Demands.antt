@@ -5,11 +5,14 @@
 --   Demand2 p            fields, generators, remainders, syndromes, registers, placement,
 --                        membership and written pages are those of the code
 --   Demand3 p            alike at every two widths; sums; members are what is written again; distance
+--   QuoteLaws p number   the numbers that the quote gives; QuotedPage p number blocks page: a written page has so many check and data bits
 --   Demand3C p           the same of the C calls: WrittenC, ReadOutC, JudgedC, whose answers are numbers, 0 for done and member
+--   QuotedC p            the quote of C, whose numbers are bytes
 use mathlib.Core.Path.{_≡_}
 use mathlib.Core.Logic.{_≢_, _↔_}
 use mathlib.Core.List.{List, []}
 use Prim.Native.Nat.{ℕ, suc, _+_, _-_, _*_, _/_, _%_, _^_, _≤_, _<_}
+use lib.Dec.{eqb}
 use lib.ListN.{length, getD, take, drop}
 use Rattle.polynomial.specs.Bits.{coefficient}
 use Rattle.polynomial.specs.Clmul.{clmul}
@@ -24,12 +27,12 @@ use Rattle.field.specs.Irreducible.{NoFactor}
 use Rattle.code.specs.declared.Parameters.{Parameters}
 use Rattle.code.specs.declared.Outcome.{Outcome}
 use Rattle.code.specs.declared.Verdict.{Verdict}
-use Rattle.code.specs.Calls.{Judged, JudgedC, ReadOut, ReadOutC, Written, WrittenC, asBytes}
+use Rattle.code.specs.Calls.{Judged, JudgedC, QuoteMade, QuoteMadeC, ReadOut, ReadOutC, Written, WrittenC, asBytes}
 use Rattle.code.specs.Calls.{empty, generators, nestedOf, nestedSyndromeList, nestedWordBytes}
 use Rattle.code.specs.Calls.{opened, outcome, remainderBytes, shortBytes, subWordOf, syndromeList}
 use Rattle.code.specs.Code.{IsMember, N, carried, degree, distance, divisor, gen, nested, newton, remainder, shortRemainder}
-use Rattle.code.specs.Layout.{Bytes, Fits, IsPage, blockBit, blocksOf, coefficientOf, dataOf, differences, pageOf, wordsOf}
-use Rattle.code.specs.Lists.{sum}
+use Rattle.code.specs.Layout.{Bytes, Fits, IsPage, blockBit, blockSizes, blocksOf, coefficientOf, dataOf, differences, pageOf, wordsOf}
+use Rattle.code.specs.Lists.{any, countBelow, join, range, sum}
 use Rattle.code.specs.Parameters.{Accepted, full, len, stored, strength}
 use Rattle.code.specs.Refused.{BlocksBuffer, PageBuffer, Width}
 use Rattle.code.specs.Registers.{AllDone, cut, feedings}
@@ -56,6 +59,9 @@ pub record GeneratorLaws (p : Parameters) (a : ℕ) : Type 0 where
   pub alone : (f : ℕ) → Deg f (degree p a) → Vanishes (p .q) (strength p a) f → f ≡ gen p a
   pub of-degree : Deg (gen p a) (degree p a)
   pub degree-bound : degree p a ≤ p .q * strength p a
+  -- exactly, the number of different values of j × 2^s modulo n, j from 1 to 2t, s from 0 to q - 1
+  pub degree-exact : degree p a
+      ≡ countBelow (len p) (λ e. any (λ j. any (λ s. eqb (j * 2 ^ s % len p) e) (range 0 (p .q))) (range 1 (2 * strength p a)))
   pub degree-below : degree p a ≤ len p - 1
   pub multiples : (c : ℕ) → Multiple (gen p a) c ↔ Vanishes (p .q) (strength p a) c
   pub cyclic : Multiple (gen p a) (2 ^ len p + 1)
@@ -116,6 +122,27 @@ pub record PlacementLaws (p : Parameters) : Type 0 where
       ≡ remainder p (p .v - i)
       (xor (getD (blocksOf p b) i 0 * 2 ^ degree p (p .v - i)) (carried (p .v - i) i (drop (suc i) (wordsOf p (pageOf p b)))))
 
+-- the quote, whose numbers are number 0 to number 11: w_0 to w_v, then the data bits of each block, spare places 0
+pub record QuoteLaws (p : Parameters) (number : ℕ → ℕ) : Type 0 where
+  pub degrees : (a : ℕ) → a ≤ p .v → number a ≡ degree p a
+  pub data-bits : (i : ℕ) → i < p .m → number (4 + i) ≡ stored p - degree p (p .v - i)
+  pub past-v : (a : ℕ) → p .v < a → a < 4 → number a ≡ 0
+  pub past-m : (i : ℕ) → p .m ≤ i → i < 8 → number (4 + i) ≡ 0
+
+-- a written page has so many: sub-word i has number (v - i) check bits in its lowest places, and above them number (4 + i) data bits
+pub record QuotedPage (p : Parameters) (number : ℕ → ℕ) (blocks page : List ℕ) : Type 0 where
+  pub places : (i : ℕ) → i < p .m → number (p .v - i) + number (4 + i) ≡ stored p
+  -- the data bits stand above the check bits
+  pub placed : (i r : ℕ) → i < p .m → r < number (4 + i) → coefficientOf p page i (number (p .v - i) + r) ≡ blockBit p blocks i r
+  -- they are free: any numbers of so many bits are blocks that fit
+  pub free : (ds : List ℕ) → length ds ≡ p .m → ((i : ℕ) → i < p .m → getD ds i 0 < 2 ^ number (4 + i))
+      → Fits p (join (blockSizes p) ds) × (blocksOf p (join (blockSizes p) ds) ≡ ds)
+  -- and the check bits follow from them: no other member has the same data bits
+  pub follow : (x : List ℕ) → IsPage p x → IsMember p (wordsOf p x)
+      → ((i r : ℕ) → i < p .m → r < number (4 + i)
+      → coefficientOf p x i (number (p .v - i) + r) ≡ coefficientOf p page i (number (p .v - i) + r))
+      → x ≡ page
+
 -- judge's answer r for a page x: member exactly when the words are; a failing word is named exactly when it is the lowest, sub-words first
 pub record JudgeLaws (p : Parameters) (x : List ℕ) (r : Verdict) : Type 0 where
   pub member : (r ≡ Verdict.Member) ↔ IsMember p (wordsOf p x)
@@ -153,6 +180,11 @@ pub record Demand2 (p : Parameters) : Type 0 where
   pub judge-laws : (x : List ℕ) (r : Verdict) → IsPage p x → Judged p x r → JudgeLaws p x r
   pub write-laws : (L : ℕ) (blocks old after : List ℕ) (r : Outcome) → Width L → Fits p blocks → PageBuffer p old
       → Written p L blocks old after r → WriteLaws p blocks after r
+  -- the quote is done in a list of 12 numbers, and every page that write makes of blocks that fit has the bits quoted
+  pub quote-laws : (list after : List ℕ) (k : Outcome) → length list ≡ 12 → QuoteMade p list after k
+      → (k ≡ Outcome.Done) × (length after ≡ 12) × QuoteLaws p (λ j. getD after j 0)
+  pub quoted-pages : (number : ℕ → ℕ) (L : ℕ) (blocks old after : List ℕ) (r : Outcome) → QuoteLaws p number → Width L → Fits p blocks
+      → PageBuffer p old → Written p L blocks old after r → QuotedPage p number blocks after
   -- read out's answer is judge's, on every page that is lent with a buffer of the blocks' exact length
   pub read-laws : (x old out : List ℕ) (j r : Verdict) → BlocksBuffer p old → Judged p x j → ReadOut p x old out r → r ≡ j
   pub equal-form-laws : EqualFormLaws p
@@ -227,10 +259,19 @@ pub record Demand3C (p : Parameters) : Type 0 where
       → JudgedC p x j → ReadOutC p x old-blocks blocks r → WrittenC p L blocks old-page after w → RewritesC x after j r w
   pub apart : (x y : List ℕ) → Bytes x → Bytes y → JudgedC p x 0 → JudgedC p y 0 → x ≢ y → distance p ≤ differences p x y
 
+-- ---- the quote of C: number k stands at bytes 2k and 2k + 1 of 24, low byte first
+abbrev pub numberAt : List ℕ → ℕ → ℕ
+numberAt list k = value 8 (take 2 (drop (2 * k) list))
+
+pub record QuotedC (p : Parameters) : Type 0 where
+  pub quote-laws : (list after : List ℕ) (k : ℕ) → length list ≡ 24 → QuoteMadeC p list after k → (k ≡ 0) × QuoteLaws p (numberAt after)
+  pub quoted-pages : (number : ℕ → ℕ) (L : ℕ) (blocks old after : List ℕ) (r : ℕ) → QuoteLaws p number → Width L → Fits p blocks
+      → PageBuffer p old → WrittenC p L blocks old after r → QuotedPage p number blocks after
+
 -- ---- both, for every accepted sheet
 abbrev pub Demands : Type 0
 Demands = (p : Parameters) → Accepted p → Demand2 p × Demand3 p
 
--- ---- and, of the C calls, demand 3
+-- ---- and, of the C calls, demand 3 and the quote
 abbrev pub DemandsC : Type 0
-DemandsC = (p : Parameters) → Accepted p → Demand3C p
+DemandsC = (p : Parameters) → Accepted p → Demand3C p × QuotedC p

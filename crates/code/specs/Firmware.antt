@@ -1,22 +1,25 @@
--- Demand 3 of the C calls, from demand 3: a C call's promise is that of the call behind it, with the number of its answer.
+-- Demand 3 and the quote of the C calls, from demands 2 and 3: a C call's promise is that of the call behind it, with the number of its answer.
 use mathlib.Core.Path.{_≡_, refl, sym, ap, _∙_}
 use mathlib.Core.Logic.{_↔_}
 use mathlib.Core.List.{List}
-use Prim.Native.Nat.{ℕ}
+use Prim.Native.Nat.{ℕ, _<_}
 use lib.ListN.{length}
 use Rattle.polynomial.specs.Sums.{add}
 use Rattle.code.specs.declared.Outcome.{Outcome}
 use Rattle.code.specs.declared.Parameters.{Parameters}
 use Rattle.code.specs.declared.Verdict.{Verdict}
+use Rattle.code.specs.Accepted.{accepted}
 use Rattle.code.specs.Answers.{judged, judged-zero, made-of, outcome-number, read, read-zero}
-use Rattle.code.specs.Calls.{Judged, JudgedC, ReadOutC, Written, WrittenC, judgeAnswer}
-use Rattle.code.specs.Calls.{outcome, outcomeNumber, readAnswer, verdictNumber}
-use Rattle.code.specs.Demands.{AlikeC, Demand3C, DemandsC, RewritesC, SumsC}
+use Rattle.code.specs.Buffers.{bytes-at}
+use Rattle.code.specs.Calls.{Judged, JudgedC, QuoteMadeC, ReadOutC, Written, WrittenC, asBytes, judgeAnswer}
+use Rattle.code.specs.Calls.{leaves, outcome, outcomeNumber, quote, readAnswer, verdictNumber}
+use Rattle.code.specs.Demands.{AlikeC, Demand3C, DemandsC, QuoteLaws, QuotedC, RewritesC, SumsC, numberAt}
 use Rattle.code.specs.Layout.{Fits, IsPage, pageOf}
 use Rattle.code.specs.Parameters.{Accepted}
-use Rattle.code.specs.Refusals.{writeRefusal}
+use Rattle.code.specs.Quote.{quote-length, quote-none, quote-small}
+use Rattle.code.specs.Refusals.{quoteRefusal, writeRefusal}
 use Rattle.code.specs.Refused.{BlocksBuffer, PageBuffer, Width}
-use Rattle.code.specs.Theorems.{demand3}
+use Rattle.code.specs.Theorems.{demand2, demand3, quote-numbers}
 
 module _ (p : Parameters) (A : Accepted p) where
   abbrev refusal : ℕ → List ℕ → List ℕ → ℕ
@@ -96,5 +99,23 @@ module _ (p : Parameters) (A : Accepted p) where
     apart = λ x y b c J K n. demand3 p A .apart x y b c (member-c x J) (member-c y K) n;
   }
 
+  -- ---- the quote
+  quoted-c : (list after : List ℕ) (k : ℕ) → length list ≡ 24 → QuoteMadeC p list after k → (k ≡ 0) × QuoteLaws p (numberAt after)
+  quoted-c list after k e Q =
+      let z : quoteRefusal 2 p (length list) ≡ 0 = quote-none 2 p (length list) A e in
+      let s : after ≡ asBytes (quote p) = Q .buffer ∙ ap (λ (r : ℕ). leaves r (asBytes (quote p)) list) z in
+      (
+        Q .answers ∙ z,
+        quote-numbers p A (numberAt after) (λ j h. ap (λ (l : List ℕ). numberAt l j) s
+        ∙ bytes-at (quote p) (quote-small p (accepted p A)) j (rw (quote-length p) h)),
+      )
+
+  pub quote-c : QuotedC p
+  quote-c = record {
+    quote-laws = quoted-c;
+    quoted-pages = λ number L b old after r q w h e W.
+        demand2 p A .quoted-pages number L b old after (outcome (refusal L b old)) q w h e (written L b old after r W);
+  }
+
 pub demands-c : DemandsC
-demands-c = demand3-c
+demands-c p A = (demand3-c p A, quote-c p A)

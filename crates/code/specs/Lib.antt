@@ -26,6 +26,8 @@ pub mod Answers
 pub mod Placement
 pub mod Registers
 pub mod Buffers
+pub mod Degrees
+pub mod Quote
 -- What demands 2 and 3 say, and the theorems; Firmware is demand 3 of the C calls:
 pub mod Demands
 pub mod Theorems

@@ -94,6 +94,11 @@ feedRefusal p L r u =
     orElse 11 when ltb (full p) (r .count + L)
     orElse 12 when ltb (p .v) (r .level) || leb (2 ^ degree p (r .level)) (value 64 (r .remainder))
 
+-- ---- the quote, of 12 numbers; a number takes `size` places: 1 in a list of numbers, 2 in C's bytes
+unfoldable pub quoteRefusal : ℕ → Parameters → ℕ → ℕ
+unfolding sheetRefusal
+quoteRefusal size p out = sheetRefusal p orElse 10 when notExact out (size * 12)
+
 -- ---- the nesting coefficient's call gives N(i, l) for i and l up to 7
 abbrev pub nestingRefusal : ℕ → ℕ → ℕ
 nestingRefusal i l = 9 when ltb 7 i || ltb 7 l

@@ -7,7 +7,7 @@ use Prim.Native.Nat.{ℕ, zero, suc, _+_, _-_, _*_, _^_, _≤_, _<_, zero-le, su
 use native.Mathlib.Nat as Nat
 use native.Mathlib.Omega.{arith}
 use lib.Dec.{eqb, lit≤}
-use lib.ListN.{length, take, drop}
+use lib.ListN.{length, getD, take, drop}
 use lib.Pow.{pow-mono}
 use Rattle.polynomial.specs.Bits.{coefficient}
 use Rattle.polynomial.specs.Digits.{value}
@@ -27,15 +27,16 @@ use Rattle.code.specs.Answers.{read-as-judge}
 use Rattle.code.specs.Accepted.{Rules, accepted, degree-le, lawful, n-is, q-high, width-below, degree-of}
 use Rattle.code.specs.Buffers.{bytes-at, divides-up, divisor-deg, divisor-degree, divisor-times, length-syndromes}
 use Rattle.code.specs.Buffers.{nested-back, remainder-back, row-back, short-back, short-differ, short-lt, syndromes-at}
-use Rattle.code.specs.Calls.{Judged, ReadOut, Written, asBytes, empty, judgeAnswer, leaves}
-use Rattle.code.specs.Calls.{nestedOf, nestedSyndromeList, outcome, subWordOf, syndromeList}
-use Rattle.code.specs.Code.{IsMember, degree, distance, gen, least, level, nested, newton, remainder, syndromes, verdict}
+use Rattle.code.specs.Calls.{Judged, QuoteMade, ReadOut, Written, asBytes, empty, judgeAnswer, leaves}
+use Rattle.code.specs.Calls.{nestedOf, nestedSyndromeList, outcome, quote, subWordOf, syndromeList}
+use Rattle.code.specs.Code.{IsMember, checkBits, degree, distance, gen, least, level, nested, newton, remainder, syndromes, verdict}
+use Rattle.code.specs.Degrees.{degree-exact}
 use Rattle.code.specs.Demands.{Alike, BufferLaws, Demand2, Demand3, Demands, GeneratorLaws, GeneratorOf}
-use Rattle.code.specs.Demands.{JudgeLaws, RegisterLaws, Rewrites, ShortLaws, Smallest, Sums, Vanishes, WriteLaws}
+use Rattle.code.specs.Demands.{JudgeLaws, QuoteLaws, QuotedPage, RegisterLaws, Rewrites, ShortLaws, Smallest, Sums, Vanishes, WriteLaws}
 use Rattle.code.specs.Distance.{Passing, least-few, least-many}
 use Rattle.code.specs.Encode.{N-above, encode-member, member-encode}
 use Rattle.code.specs.Judge.{member-passing, multiple-iff, passing-member, verdict-member, verdict-nested, verdict-sub}
-use Rattle.code.specs.Layout.{Bytes, Fits, IsPage, blocksOf, coefficientOf, dataOf, differences, pageOf, wordSizes, wordsOf}
+use Rattle.code.specs.Layout.{Bytes, Fits, IsPage, blocksOf, coefficientOf, dataBits, dataOf, differences, pageOf, wordSizes, wordsOf}
 use Rattle.code.specs.Lists.{addBelow, countBelow, join, sum}
 use Rattle.code.specs.Newton.{nesteds-of, newtons-of}
 use Rattle.code.specs.Pages.{IsWords, again-from, again-to, data-fit, join-words}
@@ -43,7 +44,9 @@ use Rattle.code.specs.Pages.{page-back, page-has, page-is, page-words, s
 use Rattle.code.specs.Parameters.{Accepted, full, len, stored, strength}
 use Rattle.code.specs.Placement.{check-bits, read-bit, sub-word-bit, written-bit}
 use Rattle.code.specs.Places.{addBelow-ext, countBelow-ext, distance-places}
-use Rattle.code.specs.Refusals.{writeRefusal}
+use Rattle.code.specs.Quote.{all-places, any-fit, any-has, blocks-same, quote-bits, quote-degree}
+use Rattle.code.specs.Quote.{quote-length, quote-none, quote-past-m, quote-past-v}
+use Rattle.code.specs.Refusals.{quoteRefusal, writeRefusal}
 use Rattle.code.specs.Refused.{BlocksBuffer, PageBuffer, Width, judge-is, judged-page}
 use Rattle.code.specs.Refused.{read-is, read-leaves, write-alike, write-done, write-leaves}
 use Rattle.code.specs.Registers.{cut, fed-done, fed-holds, feedings, holding, opened-empty, register-back}
@@ -108,6 +111,7 @@ module _ (p : Parameters) (A : Accepted p) where
     alone = λ f d s. multiple-same (gen p a) (degree p a) f (degree-of p R a h) (lawful p R .roots a h f .1 (silent a f s)) d;
     of-degree = degree-of p R a h;
     degree-bound = degree-le p R a;
+    degree-exact = degree-exact p R a;
     degree-below = width-below p R a h;
     multiples = λ c. (
       (λ M. silenced a c (lawful p R .roots a h c .0 (multiple-iff p R a h c .1 M))),
@@ -204,6 +208,56 @@ module _ (p : Parameters) (A : Accepted p) where
         );
       }
 
+  -- a page is a member exactly when its words are written again
+  rewritten : (x : List ℕ) → IsPage p x → (judgeAnswer p x ≡ Verdict.Member) ↔ (pageOf p (dataOf p x) ≡ x)
+  rewritten x h = (
+    (λ e. again-to p R x h (member-encode (B .field) (B .α) p (lawful p R) (wordsOf p x) .0 (judged-passing x h e))),
+    (λ e. passing-judged x h (member-encode (B .field) (B .α) p (lawful p R) (wordsOf p x) .1 (again-from p R x h e))),
+  )
+
+  -- ---- the quote
+  level-place : (a : ℕ) → a ≤ p .v → a < 4
+  level-place a h = omega (arith, R .v-high)
+
+  block-place : (i : ℕ) → i < p .m → i < 8
+  block-place i h = omega (arith, R .m-high)
+
+  pub quote-numbers : (number : ℕ → ℕ) → ((j : ℕ) → j < 12 → number j ≡ getD (quote p) j 0) → QuoteLaws p number
+  quote-numbers number e = record {
+    degrees = λ a h. e a (omega (arith, level-place a h)) ∙ quote-degree p a (level-place a h) h;
+    data-bits = λ i h. e (4 + i) (omega (arith, block-place i h)) ∙ quote-bits p i (block-place i h) h;
+    past-v = λ a h l. e a (omega arith) ∙ quote-past-v p a l h;
+    past-m = λ i h l. e (4 + i) (omega arith) ∙ quote-past-m p i l h;
+  }
+
+  quoted : (list after : List ℕ) (k : Outcome) → length list ≡ 12 → QuoteMade p list after k
+      → (k ≡ Outcome.Done) × (length after ≡ 12) × QuoteLaws p (λ j. getD after j 0)
+  quoted list after k e Q =
+      let z : quoteRefusal 1 p (length list) ≡ 0 = quote-none 1 p (length list) A e in
+      let s : after ≡ quote p = Q .buffer ∙ ap (λ (r : ℕ). leaves r (quote p) list) z in
+      (Q .answers ∙ ap outcome z, ap length s ∙ quote-length p, quote-numbers (λ j. getD after j 0) (λ j h. ap (λ (l : List ℕ). getD l j 0) s))
+
+  page-quoted : (number : ℕ → ℕ) → QuoteLaws p number → (a : List ℕ) → Fits p a → QuotedPage p number a (pageOf p a)
+  page-quoted number q a h = record {
+    places = λ i l. ap₂ _+_ (w i) (d i l) ∙ all-places p R i;
+    placed = λ i r l b. from (pageOf p a) i r ∙ written-bit p R a h i r l (rw (d i l) at b);
+    free = λ ds e b.
+        let c : (i : ℕ) → i < p .m → getD ds i 0 < 2 ^ dataBits p i = λ i l. rw (d i l) at (b i l) in
+        (any-fit p R ds e c, any-has p R ds e c);
+    follow = λ x k M c.
+        sym (rewritten x k .0 (member-iff x k .1 M)) ∙ ap (pageOf p) (blocks-same p R (dataOf p x) a (data-fit p R x k) h
+        (λ i r l u. read-bit p R x k i r l u ∙ sym (from x i r) ∙ c i r l (rw (d i l) u) ∙ from (pageOf p a) i r ∙ written-bit p R a h i r l u));
+  }
+    where
+      w : (i : ℕ) → number (p .v - i) ≡ checkBits p i
+      w i = q .degrees (p .v - i) (Nat.sub-le (p .v) i)
+
+      d : (i : ℕ) → i < p .m → number (4 + i) ≡ dataBits p i
+      d i l = q .data-bits i l
+
+      from : (x : List ℕ) (i r : ℕ) → coefficientOf p x i (number (p .v - i) + r) ≡ coefficientOf p x i (checkBits p i + r)
+      from x i r = ap (λ (k : ℕ). coefficientOf p x i (k + r)) (w i)
+
   -- ---- the equal form
   equal-form : (cs : List ℕ) → ((l : ℕ) → l < p .v → Multiple (gen p (p .v - l)) (nested p l cs))
       ↔ ((l : ℕ) → l < p .v → Multiple (gen p (p .v - l)) (newton l cs))
@@ -243,6 +297,8 @@ module _ (p : Parameters) (A : Accepted p) where
     };
     judge-laws = judged-laws;
     write-laws = written-laws;
+    quote-laws = quoted;
+    quoted-pages = λ number L a old after r q w h b W. rw (after-is L a old after r w h b W .1) (page-quoted number q a h);
     read-laws = λ x old out j r e J O. O .answers ∙ read-as-judge p x old e ∙ sym (J .answers);
     equal-form-laws = record { as-whole = λ cs e. equal-form cs; from-l = N-above };
   }
@@ -274,13 +330,6 @@ module _ (p : Parameters) (A : Accepted p) where
         done = S-is .0;
         page = S-is .1 ∙ sum-page p R a b h j ∙ sym (ap₂ add (A-is .1) (B-is .1));
       }
-
-  -- a page is a member exactly when its words are written again
-  rewritten : (x : List ℕ) → IsPage p x → (judgeAnswer p x ≡ Verdict.Member) ↔ (pageOf p (dataOf p x) ≡ x)
-  rewritten x h = (
-    (λ e. again-to p R x h (member-encode (B .field) (B .α) p (lawful p R) (wordsOf p x) .0 (judged-passing x h e))),
-    (λ e. passing-judged x h (member-encode (B .field) (B .α) p (lawful p R) (wordsOf p x) .1 (again-from p R x h e))),
-  )
 
   rewrites : (L : ℕ) (x old-blocks blocks old-page after : List ℕ) (j r : Verdict) (w : Outcome) → Width L → IsPage p x
       → BlocksBuffer p old-blocks → PageBuffer p old-page

@@ -261,8 +261,13 @@ fn bytes_call(call: u8, p: Parameters, page: &[u8], i: usize, width: u32, out: &
     put_bytes(r, out);
 }
 
-// Those that give syndromes.
+// Those that give syndromes, and the quote.
 fn list_call(call: u8, p: Parameters, page: &[u8], i: usize, list: &mut [u16]) {
+    if call == 14 {
+        let r = sizes::quote(p, list);
+        put_list(r, list);
+        return;
+    }
     if call == 9 {
         let r = oneword::syndromes(p, page, i, list);
         put_list(r, list);
@@ -334,7 +339,7 @@ fn run(h: &[u8], page: &[u8], size: usize) {
     if 6 <= call && call <= 8 || 12 <= call && call <= 13 {
         lend_bytes(call, p, page, i, width, size);
     }
-    if 9 <= call && call <= 10 {
+    if 9 <= call && call <= 10 || call == 14 {
         lend_list(call, p, page, i, size);
     }
     if call == 11 {

@@ -1,4 +1,6 @@
--- The C calls: the answers' numbers, a list as bytes.
+-- The C calls: the answers' numbers, a list as bytes, sizes.
 pub mod Number
 pub mod List
 pub mod Syndromes
+pub mod Sizes
+pub mod Quote

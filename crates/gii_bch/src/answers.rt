@@ -1,9 +1,11 @@
 // The requirement's number of an answer.
 ghost use mathlib.Core.Path.{_≡_};
-ghost use Prim.Native.Nat.{_<_};
+ghost use Prim.Native.Nat.{_<_, _^_};
 ghost use Rattle.code.specs.Calls.{outcomeNumber, verdictNumber};
+ghost use Rattle.gii_bch.specs.Sizes.{sizeFound};
 use code::Outcome;
 use code::Verdict;
+use sizes::Size;
 
 // 0 for done, or the refusal's number.
 pub fn outcome_number(r: Outcome) -> u32
@@ -26,4 +28,15 @@ pub fn verdict_number(r: Verdict) -> u32
         Verdict::NestedWord(l) => 64 + l as u32,
         Verdict::Refused(k) => k as u32,
     }
+}
+
+// The size, or 0 for a refusal.
+pub fn size_number(r: Size) -> u32
+    requires { ⌜ sizeFound r < 2 ^ 32 ⌝ }
+    ensures { λ n. ⌜ n ≡ sizeFound r ⌝ }
+{
+    let Size::Is(x) = r else {
+        return 0;
+    };
+    x as u32
 }

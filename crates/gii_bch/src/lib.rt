@@ -1,13 +1,18 @@
 // The C calls: the numbers of a sheet one by one, buffers as byte slices, the answer as a number. Each tests everything.
-ghost use Rattle.code.specs.Calls.{WrittenC, JudgedC, ReadOutC, SyndromesMadeC, NestedSyndromesMadeC};
+ghost use Rattle.code.specs.Calls.{WrittenC, JudgedC, ReadOutC, SyndromesMadeC, NestedSyndromesMadeC, QuoteMadeC, SizeC};
+ghost use Rattle.code.specs.Code.{distance};
+ghost use Rattle.code.specs.Layout.{dataBytes, pageBytes};
 ghost use Rattle.code.specs.Parameters.{sheet};
 use crate::answers::outcome_number;
+use crate::answers::size_number;
 use crate::answers::verdict_number;
+use crate::quote::quote_bytes;
 use crate::syndromes::syndrome_bytes;
 use code::Parameters;
 
 mod answers; // answers as numbers
 mod list; // 16-bit numbers in bytes
+mod quote; // the quote in bytes
 mod syndromes; // syndromes in bytes
 
 // The page of the blocks, `width` coefficients a step.
@@ -147,4 +152,84 @@ pub extern "C" fn gii_nested_syndromes(
         t3,
     };
     syndrome_bytes(true, p, page, index as usize, list)
+}
+
+// The degrees of levels 0 to v, 0 past v, and the data bits of blocks 0 to m - 1, 0 past m: four numbers and eight.
+#[no_mangle]
+pub extern "C" fn gii_quote(
+    q: u32,
+    m: u32,
+    v: u32,
+    t0: u32,
+    t1: u32,
+    t2: u32,
+    t3: u32,
+    list: &mut [u8],
+) -> u32
+    ensures { λ r. ⌜ QuoteMadeC (sheet q m v t0 t1 t2 t3) (now (list .entry)) (now (list .exit)) r ⌝ }
+{
+    let p = Parameters {
+        q,
+        m,
+        v,
+        t0,
+        t1,
+        t2,
+        t3,
+    };
+    quote_bytes(p, list)
+}
+
+// The bytes of a page. 0 where the sheet is refused.
+#[no_mangle]
+pub extern "C" fn gii_page_bytes(q: u32, m: u32, v: u32, t0: u32, t1: u32, t2: u32, t3: u32) -> u32
+    ensures { λ r. ⌜ SizeC (sheet q m v t0 t1 t2 t3) (pageBytes (sheet q m v t0 t1 t2 t3)) r ⌝ }
+{
+    let p = Parameters {
+        q,
+        m,
+        v,
+        t0,
+        t1,
+        t2,
+        t3,
+    };
+    let r = sizes::page_bytes(p);
+    size_number(r)
+}
+
+// The bytes of all blocks. 0 where the sheet is refused.
+#[no_mangle]
+pub extern "C" fn gii_data_bytes(q: u32, m: u32, v: u32, t0: u32, t1: u32, t2: u32, t3: u32) -> u32
+    ensures { λ r. ⌜ SizeC (sheet q m v t0 t1 t2 t3) (dataBytes (sheet q m v t0 t1 t2 t3)) r ⌝ }
+{
+    let p = Parameters {
+        q,
+        m,
+        v,
+        t0,
+        t1,
+        t2,
+        t3,
+    };
+    let r = sizes::data_bytes(p);
+    size_number(r)
+}
+
+// The least number of bits in which two different members can differ, as the formulas give it. 0 where the sheet is refused.
+#[no_mangle]
+pub extern "C" fn gii_distance(q: u32, m: u32, v: u32, t0: u32, t1: u32, t2: u32, t3: u32) -> u32
+    ensures { λ r. ⌜ SizeC (sheet q m v t0 t1 t2 t3) (distance (sheet q m v t0 t1 t2 t3)) r ⌝ }
+{
+    let p = Parameters {
+        q,
+        m,
+        v,
+        t0,
+        t1,
+        t2,
+        t3,
+    };
+    let r = sizes::distance(p);
+    size_number(r)
 }

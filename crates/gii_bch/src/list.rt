@@ -30,7 +30,7 @@ fn put(list: &mut [u8], at: usize, x: u16)
 }
 
 // The numbers, as bytes.
-fn store(list: &mut [u8], numbers: &[u16])
+pub fn store(list: &mut [u8], numbers: &[u16])
     requires { ⌜ length (now list) ≡ 2 * length (now numbers) ⌝ }
     ensures { λ r. ⌜ now (list .exit) ≡ asBytes (now (numbers .entry)) ⌝ }
 {

@@ -5,7 +5,7 @@ ghost use Prim.Native.Nat.{_+_, _^_, _≤_};
 ghost use lib.Dec.{leb, ltb};
 ghost use Rattle.polynomial.specs.Digits.{value};
 ghost use Rattle.code.specs.Parameters.{Accepted, sheetRefusal};
-ghost use Rattle.code.specs.Refusals.{badWidth, judgeRefusal, openRefusal, readRefusal, wordRefusal, writeRefusal};
+ghost use Rattle.code.specs.Refusals.{badWidth, judgeRefusal, openRefusal, quoteRefusal, readRefusal, wordRefusal, writeRefusal};
 ghost use Rattle.layout.specs.Sizes.{Degrees};
 ghost use Rattle.refusal.specs.Feeding.{numbersRefusal};
 use code::Parameters;
@@ -136,6 +136,22 @@ pub fn word_refusal(
         return k;
     }
     index_refusal(p, page, i, many, out, exact)
+}
+
+// ---- the quote
+
+// For any numbers, and a list of `out`: 1 to 4, 10, or 0.
+pub fn quote_refusal(p: Parameters, out: usize) -> u8
+    ensures { λ r. ⌜ r ≡ quoteRefusal 1 p out ⌝ }
+{
+    let k = sheet_refusal(p);
+    if k != 0 {
+        return k;
+    }
+    if out != 12 {
+        return 10;
+    }
+    0
 }
 
 // ---- registers

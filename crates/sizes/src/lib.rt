@@ -1,12 +1,16 @@
-// The sizes of a sheet: the degrees of its generators, the bytes of a page and of its blocks, and the distance.
+// The sizes of a sheet: the degrees of its generators, the bytes of a page and of its blocks, the distance, and the quote.
 // Each call takes any numbers.
 ghost use mathlib.Core.Path.{_≡_};
-ghost use Prim.Native.Nat.{_+_, _*_, _≤_, min};
+ghost use Prim.Native.Nat.{_+_, _*_, _≤_, _<_, min};
+ghost use lib.ListN.{length, getD};
+ghost use Rattle.code.specs.Calls.{quote as Calls·quote, QuoteMade};
 ghost use Rattle.code.specs.Code.{degree as Code·degree, distance as Code·distance};
 ghost use Rattle.code.specs.Layout.{dataBytes, pageBytes};
 ghost use Rattle.code.specs.Parameters.{Accepted, sheetRefusal};
 ghost use Rattle.code.specs.Refusals.{openRefusal};
+ghost use Rattle.layout.specs.Sizes.{Degrees};
 ghost use Rattle.sizes.specs.Sized.{Sized};
+use code::Outcome;
 use code::Parameters;
 
 // A size, or the number of the refusal.
@@ -101,4 +105,48 @@ pub fn distance(p: Parameters) -> Size
     }
     let d = least(p);
     Size::Is(d as usize)
+}
+
+// ---- the quote
+
+// Number k of the quote; w holds the degrees of the generators.
+fn quoted_at(p: Parameters, w: &[u32], k: usize) -> u16
+    requires { ⌜ Accepted p × Degrees p (now w) × (k < 12) ⌝ }
+    ensures { λ r. ⌜ r ≡ getD (Calls·quote p) k 0 ⌝ }
+{
+    if k < 4 {
+        return w[k] as u16;
+    }
+    let i = k - 4;
+    if i < p.m as usize {
+        let b = layout::data_bits(p, w, i);
+        return b as u16;
+    }
+    0
+}
+
+// The 12 numbers of the quote.
+fn quote_into(list: &mut [u16], p: Parameters, w: &[u32])
+    requires { ⌜ Accepted p × Degrees p (now w) × (length (now list) ≡ 12) ⌝ }
+    ensures { λ r. ⌜ now (list .exit) ≡ Calls·quote p ⌝ }
+{
+    let mut k: usize = 0;
+    while k < 12 {
+        list[k] = quoted_at(p, w, k);
+        k += 1;
+    }
+}
+
+// The degrees of levels 0 to v, 0 past v: four numbers; the data bits of blocks 0 to m - 1, 0 past m: eight.
+pub fn quote(p: Parameters, list: &mut [u16]) -> Outcome
+    ensures { λ r. ⌜ QuoteMade p (now (list .entry)) (now (list .exit)) r ⌝ }
+{
+    let k = refusal::quote_refusal(p, list.len());
+    if k != 0 {
+        return Outcome::Refused(k);
+    }
+    let rows = levels::rows(p);
+    let w = levels::degrees(p, rows);
+    quote_into(list, p, &w);
+    Outcome::Done
 }

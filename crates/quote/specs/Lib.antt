@@ -1,0 +1,2 @@
+-- The sheet that the input gives.
+pub mod Given

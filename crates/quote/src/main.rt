@@ -1,0 +1,110 @@
+// The quote at the counter: standard input has q, m, v, then t_0 to t_v if v is 1 to 3, a byte each; a missing one counts as 0.
+// It writes the check bits of each level, the data bits of each block, the bytes of blocks and page, and the distance, as text,
+// or the refusal.
+ghost use mathlib.Core.Path.{_≡_};
+ghost use lib.ListN.{getD};
+ghost use Rattle.quote.specs.Given.{strengthRead, sheetRead};
+use code::Outcome;
+use code::Parameters;
+use libc::STDOUT_FILENO;
+use sizes::Size;
+
+// ---- the input
+
+// t_a, 0 where there is none.
+fn strength_given(input: [u8; 7], a: usize) -> u32
+    requires { ⌜ a < 4 ⌝ }
+    ensures { λ r. ⌜ r ≡ strengthRead input a ⌝ }
+{
+    let v = input[2] as usize;
+    if v < 1 {
+        return 0;
+    }
+    if 3 < v {
+        return 0;
+    }
+    if v < a {
+        return 0;
+    }
+    input[3 + a] as u32
+}
+
+// The parameters.
+fn sheet_given(input: [u8; 7]) -> Parameters
+    ensures { λ r. ⌜ r ≡ sheetRead input ⌝ }
+{
+    Parameters {
+        q: input[0] as u32,
+        m: input[1] as u32,
+        v: input[2] as u32,
+        t0: strength_given(input, 0),
+        t1: strength_given(input, 1),
+        t2: strength_given(input, 2),
+        t3: strength_given(input, 3),
+    }
+}
+
+// ---- lines
+
+fn text(s: &[u8]) {
+    io::write_all(STDOUT_FILENO, s);
+}
+
+fn number(n: u64) {
+    text(b" ");
+    io::print_decimal(STDOUT_FILENO, n);
+}
+
+// The first `count` of the numbers from `at` on.
+fn numbers(list: &[u16], at: usize, count: usize) {
+    let mut k: usize = 0;
+    while k < count {
+        if at < list.len() && k < list.len() - at {
+            number(list[at + k] as u64);
+        }
+        k += 1;
+    }
+    text(b"\n");
+}
+
+fn size(name: &[u8], r: Size, unit: &[u8]) {
+    if let Size::Is(n) = r {
+        text(name);
+        number(n as u64);
+        text(unit);
+    }
+}
+
+fn refused(k: u8) {
+    text(b"refused");
+    number(k as u64);
+    text(match k {
+        1 => b": field\n",
+        2 => b": shape\n",
+        3 => b": strengths\n",
+        _ => b": clash\n",
+    });
+}
+
+fn quoted(p: Parameters, list: &[u16]) {
+    text(b"check bits of each level:");
+    numbers(list, 0, p.v as usize + 1);
+    text(b"data bits of each block:");
+    numbers(list, 4, p.m as usize);
+    size(b"blocks:", sizes::data_bytes(p), b" bytes\n");
+    size(b"page:", sizes::page_bytes(p), b" bytes\n");
+    size(b"distance:", sizes::distance(p), b" bits\n");
+}
+
+fn main() {
+    let mut input = [0u8; 7];
+    io::read_full(0, &mut input);
+    let p = sheet_given(input);
+    let mut list = [0u16; 12];
+    let r = sizes::quote(p, &mut list);
+    let Outcome::Refused(k) = r else {
+        quoted(p, &list);
+        return;
+    };
+    refused(k);
+}
