@@ -103,11 +103,10 @@ module _ (p : Parameters) (A : Accepted p) where
   quoted-c : (list after : List ℕ) (k : ℕ) → length list ≡ 24 → QuoteMadeC p list after k → (k ≡ 0) × QuoteLaws p (numberAt after)
   quoted-c list after k e Q =
       let z : quoteRefusal 2 p (length list) ≡ 0 = quote-none 2 p (length list) A e in
-      let s : after ≡ asBytes (quote p) = Q .buffer ∙ ap (λ (r : ℕ). leaves r (asBytes (quote p)) list) z in
-      (
+      let s : after ≡ asBytes (quote p) = Q .buffer ∙ ap (λ (r : ℕ). leaves r (asBytes (quote p)) list) z in (
         Q .answers ∙ z,
         quote-numbers p A (numberAt after) (λ j h. ap (λ (l : List ℕ). numberAt l j) s
-        ∙ bytes-at (quote p) (quote-small p (accepted p A)) j (rw (quote-length p) h)),
+            ∙ bytes-at (quote p) (quote-small p (accepted p A)) j (rw (quote-length p) h)),
       )
 
   pub quote-c : QuotedC p

@@ -78,12 +78,14 @@ fn size(name: &[u8], r: Size, unit: &[u8]) {
 fn refused(k: u8) {
     text(b"refused");
     number(k as u64);
-    text(match k {
-        1 => b": field\n",
-        2 => b": shape\n",
-        3 => b": strengths\n",
-        _ => b": clash\n",
-    });
+    text(
+        match k {
+            1 => b": field\n",
+            2 => b": shape\n",
+            3 => b": strengths\n",
+            _ => b": clash\n",
+        },
+    );
 }
 
 fn quoted(p: Parameters, list: &[u16]) {

@@ -4,7 +4,7 @@ use mathlib.Core.Path.{_≡_, refl, sym, ap, _∙_}
 use mathlib.Core.Bool.{Bool, true, false}
 use mathlib.Core.List.{List}
 use mathlib.Core.Logic.{_⊎_, inl, inr}
-use Prim.Native.Nat.{ℕ, _+_, _-_, _≤_, _<_}
+use Prim.Native.Nat.{ℕ, _+_, _-_, _^_, _≤_, _<_}
 use native.Mathlib.Nat as Nat
 use native.Mathlib.Omega.{arith}
 use lib.Dec.{leb}
@@ -13,11 +13,12 @@ use lib.Seq.{ext-getD, getD-set-same, getD-set-other}
 use borrow.Author.Tests.{leb-true, leb-false}
 use Rattle.code.specs.declared.Outcome.{Outcome}
 use Rattle.code.specs.declared.Parameters.{Parameters}
+use Rattle.code.specs.Accepted.{accepted}
 use Rattle.code.specs.Answers.{made-done, made-refused}
 use Rattle.code.specs.Calls.{QuoteMade, quote}
 use Rattle.code.specs.Layout.{dataBits}
 use Rattle.code.specs.Parameters.{Accepted}
-use Rattle.code.specs.Quote.{quote-bits, quote-degree, quote-le, quote-length, quote-past-m, quote-past-v, quote-zero}
+use Rattle.code.specs.Quote.{quote-bits, quote-degree, quote-le, quote-length, quote-lt, quote-past-m, quote-past-v, quote-zero}
 use Rattle.code.specs.Refusals.{quoteRefusal}
 use Rattle.layout.specs.Sizes.{Degrees}
 
@@ -48,6 +49,9 @@ module _ (p : Parameters) where
       go : (b : Bool) → leb k (p .v) ≡ b → getD w k 0 ≡ getD (quote p) k 0
       go true e = let l : k ≤ p .v = leb-true k (p .v) e in D .at k l ∙ sym (quote-degree p k h l)
       go false e = let l : p .v < k = leb-false k (p .v) e in D .past k l ∙ sym (quote-past-v p k h l)
+
+  pub level-fits : Accepted p → (w : List ℕ) (k : ℕ) → Degrees p w → k < 4 → getD w k 0 < 2 ^ 16
+  level-fits A w k D h = rw (level-number w k D h) (quote-lt p (accepted p A) k (omega arith))
 
   pub block-number : (k x : ℕ) → 4 ≤ k → k < 12 → k - 4 < p .m → x ≡ dataBits p (k - 4) → x ≡ getD (quote p) k 0
   block-number k x l h m e =
