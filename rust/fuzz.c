@@ -104,7 +104,7 @@ static int in_range(const struct gii_sheet *s, struct sizes is)
     if (s->v < 1 || s->v > 3 || s->m <= s->v || s->m > 8)
         return 0;
     return is.page <= GII_PAGE_MAX && is.page % s->m == 0 && is.data > 0 && is.data <= GII_BLOCKS_MAX && is.data < is.page &&
-           is.distance > 2 * s->t[0] + 1 && is.distance <= 2 * s->t[s->v] + 1;
+           is.distance > 2 * s->t[0] + 1 && is.distance <= 2 * s->t[s->v] + 1 && is.distance <= (s->v + 1) * (2 * s->t[0] + 1);
 }
 
 /* Whether a quote fits the sizes, which are in range: check bits and data bits are all bits of a sub-word but the spare one. */

@@ -130,10 +130,10 @@ static void round_trip(const struct gii_sheet *s)
     }
 }
 
-/* A quote that is known number for number. */
+/* A quote that is known number for number, and known sizes. */
 static void known_quote(void)
 {
-    static const struct gii_sheet large = {12, 8, 3, {28, 32, 39, 58}};
+    static const struct gii_sheet large = {12, 8, 3, {28, 32, 39, 58}}, middle = {8, 4, 2, {4, 8, 16, 0}};
     static const uint32_t expected[] = {336, 384, 462, 690, 3405, 3633, 3711, 3759, 3759, 3759, 3759, 3759};
     uint8_t list[GII_QUOTE_BYTES];
     size_t k;
@@ -146,7 +146,8 @@ static void known_quote(void)
     must(equal, "degrees 336, 384, 462, 690, data bits 3405, 3633, 3711, 3759 five times");
     must(gii_sheet_page_bytes(&large) == 4096, "page 4096 bytes");
     must(gii_sheet_data_bytes(&large) == 3695, "data 3695 bytes");
-    must(gii_sheet_distance(&large) == 117, "distance 117");
+    must(gii_sheet_distance(&large) == 117, "distance 117, 2 t_3 + 1");
+    must(gii_sheet_distance(&middle) == 27, "distance 27, 3 (2 t_0 + 1), of q 8, m 4, v 2, t 4, 8, 16");
 }
 
 /* The counter's cases that are known byte for byte. */
