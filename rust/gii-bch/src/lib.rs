@@ -296,7 +296,8 @@ impl Sheet {
     ///
     /// ```
     /// # use gii_bch::{Refusal, Sheet};
-    /// assert_eq!(Sheet::new(12, 8, 3, [28, 32, 39, 58]).distance(), Ok(117));
+    /// assert_eq!(Sheet::new(12, 8, 3, [28, 32, 39, 58]).distance(), Ok(117)); // 2 × 58 + 1
+    /// assert_eq!(Sheet::new(8, 4, 2, [4, 8, 16, 0]).distance(), Ok(27)); // 3 × (2 × 4 + 1)
     /// assert_eq!(Sheet::new(4, 2, 1, [2, 2, 0, 0]).distance(), Err(Refusal::Strengths));
     /// ```
     pub fn distance(&self) -> Result<usize, Refusal> {
