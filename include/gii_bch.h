@@ -23,15 +23,16 @@
  *
  * Buffers
  *
- *   page      m sub-words, one behind another, of 2^q / 8 bytes each: GII_PAGE_BYTES(q, m). The coefficient of x^k is bit
- *             k mod 8, least first, of byte k div 8 of its sub-word; the top bit of each last byte is spare and 0.
+ *   page      m sub-words, one behind another, of 2^q / 8 bytes each. The coefficient of x^k is bit k mod 8, least first,
+ *             of byte k div 8 of its sub-word; the top bit of each last byte is spare and 0. gii_page_bytes gives the size.
  *   blocks    m blocks, one behind another, each on whole bytes. Sub-word i has w check bits and block i has n - w data
  *             bits, so that it takes (n - w + 7) / 8 bytes; bit r of it, least first, is the coefficient of x^(w + r).
  *             The unused top bits of its last byte are 0. Here w = w_(v-i) for i < v and w_0 from i = v on, and w_a, the
  *             degree of the generator of strength t_a, is the number of different values of j * 2^s mod n, for j from 1
  *             to 2 t_a and s from 0 to q - 1. At q = 4, t = 1, 2, 3, 4 it is 4, 8, 10, 14; at most it is q * t_a.
- *             gii_sheet_block_bits and gii_sheet_blocks_bytes give the sizes.
- *   list      syndromes S_1, S_2, .., 16 bits each, two bytes a number, low byte first: GII_LIST_BYTES(t), 2 t numbers.
+ *             gii_data_bytes gives the size of all blocks, gii_quote the data bits of each.
+ *   list      16-bit numbers, two bytes each, low byte first, which gii_number reads: the syndromes S_1, S_2, .., 2 t
+ *             numbers on GII_LIST_BYTES(t) bytes, or a quote, 12 numbers on GII_QUOTE_BYTES bytes.
  *
  *   Examples  q 4, m 2, v 1, t 1, 2:              page 4 bytes, blocks 1 + 2 = 3 bytes
  *             q 8, m 4, v 2, t 4, 8, 16:          page 128 bytes, blocks 17 + 24 + 28 + 28 = 97 bytes
@@ -48,7 +49,8 @@
  * then wholly: what it held before is of no account.
  *
  * Results are of enum gii_answer. Of the conditions that a call meets the least number is given, and a refusal leaves
- * every byte of every buffer as it was.
+ * every byte of every buffer as it was. gii_page_bytes, gii_data_bytes and gii_distance give a size, or 0 where the sheet
+ * is refused.
  */
 #ifndef GII_BCH_H
 #define GII_BCH_H
@@ -56,17 +58,19 @@
 #include <stddef.h>
 #include <stdint.h>
 
-/* The version. A function or a number that is given a new meaning moves the first number on. */
-#define GII_BCH_VERSION_MAJOR 1
+/* The version. A function or a number that goes or is given a new meaning moves the first number on. */
+#define GII_BCH_VERSION_MAJOR 2
 #define GII_BCH_VERSION_MINOR 0
 #define GII_BCH_VERSION_PATCH 0
-#define GII_BCH_VERSION "1.0.0"
-
-/* Bytes of a page, q being 4, 8 or 12. */
-#define GII_PAGE_BYTES(q, m) ((size_t)(m) * ((size_t)1 << (q)) / 8)
+#define GII_BCH_VERSION "2.0.0"
 
 /* Bytes of a list of 2t syndromes: t is t0 for a sub-word, t_(v-l) for nested word l. */
 #define GII_LIST_BYTES(t) ((size_t)4 * (size_t)(t))
+
+/* Bytes of a quote; the places in it of the degree w_a, a up to 3, and of the data bits of block i, i up to 7. */
+#define GII_QUOTE_BYTES 24
+#define GII_QUOTE_DEGREE(a) ((size_t)(a))
+#define GII_QUOTE_DATA_BITS(i) ((size_t)4 + (size_t)(i))
 
 /* The most bytes of a page (q 12, m 8), of blocks (q 12, m 8, v 1, t 1, 2) and of a list (t 64). */
 #define GII_PAGE_MAX 4096
@@ -150,6 +154,30 @@ uint32_t gii_syndromes(uint32_t q, uint32_t m, uint32_t v, uint32_t t0, uint32_t
 uint32_t gii_nested_syndromes(uint32_t q, uint32_t m, uint32_t v, uint32_t t0, uint32_t t1, uint32_t t2, uint32_t t3,
                               const uint8_t *page, size_t page_len, uint32_t index, uint8_t *list, size_t list_len);
 
+/*
+ * Quote: what the sheet comes to, 12 numbers into `list`, of GII_QUOTE_BYTES bytes: the degrees w_0 to w_3, 0 past v; then
+ * the data bits of block 0 to block 7, 0 past the last block. Block i has n - w_(v-i) data bits for i < v and n - w_0 from
+ * i = v on. It needs no page, and tells whether a sheet is accepted.
+ *
+ * At q 12, m 8, v 3, t 28, 32, 39, 58: 336, 384, 462, 690; 3405, 3633, 3711, 3759, 3759, 3759, 3759, 3759.
+ *
+ * Returns GII_DONE, or refuses: 1 to 4, 10.
+ */
+uint32_t gii_quote(uint32_t q, uint32_t m, uint32_t v, uint32_t t0, uint32_t t1, uint32_t t2, uint32_t t3,
+                   uint8_t *list, size_t list_len);
+
+/* Bytes of a page; 0 where the sheet is refused. */
+uint32_t gii_page_bytes(uint32_t q, uint32_t m, uint32_t v, uint32_t t0, uint32_t t1, uint32_t t2, uint32_t t3);
+
+/* Bytes of all blocks, each on whole bytes; 0 where the sheet is refused. */
+uint32_t gii_data_bytes(uint32_t q, uint32_t m, uint32_t v, uint32_t t0, uint32_t t1, uint32_t t2, uint32_t t3);
+
+/*
+ * Distance: two different members differ in at least so many bits, the smallest of (v + 1)(2 t0 + 1) and
+ * b (2 t_(v-b+1) + 1) for b from 1 to v; 0 where the sheet is refused.
+ */
+uint32_t gii_distance(uint32_t q, uint32_t m, uint32_t v, uint32_t t0, uint32_t t1, uint32_t t2, uint32_t t3);
+
 /* The parameters of a code in one place, and the functions above on them. Later versions may add members behind these. */
 struct gii_sheet {
     uint32_t q, m, v;
@@ -189,52 +217,30 @@ static inline uint32_t gii_sheet_nested_syndromes(const struct gii_sheet *sheet,
                                 page, page_len, index, list, list_len);
 }
 
-/* Whether the sheet is accepted: GII_DONE, or its refusal, 1 to 4. No page has 0 bytes: judge refuses one by 7 at best. */
-static inline uint32_t gii_sheet_test(const struct gii_sheet *sheet)
+static inline uint32_t gii_sheet_quote(const struct gii_sheet *sheet, uint8_t *list, size_t list_len)
 {
-    const uint8_t none = 0;
-    const uint32_t answer = gii_sheet_judge(sheet, &none, 0);
-
-    return answer == GII_PAGE ? (uint32_t)GII_DONE : answer;
+    return gii_quote(sheet->q, sheet->m, sheet->v, sheet->t[0], sheet->t[1], sheet->t[2], sheet->t[3], list, list_len);
 }
 
-/* Bytes of a page; 0 where the sheet is refused. */
-static inline size_t gii_sheet_page_bytes(const struct gii_sheet *sheet)
+static inline uint32_t gii_sheet_page_bytes(const struct gii_sheet *sheet)
 {
-    return gii_sheet_test(sheet) == GII_DONE ? GII_PAGE_BYTES(sheet->q, sheet->m) : 0;
+    return gii_page_bytes(sheet->q, sheet->m, sheet->v, sheet->t[0], sheet->t[1], sheet->t[2], sheet->t[3]);
 }
 
-/*
- * Data bits of block i; 0 where the sheet is refused or has no block i. The check bits are counted by the sets
- * {j, 2j, 4j, ..} mod n, each at its least number. This is plain C and not proved; write and read out test the length.
- */
-static inline uint32_t gii_sheet_block_bits(const struct gii_sheet *sheet, uint32_t i)
+static inline uint32_t gii_sheet_data_bytes(const struct gii_sheet *sheet)
 {
-    uint32_t n, t, j, e, size, bits;
-
-    if (gii_sheet_test(sheet) != GII_DONE || i >= sheet->m)
-        return 0;
-    n = ((uint32_t)1 << sheet->q) - 1;
-    t = sheet->t[i < sheet->v ? sheet->v - i : 0];
-    bits = n;
-    for (j = 1; j <= 2 * t; j++) {
-        for (e = 2 * j % n, size = 1; e > j; e = 2 * e % n)
-            size++;
-        if (e == j)
-            bits -= size;
-    }
-    return bits;
+    return gii_data_bytes(sheet->q, sheet->m, sheet->v, sheet->t[0], sheet->t[1], sheet->t[2], sheet->t[3]);
 }
 
-/* Bytes of all blocks; 0 where the sheet is refused. */
-static inline size_t gii_sheet_blocks_bytes(const struct gii_sheet *sheet)
+static inline uint32_t gii_sheet_distance(const struct gii_sheet *sheet)
 {
-    size_t bytes = 0;
-    uint32_t i, bits;
+    return gii_distance(sheet->q, sheet->m, sheet->v, sheet->t[0], sheet->t[1], sheet->t[2], sheet->t[3]);
+}
 
-    for (i = 0; (bits = gii_sheet_block_bits(sheet, i)) != 0; i++)
-        bytes += (bits + 7) / 8;
-    return bytes;
+/* The number at a place of a list, 0 the first. */
+static inline uint32_t gii_number(const uint8_t *list, size_t place)
+{
+    return list[2 * place] | (uint32_t)list[2 * place + 1] << 8;
 }
 
 /* A number in words. */

@@ -17,7 +17,8 @@ if [ -z "${GII_ARCHIVE:-}" ]; then
     nm -u "$archive" | awk 'NF == 2 { print $2 }' | sort -u | comm -23 - target/exported > target/undefined
     exported=$(xargs < target/exported)
     undefined=$(xargs < target/undefined)
-    [ "$exported" = "gii_judge gii_nested_syndromes gii_read_out gii_syndromes gii_write" ] || { echo "the archive exports $exported"; exit 1; }
+    expected="gii_data_bytes gii_distance gii_judge gii_nested_syndromes gii_page_bytes gii_quote gii_read_out gii_syndromes gii_write"
+    [ "$exported" = "$expected" ] || { echo "the archive exports $exported"; exit 1; }
     [ "$undefined" = "memcpy memset" ] || { echo "the archive needs $undefined"; exit 1; }
     echo "the archive exports $exported and needs $undefined"
 fi
@@ -66,4 +67,4 @@ cargo test --offline --quiet --release
 cargo build --offline --quiet --release
 target/release/sheets > target/sheets.md
 sed -n '/^|/p' ../docs/SHEETS.md | cmp -s - target/sheets.md || { echo 'docs/SHEETS.md is not what cargo run --release --bin sheets makes'; exit 1; }
-target/release/fuzz "${FUZZ:-200000}"
+target/release/fuzz "${FUZZ:-360000}"

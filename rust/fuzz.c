@@ -1,8 +1,8 @@
 /*
  * Any calls from C: any numbers, any lengths, any bytes, on buffers of their own from malloc. Each answer is one that the
- * call may give and has a text, what is only read stays, a refusal leaves every byte, and the header's sizes are never
- * refused. Usage: fuzz CALLS SEED. It is built with the sanitizers, and without them for valgrind, which sees every access
- * of the archive.
+ * call may give and has a text, what is only read stays, a refusal leaves every byte, a quote fits the sizes, which are in
+ * range or 0, and lengths by the sizes are never refused. Usage: fuzz CALLS SEED. It is built with the sanitizers, and
+ * without them for valgrind, which sees every access of the archive.
  */
 #include "gii_bch.h"
 
@@ -41,10 +41,11 @@ static struct gii_sheet any_sheet(void)
         s.t[a] = a <= s.v ? t : 0;
         t += a == 0 ? 1 + below(most / 4 + 1) : below(most / 4 + 1);
     }
-    if (once_in(6)) {
-        uint32_t *field[] = {&s.q, &s.m, &s.v, &s.t[0], &s.t[1], &s.t[2], &s.t[3]};
+    uint32_t *field[] = {&s.q, &s.m, &s.v, &s.t[0], &s.t[1], &s.t[2], &s.t[3]};
+    if (once_in(6))
         *field[below(7)] = once_in(2) ? (uint32_t)any() : below(70);
-    }
+    for (int k = 0, wild = once_in(50); wild && k < 7; k++)
+        *field[k] = once_in(2) ? (uint32_t)any() : below(70);
     return s;
 }
 
@@ -91,6 +92,37 @@ static int verdict(uint32_t r)
     return r == GII_MEMBER || (r >= GII_SUB_WORD && r < GII_SUB_WORD + 8) || (r >= GII_NESTED_WORD && r < GII_NESTED_WORD + 3);
 }
 
+/* The sizes of a sheet: all 0, or all in range. */
+struct sizes {
+    uint32_t page, data, distance;
+};
+
+static int in_range(const struct gii_sheet *s, struct sizes is)
+{
+    if (is.page == 0)
+        return is.data == 0 && is.distance == 0;
+    if (s->v < 1 || s->v > 3 || s->m <= s->v || s->m > 8)
+        return 0;
+    return is.page <= GII_PAGE_MAX && is.page % s->m == 0 && is.data > 0 && is.data <= GII_BLOCKS_MAX && is.data < is.page &&
+           is.distance > 2 * s->t[0] + 1 && is.distance <= 2 * s->t[s->v] + 1 && is.distance <= (s->v + 1) * (2 * s->t[0] + 1);
+}
+
+/* Whether a quote fits the sizes, which are in range: check bits and data bits are all bits of a sub-word but the spare one. */
+static int fits(const struct gii_sheet *s, struct sizes is, const uint8_t *quote)
+{
+    uint32_t data = 0;
+    for (uint32_t a = 0; a < 4; a++)
+        if ((gii_number(quote, GII_QUOTE_DEGREE(a)) > 0) != (a <= s->v))
+            return 0;
+    for (uint32_t i = 0; i < 8; i++) {
+        uint32_t bits = gii_number(quote, GII_QUOTE_DATA_BITS(i)), check = gii_number(quote, GII_QUOTE_DEGREE(i < s->v ? s->v - i : 0));
+        if (i < s->m ? bits == 0 || bits + check != 8 * (is.page / s->m) - 1 : bits != 0)
+            return 0;
+        data += (bits + 7) / 8;
+    }
+    return data == is.data;
+}
+
 static int has_text(uint32_t r)
 {
     return strcmp(gii_answer_text(r), gii_answer_text(UINT32_MAX)) != 0;
@@ -104,10 +136,12 @@ int main(int argc, char **argv)
     state = seed * 0x9E3779B97F4A7C15u + 1;
     for (unsigned long k = 0; k < calls; k++) {
         struct gii_sheet s = any_sheet();
-        size_t exact = s.q < 16 && s.m < 64 ? GII_PAGE_BYTES(s.q, s.m) : 16, blocks = gii_sheet_blocks_bytes(&s);
+        struct sizes is = {gii_sheet_page_bytes(&s), gii_sheet_data_bytes(&s), gii_sheet_distance(&s)};
+        size_t exact = is.page ? is.page : below(5000);
         uint32_t index = below(10), level = s.t[index <= s.v && s.v < 4 ? s.v - index : 0] % 100;
-        int call = (int)below(5), good;
-        struct buffer page = lend(exact), other = lend(call < 2 ? blocks : GII_LIST_BYTES(call == 3 ? s.t[0] % 100 : level));
+        int call = (int)below(6), sized = in_range(&s, is), good;
+        size_t list = call == 5 ? GII_QUOTE_BYTES : GII_LIST_BYTES(call == 3 ? s.t[0] % 100 : level);
+        struct buffer page = lend(exact), other = lend(call < 2 ? is.data : list);
         uint32_t r;
         for (size_t i = 0, word = exact / (s.m ? s.m : 1); call && word && i < page.length; i++)
             if ((i + 1) % word == 0 && !once_in(20))
@@ -129,15 +163,20 @@ int main(int argc, char **argv)
             r = gii_sheet_syndromes(&s, page.bytes, page.length, index, other.bytes, other.length);
             good = kept(page) && (r == 0 || (refused(r) && kept(other)));
             break;
-        default:
+        case 4:
             r = gii_sheet_nested_syndromes(&s, page.bytes, page.length, index, other.bytes, other.length);
             good = kept(page) && (r == 0 || (refused(r) && kept(other)));
             break;
+        default:
+            r = gii_sheet_quote(&s, other.bytes, other.length);
+            good = r == 0 ? sized && is.page && other.length == GII_QUOTE_BYTES && fits(&s, is, other.bytes)
+                          : kept(other) && (is.page ? r == GII_LIST && other.length != GII_QUOTE_BYTES : r <= GII_CLASH);
+            break;
         }
-        good = good && has_text(r) && !(r == GII_PAGE && page.length == gii_sheet_page_bytes(&s)) && !(r == GII_BLOCKS && other.length == blocks);
+        good = good && sized && has_text(r) && !(r == GII_PAGE && page.length == is.page) && !(r == GII_BLOCKS && other.length == is.data);
         if (!good) {
-            printf("call %lu of seed %llu: %d answers %u (%s) for q %u m %u v %u t %u %u %u %u\n", k, (unsigned long long)seed, call, r,
-                   gii_answer_text(r), s.q, s.m, s.v, s.t[0], s.t[1], s.t[2], s.t[3]);
+            printf("call %lu of seed %llu: %d answers %u (%s) for q %u m %u v %u t %u %u %u %u, sizes %u %u %u\n", k, (unsigned long long)seed, call, r,
+                   gii_answer_text(r), s.q, s.m, s.v, s.t[0], s.t[1], s.t[2], s.t[3], is.page, is.data, is.distance);
             return 1;
         }
         answers[r & 127]++;

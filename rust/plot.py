@@ -1,5 +1,5 @@
 #!/usr/bin/env python3
-"""Draws the figures of the bench as one SVG: time against width, and time against page bits.
+"""Draws the figures of the bench as one SVG: time against width, and time against page bits, of the calls with a page.
 
     python3 rust/plot.py FIGURES.csv PLOT.svg
 
@@ -105,7 +105,7 @@ def main():
         sys.exit(__doc__)
     with open(sys.argv[1], newline="", encoding="utf-8") as file:
         every = list(csv.DictReader(file))
-    rows = [row for row in every if row["sheet"]]
+    rows = [row for row in every if row["sheet"] and int(row["bytes"])]
     crc = [float(row["median_ns"]) for row in every if row["call"] == "CRC-32"]
 
     def point(row, x):

@@ -13,8 +13,11 @@
 #define PAINT 0xA5
 
 static const struct gii_sheet sheet = {12, 8, 3, {28, 32, 39, 58}};
-static uint8_t blocks[3695], page[4096], back[3695], list[GII_LIST_BYTES(58)];
-static const char *const names[] = {"nothing", "write, L = 64", "write, L = 1", "judge", "read out", "syndromes", "nested syndromes"};
+static uint8_t blocks[GII_BLOCKS_MAX], page[GII_PAGE_MAX], back[GII_BLOCKS_MAX], list[GII_LIST_MAX], quote[GII_QUOTE_BYTES];
+static size_t blocks_len, page_len;
+static const char *const names[] = {"nothing",   "write, L = 64",    "write, L = 1", "judge",      "read out",
+                                    "syndromes", "nested syndromes", "quote",        "page bytes", "data bytes",
+                                    "distance"};
 static size_t call;
 static uint32_t answer;
 
@@ -23,12 +26,17 @@ static void *run(void *unused)
     (void)unused;
     switch (call) {
     case 0: answer = 0; break;
-    case 1: answer = gii_sheet_write(&sheet, 64, blocks, sizeof blocks, page, sizeof page); break;
-    case 2: answer = gii_sheet_write(&sheet, 1, blocks, sizeof blocks, page, sizeof page); break;
-    case 3: answer = gii_sheet_judge(&sheet, page, sizeof page); break;
-    case 4: answer = gii_sheet_read_out(&sheet, page, sizeof page, back, sizeof back); break;
-    case 5: answer = gii_sheet_syndromes(&sheet, page, sizeof page, 0, list, GII_LIST_BYTES(28)); break;
-    case 6: answer = gii_sheet_nested_syndromes(&sheet, page, sizeof page, 0, list, GII_LIST_BYTES(58)); break;
+    case 1: answer = gii_sheet_write(&sheet, 64, blocks, blocks_len, page, page_len); break;
+    case 2: answer = gii_sheet_write(&sheet, 1, blocks, blocks_len, page, page_len); break;
+    case 3: answer = gii_sheet_judge(&sheet, page, page_len); break;
+    case 4: answer = gii_sheet_read_out(&sheet, page, page_len, back, blocks_len); break;
+    case 5: answer = gii_sheet_syndromes(&sheet, page, page_len, 0, list, GII_LIST_BYTES(sheet.t[0])); break;
+    case 6: answer = gii_sheet_nested_syndromes(&sheet, page, page_len, 0, list, GII_LIST_BYTES(sheet.t[sheet.v])); break;
+    case 7: answer = gii_sheet_quote(&sheet, quote, sizeof quote); break;
+    /* A size of 0 is a refusal. */
+    case 8: answer = gii_sheet_page_bytes(&sheet) == 0; break;
+    case 9: answer = gii_sheet_data_bytes(&sheet) == 0; break;
+    case 10: answer = gii_sheet_distance(&sheet) == 0; break;
     }
     return NULL;
 }
@@ -55,6 +63,8 @@ int main(void)
 {
     size_t own = 0;
     int over = 0;
+    blocks_len = gii_sheet_data_bytes(&sheet);
+    page_len = gii_sheet_page_bytes(&sheet);
     for (call = 0; call < sizeof names / sizeof *names; call++) {
         size_t bytes = used();
         if (call == 0)

@@ -1,6 +1,7 @@
 /*
- * The C functions at work: a page is written, judged, damaged, judged and read out, and every refusal is shown to leave
- * its buffers. Prints what it does; the first surprise ends it with status 1.
+ * The C functions at work: a sheet is quoted, a page is written, judged, damaged, judged and read out, and every refusal is
+ * shown to leave its buffers. Every length comes from the calls. Prints what it does; the first surprise ends it with
+ * status 1.
  *
  *   rt staticlib gii_bch
  *   cc -O2 -Iinclude examples/c/demo.c target/staticlib/libgii_bch.a -o target/demo && target/demo
@@ -22,14 +23,47 @@ static void must(int holds, const char *what)
         exit(1);
 }
 
+/* What the sheet comes to, into `quote`; the sizes fit it. */
+static void quoted(const struct gii_sheet *s, uint8_t *quote)
+{
+    uint32_t page_len = gii_sheet_page_bytes(s), data_len = gii_sheet_data_bytes(s), bytes = 0, a, i, bits;
+    int fits = 1;
+
+    memset(quote, 0xA5, GII_QUOTE_BYTES);
+    must(gii_sheet_quote(s, quote, GII_QUOTE_BYTES) == GII_DONE, "quoted");
+    printf("  degrees:");
+    for (a = 0; a <= s->v; a++)
+        printf(" %u", (unsigned)gii_number(quote, GII_QUOTE_DEGREE(a)));
+    printf("\n  data bits:");
+    for (i = 0; i < s->m; i++)
+        printf(" %u", (unsigned)gii_number(quote, GII_QUOTE_DATA_BITS(i)));
+    printf("\n  page %u bytes, data %u bytes, distance %u\n", (unsigned)page_len, (unsigned)data_len,
+           (unsigned)gii_sheet_distance(s));
+
+    for (i = 0; i < s->m; i++) {
+        /* The bits of a sub-word but the spare one are check bits and data bits. */
+        bits = gii_number(quote, GII_QUOTE_DATA_BITS(i));
+        a = i < s->v ? s->v - i : 0;
+        fits = fits && bits + gii_number(quote, GII_QUOTE_DEGREE(a)) == 8 * (page_len / s->m) - 1;
+        bytes += (bits + 7) / 8;
+    }
+    must(fits, "check bits and data bits fill the sub-words");
+    must(bytes == data_len, "the blocks, each on whole bytes, fill the data bytes");
+    for (a = s->v + 1; a < 4; a++)
+        fits = fits && gii_number(quote, GII_QUOTE_DEGREE(a)) == 0;
+    for (i = s->m; i < 8; i++)
+        fits = fits && gii_number(quote, GII_QUOTE_DATA_BITS(i)) == 0;
+    must(fits, "the places past the last level and past the last block are 0");
+}
+
 /* Any data, unused bits 0. */
-static void fill_blocks(const struct gii_sheet *s, uint8_t *blocks)
+static void fill_blocks(const struct gii_sheet *s, const uint8_t *quote, uint8_t *blocks)
 {
     uint32_t number = 1, i, bits;
     size_t k = 0, end = 0;
 
     for (i = 0; i < s->m; i++) {
-        bits = gii_sheet_block_bits(s, i);
+        bits = gii_number(quote, GII_QUOTE_DATA_BITS(i));
         for (end += (bits + 7) / 8; k < end; k++) {
             number = number * 1664525u + 1013904223u;
             blocks[k] = (uint8_t)(number >> 24);
@@ -53,14 +87,15 @@ static void print_bytes(const char *name, const uint8_t *bytes, size_t length)
 static void round_trip(const struct gii_sheet *s)
 {
     static uint8_t blocks[GII_BLOCKS_MAX], page[GII_PAGE_MAX], other[GII_PAGE_MAX], out[GII_BLOCKS_MAX];
-    size_t blocks_len = gii_sheet_blocks_bytes(s), page_len = gii_sheet_page_bytes(s), k;
-    uint8_t list[GII_LIST_MAX];
+    size_t blocks_len = gii_sheet_data_bytes(s), page_len = gii_sheet_page_bytes(s), k;
+    uint8_t list[GII_LIST_MAX], quote[GII_QUOTE_BYTES];
     uint32_t i, t;
     int zero;
 
     printf("q %u, m %u, v %u, t %u, %u, %u, %u\n", (unsigned)s->q, (unsigned)s->m, (unsigned)s->v, (unsigned)s->t[0],
            (unsigned)s->t[1], (unsigned)s->t[2], (unsigned)s->t[3]);
-    fill_blocks(s, blocks);
+    quoted(s, quote);
+    fill_blocks(s, quote, blocks);
     print_bytes("blocks", blocks, blocks_len);
     memset(page, 0xA5, sizeof page);
     must(gii_sheet_write(s, 64, blocks, blocks_len, page, page_len) == GII_DONE, "written, 64 coefficients a step");
@@ -91,8 +126,28 @@ static void round_trip(const struct gii_sheet *s)
         must(gii_sheet_judge(s, other, page_len) == GII_SUB_WORD + i, "one bit flipped: its sub-word fails");
         must(gii_sheet_read_out(s, other, page_len, out, blocks_len) == GII_SUB_WORD + i, "read out says so too");
         must(gii_sheet_syndromes(s, other, page_len, i, list, GII_LIST_BYTES(s->t[0])) == GII_DONE, "syndromes");
-        must(list[0] != 0 || list[1] != 0, "S_1 is not 0");
+        must(gii_number(list, 0) != 0, "S_1 is not 0");
     }
+}
+
+/* A quote that is known number for number, and known sizes. */
+static void known_quote(void)
+{
+    static const struct gii_sheet large = {12, 8, 3, {28, 32, 39, 58}}, middle = {8, 4, 2, {4, 8, 16, 0}};
+    static const uint32_t expected[] = {336, 384, 462, 690, 3405, 3633, 3711, 3759, 3759, 3759, 3759, 3759};
+    uint8_t list[GII_QUOTE_BYTES];
+    size_t k;
+    int equal = sizeof list == 2 * (sizeof expected / sizeof *expected);
+
+    printf("the quote of q 12, m 8, v 3, t 28, 32, 39, 58\n");
+    must(gii_sheet_quote(&large, list, sizeof list) == GII_DONE, "quoted");
+    for (k = 0; k < sizeof expected / sizeof *expected; k++)
+        equal = equal && gii_number(list, k) == expected[k];
+    must(equal, "degrees 336, 384, 462, 690, data bits 3405, 3633, 3711, 3759 five times");
+    must(gii_sheet_page_bytes(&large) == 4096, "page 4096 bytes");
+    must(gii_sheet_data_bytes(&large) == 3695, "data 3695 bytes");
+    must(gii_sheet_distance(&large) == 117, "distance 117, 2 t_3 + 1");
+    must(gii_sheet_distance(&middle) == 27, "distance 27, 3 (2 t_0 + 1), of q 8, m 4, v 2, t 4, 8, 16");
 }
 
 /* The counter's cases that are known byte for byte. */
@@ -116,15 +171,15 @@ static void known_pages(void)
 
 /* One call of each function, with buffers of the given lengths and contents; a refusal must leave both. */
 struct lent {
-    uint8_t blocks[8], page[8], list[16];
+    uint8_t blocks[8], page[8], list[2 * GII_QUOTE_BYTES];
 };
 
-enum call { WRITE, READ_OUT, JUDGE, SYNDROMES, NESTED_SYNDROMES };
+enum call { WRITE, READ_OUT, JUDGE, SYNDROMES, NESTED_SYNDROMES, QUOTE };
 
 static void refused(enum call call, const struct gii_sheet *s, uint32_t number, size_t blocks_len, size_t page_len,
                     size_t list_len, const struct lent *holds, uint32_t expected, const char *what)
 {
-    static const char *const names[] = {"write", "read out", "judge", "syndromes", "nested syndromes"};
+    static const char *const names[] = {"write", "read out", "judge", "syndromes", "nested syndromes", "quote"};
     struct lent lent = *holds;
     char line[160];
     uint32_t answer = 0;
@@ -145,10 +200,22 @@ static void refused(enum call call, const struct gii_sheet *s, uint32_t number, 
     case NESTED_SYNDROMES:
         answer = gii_sheet_nested_syndromes(s, lent.page, page_len, number, lent.list, list_len);
         break;
+    case QUOTE:
+        answer = gii_sheet_quote(s, lent.list, list_len);
+        break;
     }
     sprintf(line, "%s, %s: refused by %u (%s), every byte stays", names[call], what, (unsigned)expected,
             gii_answer_text(expected));
     must(answer == expected && GII_IS_REFUSAL(answer) && memcmp(&lent, holds, sizeof lent) == 0, line);
+}
+
+/* A refused sheet has no sizes. */
+static void without_sizes(const struct gii_sheet *s, const char *what)
+{
+    char line[160];
+
+    sprintf(line, "%s: no page, no data, no distance", what);
+    must(gii_sheet_page_bytes(s) == 0 && gii_sheet_data_bytes(s) == 0 && gii_sheet_distance(s) == 0, line);
 }
 
 static void refusals(void)
@@ -157,62 +224,74 @@ static void refusals(void)
     static const struct gii_sheet field = {5, 2, 1, {1, 2, 0, 0}}, shape = {4, 1, 1, {1, 2, 0, 0}};
     static const struct gii_sheet strengths = {4, 2, 1, {2, 2, 0, 0}}, clash = {4, 4, 2, {1, 2, 3, 0}};
     static const struct gii_sheet greatest = {UINT32_MAX, UINT32_MAX, UINT32_MAX, {UINT32_MAX, UINT32_MAX, UINT32_MAX, UINT32_MAX}};
+    const size_t data = gii_sheet_data_bytes(&a), page = gii_sheet_page_bytes(&a);
     struct lent fits, stray;
     int call;
 
     memset(&fits, 0x35, sizeof fits);
-    fits.blocks[2] = 0x05;
+    fits.blocks[data - 1] = 0x05;
     stray = fits;
-    stray.blocks[2] = 0x85;
-    stray.page[1] = 0x80;
+    stray.blocks[data - 1] = 0x85;
+    stray.page[page / a.m - 1] = 0x80;
 
     printf("refusals\n");
-    for (call = WRITE; call <= NESTED_SYNDROMES; call++) {
-        uint32_t number = call == WRITE ? 8 : 0;
-        size_t list = call == SYNDROMES ? 4 : 8;
+    for (call = WRITE; call <= QUOTE; call++) {
+        enum call c = (enum call)call;
+        uint32_t number = c == WRITE ? 8 : 0;
+        size_t list = c == QUOTE ? GII_QUOTE_BYTES : GII_LIST_BYTES(c == SYNDROMES ? a.t[0] : a.t[1]);
 
-        refused((enum call)call, &field, number, 3, 4, list, &fits, GII_FIELD, "q 5");
-        refused((enum call)call, &shape, number, 3, 4, list, &fits, GII_SHAPE, "m 1");
-        refused((enum call)call, &strengths, number, 3, 4, list, &fits, GII_STRENGTHS, "t 2, 2");
-        refused((enum call)call, &clash, number, 3, 4, list, &fits, GII_CLASH, "m 4, t 1, 2, 3");
-        if (call == WRITE) {
-            refused(WRITE, &a, 0, 3, 4, list, &fits, GII_WIDTH, "width 0");
-            refused(WRITE, &a, 65, 3, 4, list, &fits, GII_WIDTH, "width 65");
+        refused(c, &field, number, data, page, list, &fits, GII_FIELD, "q 5");
+        refused(c, &shape, number, data, page, list, &fits, GII_SHAPE, "m 1");
+        refused(c, &strengths, number, data, page, list, &fits, GII_STRENGTHS, "t 2, 2");
+        refused(c, &clash, number, data, page, list, &fits, GII_CLASH, "m 4, t 1, 2, 3");
+        refused(c, &greatest, UINT32_MAX, 0, 0, 0, &stray, GII_FIELD, "everything wrong");
+        if (c == WRITE) {
+            refused(c, &a, 0, data, page, list, &fits, GII_WIDTH, "width 0");
+            refused(c, &a, 65, data, page, list, &fits, GII_WIDTH, "width 65");
         }
-        if (call == WRITE || call == READ_OUT) {
-            refused((enum call)call, &a, number, 2, 4, list, &fits, GII_BLOCKS, "2 bytes of blocks");
-            refused((enum call)call, &a, number, 4, 4, list, &fits, GII_BLOCKS, "4 bytes of blocks");
-            refused((enum call)call, &a, number, 0, 4, list, &fits, GII_BLOCKS, "no blocks");
+        if (c == WRITE || c == READ_OUT) {
+            refused(c, &a, number, data - 1, page, list, &fits, GII_BLOCKS, "a byte of blocks less");
+            refused(c, &a, number, data + 1, page, list, &fits, GII_BLOCKS, "a byte of blocks more");
+            refused(c, &a, number, 0, page, list, &fits, GII_BLOCKS, "no blocks");
         }
-        refused((enum call)call, &a, number, 3, 3, list, &fits, GII_PAGE, "3 bytes of page");
-        refused((enum call)call, &a, number, 3, 5, list, &fits, GII_PAGE, "5 bytes of page");
-        refused((enum call)call, &a, number, 3, 0, list, &fits, GII_PAGE, "no page");
-        refused((enum call)call, &a, number, 3, 4, list, &stray, GII_STRAY, "a stray bit");
-        if (call == SYNDROMES || call == NESTED_SYNDROMES) {
-            refused((enum call)call, &a, call == SYNDROMES ? 2 : 1, 3, 4, list, &fits, GII_INDEX, "no such word");
-            refused((enum call)call, &a, 0, 3, 4, list - 1, &fits, GII_LIST, "a byte of list less");
-            refused((enum call)call, &a, 0, 3, 4, list + 1, &fits, GII_LIST, "a byte of list more");
-            refused((enum call)call, &a, UINT32_MAX, 3, 4, 0, &stray, GII_STRAY, "stray, index and list");
+        if (c != QUOTE) {
+            refused(c, &a, number, data, page - 1, list, &fits, GII_PAGE, "a byte of page less");
+            refused(c, &a, number, data, page + 1, list, &fits, GII_PAGE, "a byte of page more");
+            refused(c, &a, number, data, 0, list, &fits, GII_PAGE, "no page");
+            refused(c, &a, number, data, page, list, &stray, GII_STRAY, "a stray bit");
+            refused(c, &a, number, data, 0, 0, &stray, GII_PAGE, "page, stray and list");
         }
-        refused((enum call)call, &a, number, 3, 0, 0, &stray, GII_PAGE, "page, stray and list");
-        refused((enum call)call, &greatest, UINT32_MAX, 0, 0, 0, &stray, GII_FIELD, "everything wrong");
+        if (c == SYNDROMES || c == NESTED_SYNDROMES) {
+            refused(c, &a, c == SYNDROMES ? a.m : a.v, data, page, list, &fits, GII_INDEX, "no such word");
+            refused(c, &a, UINT32_MAX, data, page, 0, &stray, GII_STRAY, "stray, index and list");
+        }
+        if (c == SYNDROMES || c == NESTED_SYNDROMES || c == QUOTE) {
+            refused(c, &a, 0, data, page, list - 1, &fits, GII_LIST, "a byte of list less");
+            refused(c, &a, 0, data, page, list + 1, &fits, GII_LIST, "a byte of list more");
+            refused(c, &a, 0, data, page, list / 2, &fits, GII_LIST, "half a list");
+            refused(c, &a, 0, data, page, 0, &fits, GII_LIST, "no list");
+            refused(c, &clash, 0, data, page, list - 1, &fits, GII_CLASH, "clash and list");
+        }
     }
+
+    without_sizes(&field, "q 5");
+    without_sizes(&shape, "m 1");
+    without_sizes(&strengths, "t 2, 2");
+    without_sizes(&clash, "m 4, t 1, 2, 3");
+    without_sizes(&greatest, "everything wrong");
 }
 
 /* What the header gives beside the functions. */
 static void header(void)
 {
-    static const struct gii_sheet most = {12, 8, 1, {1, 2, 0, 0}}, large = {12, 8, 3, {28, 32, 39, 58}};
-    static const struct gii_sheet clash = {4, 4, 2, {1, 2, 3, 0}};
+    static const struct gii_sheet most = {12, 8, 1, {1, 2, 0, 0}};
     char version[16];
 
     printf("the header\n");
     sprintf(version, "%d.%d.%d", GII_BCH_VERSION_MAJOR, GII_BCH_VERSION_MINOR, GII_BCH_VERSION_PATCH);
     must(strcmp(version, GII_BCH_VERSION) == 0, "version " GII_BCH_VERSION);
-    must(gii_sheet_page_bytes(&most) == GII_PAGE_MAX && gii_sheet_blocks_bytes(&most) == GII_BLOCKS_MAX, "the most bytes");
+    must(gii_sheet_page_bytes(&most) == GII_PAGE_MAX && gii_sheet_data_bytes(&most) == GII_BLOCKS_MAX, "the most bytes");
     must(GII_LIST_BYTES(64) == GII_LIST_MAX, "the longest list");
-    must(gii_sheet_blocks_bytes(&large) == 3695, "3695 bytes of blocks at q 12, m 8, v 3, t 28, 32, 39, 58");
-    must(gii_sheet_test(&clash) == GII_CLASH && gii_sheet_blocks_bytes(&clash) == 0, gii_answer_text(GII_CLASH));
     must(!GII_IS_REFUSAL(GII_DONE) && !GII_IS_REFUSAL(GII_SUB_WORD) && !GII_IS_REFUSAL(UINT32_MAX), "no refusals");
 }
 
@@ -226,6 +305,7 @@ int main(void)
     size_t k;
 
     header();
+    known_quote();
     known_pages();
     for (k = 0; k < sizeof sheets / sizeof *sheets; k++)
         round_trip(&sheets[k]);

@@ -10,9 +10,50 @@ pub enum Name {
     Judge,
     Syndromes,
     NestedSyndromes,
+    Quote,
+    PageBytes,
+    DataBytes,
+    Distance,
 }
 
-pub const NAMES: [Name; 5] = [Name::Write, Name::ReadOut, Name::Judge, Name::Syndromes, Name::NestedSyndromes];
+pub const NAMES: [Name; 9] = [
+    Name::Write,
+    Name::ReadOut,
+    Name::Judge,
+    Name::Syndromes,
+    Name::NestedSyndromes,
+    Name::Quote,
+    Name::PageBytes,
+    Name::DataBytes,
+    Name::Distance,
+];
+
+impl Name {
+    /// Whether the call gives a size in place of an answer.
+    pub fn is_size(self) -> bool {
+        matches!(self, Name::PageBytes | Name::DataBytes | Name::Distance)
+    }
+
+    /// Whether the call is given bytes to read: all but the quote and the sizes.
+    pub fn reads(self) -> bool {
+        self != Name::Quote && !self.is_size()
+    }
+
+    /// Whether the call is lent bytes to write: all but judge and the sizes.
+    pub fn writes(self) -> bool {
+        self != Name::Judge && !self.is_size()
+    }
+
+    /// The number that a call gives where a condition refuses it: the condition's, and no size.
+    pub fn refused_by(self, condition: u32) -> u32 {
+        if self.is_size() { 0 } else { condition }
+    }
+
+    /// Whether the number is a refusal of the call.
+    pub fn refuses(self, number: u32) -> bool {
+        if self.is_size() { number == 0 } else { (1..32).contains(&number) }
+    }
+}
 
 #[derive(Clone)]
 pub struct Call {
@@ -20,9 +61,9 @@ pub struct Call {
     pub p: Parameters,
     /// The width of write, the index of syndromes; of no meaning to the others.
     pub number: u32,
-    /// The bytes that are read: the blocks of write, else the page.
+    /// The bytes that are read: the blocks of write, else the page; none for the quote and the sizes.
     pub read: Vec<u8>,
-    /// The bytes lent to be written: page, blocks or list; none for judge.
+    /// The bytes lent to be written: page, blocks or list; none for judge and the sizes.
     pub lent: Vec<u8>,
 }
 
@@ -36,6 +77,10 @@ impl Call {
             Name::Judge => calls::judge(p, read),
             Name::Syndromes => calls::syndromes(p, read, *number, lent),
             Name::NestedSyndromes => calls::nested_syndromes(p, read, *number, lent),
+            Name::Quote => calls::quote(p, lent),
+            Name::PageBytes => calls::page_bytes(p),
+            Name::DataBytes => calls::data_bytes(p),
+            Name::Distance => calls::distance(p),
         }
     }
 
@@ -44,14 +89,19 @@ impl Call {
         let Call { name, p, number, .. } = self;
         let sheet = sheet(p);
         let done = |()| Verdict::Member;
-        let answer = match name {
-            Name::Write => sheet.write(*number, read, lent).map(done),
-            Name::ReadOut => sheet.read_out(read, lent),
-            Name::Judge => sheet.judge(read),
-            Name::Syndromes => sheet.syndromes(read, *number, lent).map(done),
-            Name::NestedSyndromes => sheet.nested_syndromes(read, *number, lent).map(done),
-        };
-        answer.map_or_else(Refusal::number, Verdict::number)
+        let answer = |answer: Result<Verdict, Refusal>| answer.map_or_else(Refusal::number, Verdict::number);
+        let size = |size: Result<usize, Refusal>| size.map_or(0, |size| size as u32);
+        match name {
+            Name::Write => answer(sheet.write(*number, read, lent).map(done)),
+            Name::ReadOut => answer(sheet.read_out(read, lent)),
+            Name::Judge => answer(sheet.judge(read)),
+            Name::Syndromes => answer(sheet.syndromes(read, *number, lent).map(done)),
+            Name::NestedSyndromes => answer(sheet.nested_syndromes(read, *number, lent).map(done)),
+            Name::Quote => answer(sheet.quote_into(lent).map(done)),
+            Name::PageBytes => size(sheet.page_bytes()),
+            Name::DataBytes => size(sheet.data_bytes()),
+            Name::Distance => size(sheet.distance()),
+        }
     }
 
     /// The number and the lent bytes on which both sides agree, or how they part. `shift` moves the buffers in memory.

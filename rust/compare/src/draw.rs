@@ -2,6 +2,7 @@
 
 use crate::call::{Call, NAMES, Name};
 use reference::Parameters;
+use reference::calls::QUOTE_BYTES;
 use reference::layout::{bit, set};
 use reference::parameters::Sheet;
 use reference::sample::Random;
@@ -81,6 +82,8 @@ pub fn exact(random: &mut Random, name: Name, p: &Parameters) -> Call {
         Name::Judge => (0, page(random, p), 0),
         Name::Syndromes => (random.from_to(0, sheet.m - 1), page(random, p), 0),
         Name::NestedSyndromes => (random.from_to(0, sheet.v - 1), page(random, p), 0),
+        Name::Quote => (0, Vec::new(), QUOTE_BYTES),
+        Name::PageBytes | Name::DataBytes | Name::Distance => (0, Vec::new(), 0),
     };
     let number = number as u32;
     let lent = match name {
@@ -97,6 +100,8 @@ pub fn conditions(name: Name) -> &'static [u32] {
         Name::ReadOut => &[1, 2, 3, 4, 6, 7, 8],
         Name::Judge => &[1, 2, 3, 4, 7, 8],
         Name::Syndromes | Name::NestedSyndromes => &[1, 2, 3, 4, 7, 8, 9, 10],
+        Name::Quote => &[1, 2, 3, 4, 10],
+        Name::PageBytes | Name::DataBytes | Name::Distance => &[1, 2, 3, 4],
     }
 }
 
@@ -244,6 +249,6 @@ fn wild(random: &mut Random, name: Name) -> Call {
         _ => random.from_to(0, 5000),
     };
     let (read, lent) = (length(random), length(random));
-    let lent = if name == Name::Judge { 0 } else { lent };
+    let (read, lent) = (if name.reads() { read } else { 0 }, if name.writes() { lent } else { 0 });
     Call { name, p, number, read: random.bytes(read), lent: random.bytes(lent) }
 }

@@ -27,7 +27,7 @@ impl Run {
         let shift = self.random.from_to(0, 255);
         let (number, lent) =
             call.compare(shift).unwrap_or_else(|found| panic!("seed {}, call {}: {found}", seed(), self.calls));
-        assert!(number == 0 || number >= 32, "{:?} is refused by {number}", call.p);
+        assert!(!call.name.refuses(number), "{:?} of {:?} is refused by {number}", call.name, call.p);
         (number, lent)
     }
 

@@ -1,8 +1,9 @@
-//! Refusals: every set of conditions that a call can meet gives its least number, and every byte stays.
+//! Refusals: every set of conditions that a call can meet gives its least number, no size is given, and every byte stays.
 
-use compare::call::{NAMES, Name};
+use compare::call::{Call, NAMES, Name};
 use compare::draw::{conditions, exact, say, seed, spoil};
 use reference::Parameters;
+use reference::calls::QUOTE_BYTES;
 use reference::sample::{Random, all_parameters};
 use std::collections::BTreeSet;
 
@@ -22,9 +23,9 @@ fn refuse(random: &mut Random, p: &Parameters, met: &mut BTreeSet<(Name, u32)>) 
             let (number, lent) = call
                 .compare(random.from_to(0, 255))
                 .unwrap_or_else(|found| panic!("seed {}, conditions {chosen:?}: {found}", seed()));
-            assert_eq!(number, chosen[0], "{name:?} {p:?}, conditions {chosen:?}");
+            assert_eq!(number, name.refused_by(chosen[0]), "{name:?} {p:?}, conditions {chosen:?}");
             assert_eq!(lent, call.lent);
-            met.insert((name, number));
+            met.insert((name, chosen[0]));
         }
     }
     calls
@@ -63,7 +64,7 @@ fn every_parameter_over_a_range() {
         for name in NAMES {
             // Buffers that fit the parameters where these are accepted, and those of sheet A where not.
             let exact_for = if p.accepted() { p } else { Parameters { q: 4, m: 2, v: 1, t: [1, 2, 0, 0] } };
-            let call = compare::call::Call { p, ..exact(random, name, &exact_for) };
+            let call = Call { p, ..exact(random, name, &exact_for) };
             calls += 1;
             if let Err(found) = call.compare(0) {
                 panic!("seed {}: {found}", seed());
@@ -104,18 +105,44 @@ fn every_length_near_the_exact_one() {
     let mut random = Random::new(seed() + 2);
     for q in [4, 8, 12] {
         let p = random.parameters(q);
-        for name in NAMES {
+        for name in NAMES.into_iter().filter(|name| name.reads()) {
             let call = exact(&mut random, name, &p);
             for read in (0..call.read.len() + 40).filter(|&length| q == 4 || length + 40 > call.read.len()) {
                 for lent in [0, call.lent.len().saturating_sub(1), call.lent.len(), call.lent.len() + 1] {
                     let mut call = call.clone();
                     call.read.resize(read, 0);
-                    call.lent.resize(if name == Name::Judge { 0 } else { lent }, 0xA5);
+                    call.lent.resize(if name.writes() { lent } else { 0 }, 0xA5);
                     if let Err(found) = call.compare(0) {
                         panic!("seed {}: {found}", seed());
                     }
                 }
             }
+        }
+    }
+}
+
+/// Every length of the quote's list but one is refused by 10, and only where the parameters are not refused.
+#[test]
+fn every_length_of_a_quote() {
+    let mut random = Random::new(seed() + 3);
+    let a = Parameters { q: 4, m: 2, v: 1, t: [1, 2, 0, 0] };
+    let clash = Parameters { q: 4, m: 4, v: 2, t: [1, 2, 3, 0] };
+    let refused =
+        [Parameters { q: 5, ..a }, Parameters { m: 1, ..a }, Parameters { t: [2, 2, 0, 0], ..a }, clash].into_iter();
+    assert!(refused.clone().map(|p| p.refusal()).eq(1..=4));
+    let drawn: Vec<Parameters> = [4, 8, 12].into_iter().map(|q| random.parameters(q)).collect();
+    for p in refused.chain([a]).chain(drawn) {
+        // Small ones, and ones that are the exact length modulo 2^8 or 2^16.
+        for length in (0..=4 * QUOTE_BYTES).chain([QUOTE_BYTES + (1 << 8), QUOTE_BYTES + (1 << 16)]) {
+            let call = Call { name: Name::Quote, p, number: 0, read: Vec::new(), lent: random.bytes(length) };
+            let (number, lent) = call.compare(length).unwrap_or_else(|found| panic!("seed {}: {found}", seed()));
+            let expected = match p.refusal() {
+                0 if length == QUOTE_BYTES => 0,
+                0 => 10,
+                refusal => refusal,
+            };
+            assert_eq!(number, expected, "{p:?}, {length} bytes");
+            assert!(number == 0 || lent == call.lent, "{p:?}, {length} bytes");
         }
     }
 }

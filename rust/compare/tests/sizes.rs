@@ -1,15 +1,16 @@
-//! Sizes: what the crate gii-bch works out of a sheet, beside the reference.
+//! Sizes: what the crate gii-bch gives of a sheet by the archive's calls, beside the reference.
 
 use compare::call::sheet;
-use gii_bch::Refusal;
+use gii_bch::{Refusal, Sheet as Made};
 use reference::parameters::{Parameters, Sheet};
-use reference::sample::all_parameters;
+use reference::sample::{Random, all_parameters};
 
 fn compare(p: &Parameters) {
     let (made, expected) = (sheet(p), Sheet::of(p));
     assert_eq!(made.test(), Ok(()), "{p:?}");
     assert_eq!(made.page_bytes(), Ok(expected.page_bytes()), "{p:?}");
-    assert_eq!(made.blocks_bytes(), Ok(expected.blocks_bytes()), "{p:?}");
+    assert_eq!(made.data_bytes(), Ok(expected.blocks_bytes()), "{p:?}");
+    assert_eq!(made.distance(), Ok(expected.distance()), "{p:?}");
     (0..p.m).for_each(|i| assert_eq!(made.block_bits(i), Ok(expected.block_bits(i as usize)), "{p:?}, block {i}"));
     assert_eq!(made.list_bytes(), Ok(4 * expected.levels[0].t), "{p:?}");
     (0..p.v).for_each(|l| {
@@ -17,31 +18,54 @@ fn compare(p: &Parameters) {
     });
     assert_eq!(made.block_bits(p.m), Err(Refusal::Index));
     assert_eq!(made.nested_list_bytes(p.v), Err(Refusal::Index));
+
+    let quote = made.quote().unwrap();
+    for (a, degree) in quote.degrees.into_iter().enumerate() {
+        assert_eq!(usize::from(degree), expected.levels.get(a).map_or(0, |level| level.degree()), "{p:?}, level {a}");
+    }
+    for (i, bits) in quote.data_bits.into_iter().enumerate() {
+        let expected = if i < expected.m { expected.block_bits(i) } else { 0 };
+        assert_eq!(usize::from(bits), expected, "{p:?}, block {i}");
+    }
 }
 
-/// All sheets of q = 4; at q = 8 and 12 all pairs of strengths. The header's greatest sizes are met, and none is above.
+fn refused(made: &Made, refusal: Refusal) {
+    assert_eq!(made.quote(), Err(refusal), "{made:?}");
+    for size in [Made::page_bytes, Made::data_bytes, Made::distance, Made::list_bytes] {
+        assert_eq!(size(made), Err(refusal), "{made:?}");
+    }
+    assert_eq!(made.block_bits(0), Err(refusal), "{made:?}");
+    assert_eq!(made.nested_list_bytes(0), Err(refusal), "{made:?}");
+}
+
+/// All sheets of q = 4; at q = 8 and 12 all pairs of strengths, and drawn sheets of more levels. The header's greatest sizes
+/// are met, and none is above.
 #[test]
 fn sizes_of_sheets() {
     all_parameters(4, 8).iter().for_each(compare);
-    let (mut page, mut blocks, mut list) = (0, 0, 0);
+    let mut random = Random::new(compare::draw::seed());
+    for q in [8, 12] {
+        (0..200).for_each(|_| compare(&random.parameters(q)));
+    }
+    let (mut page, mut data, mut list) = (0, 0, 0);
     for (q, m) in [(8, 2), (8, 8), (12, 2), (12, 8)] {
         for t1 in 2..=64 {
             for t0 in 1..t1 {
                 let p = Parameters { q, m, v: 1, t: [t0, t1, 0, 0] };
-                match sheet(&p).test() {
+                let made = sheet(&p);
+                match made.test() {
                     Ok(()) => compare(&p),
                     Err(refusal) => {
                         assert_eq!(refusal.number(), p.refusal(), "{p:?}");
-                        assert_eq!(sheet(&p).page_bytes(), Err(refusal));
-                        assert_eq!(sheet(&p).blocks_bytes(), Err(refusal));
+                        refused(&made, refusal);
                         continue;
                     }
                 }
-                page = page.max(sheet(&p).page_bytes().unwrap());
-                blocks = blocks.max(sheet(&p).blocks_bytes().unwrap());
-                list = list.max(sheet(&p).nested_list_bytes(0).unwrap());
+                page = page.max(made.page_bytes().unwrap());
+                data = data.max(made.data_bytes().unwrap());
+                list = list.max(made.nested_list_bytes(0).unwrap());
             }
         }
     }
-    assert_eq!((page, blocks, list), (4096, 4086, 256));
+    assert_eq!((page, data, list), (4096, 4086, 256));
 }

@@ -1,4 +1,4 @@
-//! Pages of generalized integrated interleaved BCH (GII-BCH) codes: writing, reading out, judging, syndromes.
+//! Pages of generalized integrated interleaved BCH (GII-BCH) codes: writing, reading out, judging, syndromes, sizes.
 //!
 //! The work is done by `libgii_bch.a`, a library proved by machine. This crate is not proved: it links the archive, lends
 //! it slices and gives its numbers names. A slice is never null, exactly as long as it says, and a mutable one overlaps no
@@ -13,7 +13,7 @@
 //! sheet.write(64, &blocks, &mut page)?;
 //! assert_eq!(page, [0xC2, 0x01, 0x13, 0x00]);
 //!
-//! let mut back = vec![0; sheet.blocks_bytes()?];
+//! let mut back = vec![0; sheet.data_bytes()?];
 //! assert_eq!(sheet.read_out(&page, &mut back)?, Verdict::Member);
 //! assert_eq!(back, blocks);
 //!
@@ -29,6 +29,7 @@
 #![no_std]
 #![deny(missing_docs)]
 
+use core::array::from_fn;
 use core::fmt;
 
 /// Declares C functions, whose first seven parameters are those of the sheet.
@@ -50,14 +51,18 @@ c_functions! {
     fn gii_judge(page: *const u8, page_len: usize);
     fn gii_syndromes(page: *const u8, page_len: usize, index: u32, list: *mut u8, list_len: usize);
     fn gii_nested_syndromes(page: *const u8, page_len: usize, index: u32, list: *mut u8, list_len: usize);
+    fn gii_quote(list: *mut u8, list_len: usize);
+    fn gii_page_bytes();
+    fn gii_data_bytes();
+    fn gii_distance();
 }
 
-/// Calls a C function with the parameters of a sheet before the others.
+/// Calls a C function with the parameters of a sheet before the others, and gives its number.
 macro_rules! call {
-    ($name:ident, $sheet:expr, $($argument:expr),*) => {{
+    ($name:ident, $sheet:expr $(, $argument:expr)*) => {{
         let &Sheet { q, m, v, t: [t0, t1, t2, t3] } = $sheet;
         // Every pointer given below is a slice's, with its length.
-        answer(unsafe { c::$name(q, m, v, t0, t1, t2, t3, $($argument),*) })
+        unsafe { c::$name(q, m, v, t0, t1, t2, t3 $(, $argument)*) }
     }};
 }
 
@@ -74,6 +79,18 @@ pub struct Sheet {
     /// The strengths: 1 ≤ t_0 < t_1 ≤ .. ≤ t_v ≤ 64 and 2 t_v ≤ n − 1; those past t_v are 0.
     pub t: [u32; 4],
 }
+
+/// What a sheet comes to: the check bits and the data bits of its sub-words.
+#[derive(Clone, Copy, Debug, PartialEq, Eq, Hash)]
+pub struct Quote {
+    /// The degrees w_0 to w_v of the generators; 0 past v.
+    pub degrees: [u16; 4],
+    /// The data bits of each block: n − w_(v−i) of block i for i < v, n − w_0 from i = v on; 0 past the last block.
+    pub data_bits: [u16; 8],
+}
+
+/// Bytes of a quote: twelve numbers of two bytes.
+pub const QUOTE_BYTES: usize = 24;
 
 /// What a page was found to be.
 #[derive(Clone, Copy, Debug, PartialEq, Eq, PartialOrd, Ord, Hash)]
@@ -140,8 +157,8 @@ fn answer(number: u32) -> Result<Verdict, Refusal> {
 }
 
 /// The answer of a call that judges nothing.
-fn done(answer: Result<Verdict, Refusal>) -> Result<(), Refusal> {
-    answer.map(|verdict| assert_eq!(verdict, Verdict::Member))
+fn done(number: u32) -> Result<(), Refusal> {
+    answer(number).map(|verdict| assert_eq!(verdict, Verdict::Member))
 }
 
 impl Verdict {
@@ -199,44 +216,101 @@ impl Sheet {
 
     /// Whether the parameters are accepted; else their refusal: field, shape, strengths or clash.
     pub fn test(&self) -> Result<(), Refusal> {
-        // No page has 0 bytes, so that judge refuses this one at the latest by its length.
-        match self.judge(&[]) {
-            Err(Refusal::Page) => Ok(()),
-            answer => done(answer),
+        self.quote().map(|_| ())
+    }
+
+    /// What the sheet comes to, in numbers. Refuses the parameters.
+    ///
+    /// ```
+    /// # use gii_bch::{Refusal, Sheet};
+    /// let quote = Sheet::new(12, 8, 3, [28, 32, 39, 58]).quote()?;
+    /// assert_eq!(quote.degrees, [336, 384, 462, 690]);
+    /// assert_eq!(quote.data_bits, [3405, 3633, 3711, 3759, 3759, 3759, 3759, 3759]);
+    ///
+    /// let quote = Sheet::new(4, 2, 1, [1, 2, 0, 0]).quote()?;
+    /// assert_eq!(quote.degrees, [4, 8, 0, 0]);
+    /// assert_eq!(quote.data_bits, [7, 11, 0, 0, 0, 0, 0, 0]);
+    ///
+    /// // 3 × 5 is a multiple of 15.
+    /// assert_eq!(Sheet::new(4, 4, 2, [1, 2, 3, 0]).quote(), Err(Refusal::Clash));
+    /// # Ok::<(), gii_bch::Refusal>(())
+    /// ```
+    pub fn quote(&self) -> Result<Quote, Refusal> {
+        let mut list = [0; QUOTE_BYTES];
+        self.quote_into(&mut list)?;
+        let number = |place: usize| u16::from_le_bytes([list[2 * place], list[2 * place + 1]]);
+        Ok(Quote { degrees: from_fn(number), data_bits: from_fn(|i| number(4 + i)) })
+    }
+
+    /// The same as a list of [`QUOTE_BYTES`] bytes: the degrees, then the data bits, two bytes a number, low byte first;
+    /// [`numbers`] reads them. Refuses the parameters, the list's length.
+    ///
+    /// ```
+    /// # use gii_bch::{QUOTE_BYTES, Refusal, Sheet, numbers};
+    /// let sheet = Sheet::new(4, 2, 1, [1, 2, 0, 0]);
+    /// let mut list = [0xA5; QUOTE_BYTES];
+    /// sheet.quote_into(&mut list)?;
+    /// assert!(numbers(&list).eq([4, 8, 0, 0, 7, 11, 0, 0, 0, 0, 0, 0]));
+    ///
+    /// let mut short = [0xA5; QUOTE_BYTES - 1];
+    /// assert_eq!(sheet.quote_into(&mut short), Err(Refusal::List));
+    /// assert_eq!(short, [0xA5; QUOTE_BYTES - 1]);
+    /// # Ok::<(), gii_bch::Refusal>(())
+    /// ```
+    pub fn quote_into(&self, list: &mut [u8]) -> Result<(), Refusal> {
+        done(call!(gii_quote, self, list.as_mut_ptr(), list.len()))
+    }
+
+    /// A size that the archive gives: 0 stands for a refusal of the parameters, since no accepted ones have a size of 0.
+    fn size(&self, size: u32) -> Result<usize, Refusal> {
+        match size {
+            0 => Err(self.test().expect_err("the archive gives a size of 0 to parameters that it accepts")),
+            size => Ok(size as usize),
         }
     }
 
-    /// Bytes of a page: m sub-words of 2^q / 8.
+    /// Bytes of a page: m sub-words of 2^q / 8. Refuses the parameters.
+    ///
+    /// ```
+    /// # use gii_bch::{Refusal, Sheet};
+    /// assert_eq!(Sheet::new(12, 8, 3, [28, 32, 39, 58]).page_bytes(), Ok(4096));
+    /// assert_eq!(Sheet::new(5, 2, 1, [1, 2, 0, 0]).page_bytes(), Err(Refusal::Field));
+    /// ```
     pub fn page_bytes(&self) -> Result<usize, Refusal> {
-        self.test()?;
-        Ok(self.m as usize * (1 << self.q) / 8)
+        self.size(call!(gii_page_bytes, self))
     }
 
-    /// Data bits of block i: n less the check bits of sub-word i. This count is not the archive's; write and read out test
-    /// the length.
+    /// Bytes of all blocks, each on whole bytes. Refuses the parameters.
+    ///
+    /// ```
+    /// # use gii_bch::{Refusal, Sheet};
+    /// assert_eq!(Sheet::new(12, 8, 3, [28, 32, 39, 58]).data_bytes(), Ok(3695));
+    /// assert_eq!(Sheet::new(4, 1, 1, [1, 2, 0, 0]).data_bytes(), Err(Refusal::Shape));
+    /// ```
+    pub fn data_bytes(&self) -> Result<usize, Refusal> {
+        self.size(call!(gii_data_bytes, self))
+    }
+
+    /// Two different members differ in at least so many bits: the smallest of (v + 1)(2 t_0 + 1) and b (2 t_(v−b+1) + 1) for
+    /// b from 1 to v. Refuses the parameters.
+    ///
+    /// ```
+    /// # use gii_bch::{Refusal, Sheet};
+    /// assert_eq!(Sheet::new(12, 8, 3, [28, 32, 39, 58]).distance(), Ok(117)); // 2 × 58 + 1
+    /// assert_eq!(Sheet::new(8, 4, 2, [4, 8, 16, 0]).distance(), Ok(27)); // 3 × (2 × 4 + 1)
+    /// assert_eq!(Sheet::new(4, 2, 1, [2, 2, 0, 0]).distance(), Err(Refusal::Strengths));
+    /// ```
+    pub fn distance(&self) -> Result<usize, Refusal> {
+        self.size(call!(gii_distance, self))
+    }
+
+    /// Data bits of block i, by the quote. Refuses the parameters, the index.
     pub fn block_bits(&self, i: u32) -> Result<usize, Refusal> {
-        self.test()?;
+        let quote = self.quote()?;
         if i >= self.m {
             return Err(Refusal::Index);
         }
-        let n = (1usize << self.q) - 1;
-        let t = self.t[self.v.saturating_sub(i) as usize] as usize;
-        // The set {j, 2j, 4j, ..} mod n, taken at its least number.
-        let set = |j: usize| {
-            let mut size = 1;
-            let mut e = 2 * j % n;
-            while e > j {
-                (e, size) = (2 * e % n, size + 1);
-            }
-            if e == j { size } else { 0 }
-        };
-        Ok(n - (1..=2 * t).map(set).sum::<usize>())
-    }
-
-    /// Bytes of all blocks, each on whole bytes.
-    pub fn blocks_bytes(&self) -> Result<usize, Refusal> {
-        self.test()?;
-        (0..self.m).map(|i| self.block_bits(i).map(|bits| bits.div_ceil(8))).sum()
+        Ok(quote.data_bits[i as usize].into())
     }
 
     /// Bytes of the list of a sub-word's syndromes: 2 t_0 numbers of two bytes.
@@ -263,12 +337,12 @@ impl Sheet {
     /// The data bits of the page, member or not, and what [`Sheet::judge`] gives for it. Nothing is corrected. Refuses the
     /// parameters, both lengths, a spare bit of the page.
     pub fn read_out(&self, page: &[u8], blocks: &mut [u8]) -> Result<Verdict, Refusal> {
-        call!(gii_read_out, self, page.as_ptr(), page.len(), blocks.as_mut_ptr(), blocks.len())
+        answer(call!(gii_read_out, self, page.as_ptr(), page.len(), blocks.as_mut_ptr(), blocks.len()))
     }
 
     /// Whether the page is a member of the code. Refuses the parameters, the length, a spare bit.
     pub fn judge(&self, page: &[u8]) -> Result<Verdict, Refusal> {
-        call!(gii_judge, self, page.as_ptr(), page.len())
+        answer(call!(gii_judge, self, page.as_ptr(), page.len()))
     }
 
     /// S_1 to S_(2 t_0) of sub-word `index`, two bytes a number, low byte first; [`numbers`] reads them. Refuses the
@@ -283,7 +357,7 @@ impl Sheet {
     }
 }
 
-/// The numbers of a list of syndromes: elements of GF(2^q), α being 2.
+/// The numbers of a list: of syndromes, which are elements of GF(2^q), α being 2, or of a quote.
 ///
 /// ```
 /// # use gii_bch::{Sheet, numbers};

@@ -1,4 +1,4 @@
-//! The five C calls, on slices. Each gives the requirement's number; a refusal leaves every byte.
+//! The nine C calls, on slices. Each gives the requirement's number; a refusal leaves every byte.
 
 use crate::parameters::{Condition, Parameters, Sheet, first};
 
@@ -95,6 +95,41 @@ pub fn nested_syndromes(p: &Parameters, page: &[u8], index: u32, list: &mut [u8]
     }
     put_list(&sheet(), &sheet().nested_word(&sheet().words_of(page), index as usize), list);
     0
+}
+
+/// Bytes of a quote: the degrees of four levels and the data bits of eight blocks, two bytes each.
+pub const QUOTE_BYTES: usize = 2 * (4 + 8);
+
+pub fn quote(p: &Parameters, list: &mut [u8]) -> u32 {
+    let refused = refusal(p, &[(10, &|| list.len() != QUOTE_BYTES)]);
+    if refused != 0 {
+        return refused;
+    }
+    let sheet = Sheet::of(p);
+    let degrees = sheet.levels.iter().map(|level| level.degree()).enumerate();
+    let data_bits = (0..sheet.m).map(|i| (4 + i, sheet.block_bits(i)));
+    list.fill(0);
+    for (place, number) in degrees.chain(data_bits) {
+        list[2 * place..][..2].copy_from_slice(&(number as u16).to_le_bytes());
+    }
+    0
+}
+
+pub fn page_bytes(p: &Parameters) -> u32 {
+    size(p, Sheet::page_bytes)
+}
+
+pub fn data_bytes(p: &Parameters) -> u32 {
+    size(p, Sheet::blocks_bytes)
+}
+
+pub fn distance(p: &Parameters) -> u32 {
+    size(p, Sheet::distance)
+}
+
+/// A size of accepted parameters; 0 of others.
+fn size(p: &Parameters, of: fn(&Sheet) -> usize) -> u32 {
+    if p.accepted() { of(&Sheet::of(p)) as u32 } else { 0 }
 }
 
 /// S_1, S_2, .. as many as the list has room for, two bytes each, low byte first.

@@ -9,7 +9,7 @@
 //!   linear conditions of the code at once, every check bit an unknown (`elimination`);
 //! - a word is judged by its values at the roots, a nested word is formed by turning, refusals are a list of conditions.
 //!
-//! `calls` has the five C calls by these means. `sample` draws inputs from a seed.
+//! `calls` has the nine C calls by these means; a degree is a generator's length less one. `sample` draws inputs from a seed.
 
 pub mod calls;
 pub mod elimination;

@@ -63,6 +63,12 @@ impl Sheet {
         self.levels[self.v.saturating_sub(i)]
     }
 
+    /// The smallest of (v + 1)(2 t_0 + 1) and b (2 t_(v − b + 1) + 1), b from 1 to v.
+    pub fn distance(&self) -> usize {
+        let weight = |words: usize, level: usize| words * (2 * self.levels[level].t + 1);
+        (1..=self.v).map(|b| weight(b, self.v - b + 1)).fold(weight(self.v + 1, 0), usize::min)
+    }
+
     /// The level that nested word l is held to.
     pub fn nested_level(&self, l: usize) -> &'static Level {
         self.levels[self.v - l]

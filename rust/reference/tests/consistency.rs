@@ -141,6 +141,7 @@ fn distance() {
             least = least.min(page.count_ones());
         }
         let bound = (0..=p.v).map(|a| (p.v + 1 - a) * (2 * p.t[a as usize] + 1)).min().unwrap();
+        assert_eq!(calls::distance(&p), bound, "{p:?}");
         assert!(least >= bound, "{p:?}: {least} below {bound}");
         sheets += 1;
         met += u32::from(least == bound);

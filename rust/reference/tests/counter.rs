@@ -1,10 +1,12 @@
 //! The requirement's cases ('On the counter'), the starred ones and those that a C call or the reference can show.
 
-use reference::calls::{judge, nested_syndromes, read_out, syndromes, write};
+use reference::calls::{
+    QUOTE_BYTES, data_bytes, distance, judge, nested_syndromes, page_bytes, quote, read_out, syndromes, write,
+};
 use reference::field::Field;
 use reference::generator::Level;
-use reference::parameters::Sheet;
 use reference::{Parameters, sample};
+use std::collections::BTreeSet;
 
 const A: Parameters = Parameters { q: 4, m: 2, v: 1, t: [1, 2, 0, 0] };
 const B: Parameters = Parameters { q: 4, m: 3, v: 2, t: [1, 2, 3, 0] };
@@ -78,11 +80,65 @@ fn parameters() {
 }
 
 #[test]
-fn large_sheet() {
-    let sheet = Sheet::of(&LARGE);
-    assert_eq!(sheet.levels.iter().map(|level| level.degree()).collect::<Vec<_>>(), [336, 384, 462, 690]);
-    assert_eq!(sheet.blocks_bytes(), 3695);
-    assert_eq!(sheet.page_bytes(), 4096);
+fn degrees() {
+    for (q, t, expected) in [
+        (4, 1, 4),
+        (4, 2, 8),
+        (4, 3, 10),
+        (4, 4, 14),
+        (4, 7, 14),
+        (12, 28, 336),
+        (12, 32, 384),
+        (12, 39, 462),
+        (12, 58, 690),
+    ] {
+        let field = Field::of(q);
+        assert_eq!(Level::of(field, t).degree(), expected, "q = {q}, t = {t}");
+        // The number of different j × 2^s modulo n.
+        let exponents: BTreeSet<_> = (1..=2 * t).flat_map(|j| (0..q).map(move |s| (j << s) % field.n)).collect();
+        assert_eq!(exponents.len(), expected, "q = {q}, t = {t}");
+    }
+    // 33 is 9 × 2^5 modulo 255, so that α^33 and α^34 are roots already.
+    assert_eq!(Level::of(Field::of(8), 16).degree(), Level::of(Field::of(8), 17).degree());
+}
+
+#[test]
+fn quotes() {
+    for (p, numbers, page, data, bits) in [
+        (A, [4, 8, 0, 0, 7, 11, 0, 0, 0, 0, 0, 0], 4, 3, 5),
+        (B, [4, 8, 10, 0, 5, 7, 11, 0, 0, 0, 0, 0], 6, 4, 7),
+        (LARGE, [336, 384, 462, 690, 3405, 3633, 3711, 3759, 3759, 3759, 3759, 3759], 4096, 3695, 117),
+    ] {
+        let mut list = [0xA5; QUOTE_BYTES];
+        assert_eq!(quote(&p, &mut list), 0, "{p:?}");
+        assert_eq!(list.to_vec(), numbers.map(u16::to_le_bytes).concat(), "{p:?}");
+        assert_eq!((page_bytes(&p), data_bytes(&p), distance(&p)), (page, data, bits), "{p:?}");
+    }
+}
+
+/// The list's length is looked at where the parameters are accepted; a refusal leaves every byte.
+#[test]
+fn quotes_refused() {
+    let clash = Parameters { q: 4, m: 4, v: 2, t: [1, 2, 3, 0] };
+    for length in [0, 12, QUOTE_BYTES - 1, QUOTE_BYTES, QUOTE_BYTES + 1, 2 * QUOTE_BYTES] {
+        for (p, refusal) in [
+            (Parameters { q: 5, ..A }, 1),
+            (Parameters { m: 1, ..A }, 2),
+            (Parameters { t: [2, 2, 0, 0], ..A }, 3),
+            (clash, 4),
+            (A, 10),
+        ] {
+            if p.accepted() && length == QUOTE_BYTES {
+                continue;
+            }
+            let mut list = vec![0xA5; length];
+            assert_eq!(quote(&p, &mut list), refusal, "{p:?}, {length} bytes");
+            assert_eq!(list, vec![0xA5; length]);
+        }
+    }
+    for p in [Parameters { q: 5, ..A }, Parameters { m: 1, ..A }, Parameters { t: [2, 2, 0, 0], ..A }, clash] {
+        assert_eq!((page_bytes(&p), data_bytes(&p), distance(&p)), (0, 0, 0), "{p:?}");
+    }
 }
 
 #[test]

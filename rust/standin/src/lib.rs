@@ -2,9 +2,11 @@
 //!
 //! GII_FAULT names the fault; unset, there is none. `faults.sh` has the list and asks that the tests find each.
 
+use reference::generator::{Level, odd};
 use reference::layout::{bit, set};
 use reference::parameters::Sheet;
 use reference::{Parameters, calls, generator, linear};
+use std::collections::BTreeSet;
 use std::hint::black_box;
 use std::slice::{from_raw_parts, from_raw_parts_mut};
 use std::sync::OnceLock;
@@ -207,13 +209,79 @@ fn nested_syndromes(p: &Parameters, page: &[u8], index: u32, list: &mut [u8]) ->
     leave(nested(p, page, index, list), list)
 }
 
+/// The degree of a level's generator, wrong where the fault is about it.
+fn degree(sheet: &Sheet, level: &Level) -> usize {
+    let (q, n) = (sheet.field.q, sheet.field.n);
+    if fault("quote-q-times-t") {
+        return q * level.t;
+    }
+    if fault("quote-coset-twice") {
+        // The coset of each odd j, counted before or not.
+        let coset = |j: usize| (0..q).map(|s| (j << s) % n).collect::<BTreeSet<_>>().len();
+        return odd(level.t).map(coset).sum();
+    }
+    level.degree()
+}
+
+fn quote(p: &Parameters, list: &mut [u8]) -> u32 {
+    if fault("quote-list-first") && list.len() != calls::QUOTE_BYTES {
+        return 10;
+    }
+    let end = if fault("quote-longer-list") { list.len().min(calls::QUOTE_BYTES) } else { list.len() };
+    let list = &mut list[..end];
+    let old = list.to_vec();
+    let number = calls::quote(p, list);
+    if number != 0 {
+        return leave(number, list);
+    }
+    let sheet = Sheet::of(p);
+    // Block i by level i in place of v − i.
+    let level = |i: usize| match sheet.levels.get(i) {
+        Some(level) if fault("quote-level-i") && i < sheet.v => level,
+        _ => sheet.level(i),
+    };
+    let degrees = sheet.levels.iter().map(|level| degree(&sheet, level)).enumerate();
+    let data_bits = (0..sheet.m).map(|i| (4 + i, sheet.field.n.wrapping_sub(degree(&sheet, level(i)))));
+    let numbers: Vec<(usize, usize)> = degrees.chain(data_bits).collect();
+    if fault("quote-places-left") {
+        list.copy_from_slice(&old);
+    }
+    for (place, number) in numbers {
+        list[2 * place..][..2].copy_from_slice(&(number as u16).to_le_bytes());
+    }
+    number
+}
+
+fn page_bytes(p: &Parameters) -> u32 {
+    if fault("size-of-a-clash") && p.refusal() == 4 {
+        return p.m << p.q >> 3;
+    }
+    calls::page_bytes(p)
+}
+
+fn data_bytes(p: &Parameters) -> u32 {
+    if fault("data-bytes-packed") && p.accepted() {
+        // One block behind another bit by bit.
+        let sheet = Sheet::of(p);
+        return (0..sheet.m).map(|i| sheet.block_bits(i)).sum::<usize>().div_ceil(8) as u32;
+    }
+    calls::data_bytes(p)
+}
+
+fn distance(p: &Parameters) -> u32 {
+    if fault("distance-of-one-level") && p.accepted() {
+        return 2 * p.t[p.v as usize] + 1;
+    }
+    calls::distance(p)
+}
+
 /// Exports a function on parameters, numbers and slices by the name that C has for it.
 macro_rules! exported {
     ($($name:ident($($parameter:ident: $kind:ty),*) = $call:ident($($argument:expr),*);)*) => {$(
         /// # Safety
         /// As the header says.
         #[unsafe(no_mangle)]
-        #[allow(clippy::too_many_arguments)]
+        #[allow(clippy::too_many_arguments, unused_unsafe)]
         pub unsafe extern "C" fn $name(
             q: u32, m: u32, v: u32, t0: u32, t1: u32, t2: u32, t3: u32, $($parameter: $kind),*
         ) -> u32 {
@@ -233,4 +301,8 @@ exported! {
         = syndromes(from_raw_parts(page, page_len), index, from_raw_parts_mut(list, list_len));
     gii_nested_syndromes(page: *const u8, page_len: usize, index: u32, list: *mut u8, list_len: usize)
         = nested_syndromes(from_raw_parts(page, page_len), index, from_raw_parts_mut(list, list_len));
+    gii_quote(list: *mut u8, list_len: usize) = quote(from_raw_parts_mut(list, list_len));
+    gii_page_bytes() = page_bytes();
+    gii_data_bytes() = data_bytes();
+    gii_distance() = distance();
 }

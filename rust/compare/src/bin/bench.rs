@@ -9,6 +9,7 @@
 
 use compare::call::{Call, Name};
 use reference::Parameters;
+use reference::calls::QUOTE_BYTES;
 use reference::parameters::Sheet;
 use reference::sample::Random;
 use std::hint::black_box;
@@ -59,7 +60,7 @@ struct Row {
     sheet: String,
     call: &'static str,
     width: String,
-    /// Bytes of the page, or of the buffer of memcpy and CRC-32.
+    /// Bytes of the page, or of the buffer of memcpy and CRC-32; 0 for a call without a page.
     bytes: usize,
     /// The archive and the reference; for memcpy and CRC-32 that alone.
     sides: Vec<(&'static str, Timed)>,
@@ -108,6 +109,7 @@ fn sheet_rows(random: &mut Random, p: Parameters) -> Vec<Row> {
     let write = |number| Call { name: Name::Write, p, number, read: blocks.clone(), lent: vec![0; sheet.page_bytes()] };
     assert_eq!(write(64).by_reference(&blocks, &mut page), 0);
     let read = |name, lent| Call { name, p, number: 0, read: page.clone(), lent: vec![0; lent] };
+    let without_page = |name, lent| Call { name, p, number: 0, read: Vec::new(), lent: vec![0; lent] };
 
     let row = |call: Call| {
         let (name, width) = match call.name {
@@ -116,19 +118,28 @@ fn sheet_rows(random: &mut Random, p: Parameters) -> Vec<Row> {
             Name::Judge => ("judge", String::new()),
             Name::Syndromes => ("syndromes", String::new()),
             Name::NestedSyndromes => ("nested syndromes", String::new()),
+            Name::Quote => ("quote", String::new()),
+            Name::PageBytes => ("page bytes", String::new()),
+            Name::DataBytes => ("data bytes", String::new()),
+            Name::Distance => ("distance", String::new()),
         };
+        let bytes = if call.name.reads() { sheet.page_bytes() } else { 0 };
+        let answer = call.by_reference(&call.read, &mut call.lent.clone());
+        assert!(!call.name.refuses(answer), "{name} is refused by {answer}");
         let timed = |made: fn(&Call, &[u8], &mut [u8]) -> u32| {
             let (call, mut lent) = (call.clone(), call.lent.clone());
-            Timed::new(move || assert_eq!(made(black_box(&call), black_box(&call.read), black_box(&mut lent)), 0))
+            Timed::new(move || assert_eq!(made(black_box(&call), black_box(&call.read), black_box(&mut lent)), answer))
         };
         let sides = vec![("archive", timed(Call::by_archive)), ("reference", timed(Call::by_reference))];
-        Row { sheet: title.clone(), call: name, width, bytes: sheet.page_bytes(), sides }
+        Row { sheet: title.clone(), call: name, width, bytes, sides }
     };
     let mut rows: Vec<Row> = WIDTHS.into_iter().map(|width| row(write(width))).collect();
     rows.push(row(read(Name::ReadOut, blocks.len())));
     rows.push(row(read(Name::Judge, 0)));
     rows.push(row(read(Name::Syndromes, 4 * p.t[0] as usize)));
     rows.push(row(read(Name::NestedSyndromes, 4 * p.t[p.v as usize] as usize)));
+    rows.push(row(without_page(Name::Quote, QUOTE_BYTES)));
+    rows.extend([Name::PageBytes, Name::DataBytes, Name::Distance].map(|name| row(without_page(name, 0))));
     rows
 }
 
@@ -182,7 +193,7 @@ fn main() {
         "\n| sheet | page bytes | call | width | archive | of a CRC-32 of 4,096 bytes | per byte | reference | reference to archive |"
     );
     println!("|---|---|---|---|---|---|---|---|---|");
-    for row in rows.iter().filter(|row| row.sides.len() == 2) {
+    for row in rows.iter().filter(|row| row.sides.len() == 2 && row.bytes > 0) {
         let Row { sheet, call, width, bytes, sides } = row;
         let time = median(&sides[0].1);
         let (of_crc, per_byte, slower) = (time / crc, time / *bytes as f64, median(&sides[1].1) / time);
@@ -190,6 +201,16 @@ fn main() {
         println!(
             "| {sheet} | {bytes} | {call} | {width} | {archive} | {of_crc:.2} | {per_byte:.2} ns | {reference} | {slower:.1} |"
         );
+    }
+    println!(
+        "\n| sheet | call without a page | archive | of a CRC-32 of 4,096 bytes | reference | reference to archive |"
+    );
+    println!("|---|---|---|---|---|---|");
+    for Row { sheet, call, sides, .. } in rows.iter().filter(|row| row.bytes == 0) {
+        let time = median(&sides[0].1);
+        let (of_crc, slower) = (time / crc, median(&sides[1].1) / time);
+        let (archive, reference) = (with_spread(&sides[0].1), with_spread(&sides[1].1));
+        println!("| {sheet} | {call} | {archive} | {of_crc:.4} | {reference} | {slower:.1} |");
     }
 
     if let Some(file) = std::env::args().nth(1) {

@@ -14,7 +14,11 @@ fn main() {
     for count in 1..=calls {
         let call = draw::any(&mut random);
         match call.compare(random.from_to(0, 255)) {
-            Ok((number, _)) => *answers.entry((call.name, number)).or_insert(0) += 1,
+            Ok((number, _)) => {
+                // Sizes are counted together.
+                let number = if call.name.is_size() { number.min(1) } else { number };
+                *answers.entry((call.name, number)).or_insert(0) += 1;
+            }
             Err(found) => {
                 println!("seed {seed}, call {count}: {found}");
                 std::process::exit(1);
@@ -28,7 +32,10 @@ fn main() {
         let of_name: Vec<String> = answers
             .iter()
             .filter(|((of, _), _)| *of == name)
-            .map(|((_, number), times)| format!("{number}: {times}"))
+            .map(|((_, number), times)| match number {
+                1 if name.is_size() => format!("a size: {times}"),
+                number => format!("{number}: {times}"),
+            })
             .collect();
         println!("{name:?}  {}", of_name.join(", "));
     }

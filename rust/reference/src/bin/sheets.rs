@@ -40,12 +40,7 @@ fn main() {
             sheet.blocks_bytes(),
             sheet.page_bytes(),
             100.0 * bits as f64 / all as f64,
-            distance(v, t)
+            sheet.distance()
         );
     }
-}
-
-/// The smallest of (v + 1)(2 t_0 + 1) and b (2 t_(v - b + 1) + 1), b from 1 to v.
-fn distance(v: u32, t: [u32; 4]) -> u32 {
-    (1..=v).map(|b| b * (2 * t[(v - b + 1) as usize] + 1)).fold((v + 1) * (2 * t[0] + 1), u32::min)
 }
