@@ -24,6 +24,7 @@ rest() {
     python3 tools/tables.py --check || wrong=1
     python3 tools/cases.py --check || wrong=1
     python3 tools/counter.py > "$made/counter" && same "$made/counter" crates/gate_counter/stdout 'python3 tools/counter.py > crates/gate_counter/stdout' || wrong=1
+    python3 tools/quote.py > "$made/quote" && same "$made/quote" crates/quote/stdout 'python3 tools/quote.py > crates/quote/stdout' || wrong=1
     python3 tools/layout.py "$made/layout.svg" && same "$made/layout.svg" docs/layout.svg 'python3 tools/layout.py docs/layout.svg' || wrong=1
     return $wrong
 }

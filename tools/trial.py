@@ -64,11 +64,15 @@ def alphas(q):
 
 
 @lru_cache(None)
+def roots(q, t):
+    """The exponents of the roots: the different values of j 2^k modulo n."""
+    return {j * 2 ** k % (2 ** q - 1) for j in range(1, 2 * t + 1) for k in range(q)}
+
+
+@lru_cache(None)
 def generator(q, t):
-    n = 2 ** q - 1
-    roots = {j * 2 ** k % n for j in range(1, 2 * t + 1) for k in range(q)}
     out = [1]
-    for s in sorted(roots):
+    for s in sorted(roots(q, t)):
         root = alphas(q)[s]
         out = [(out[k - 1] if k else 0) ^ (product(q, root, out[k]) if k < len(out) else 0) for k in range(len(out) + 1)]
     assert set(out) <= {0, 1}
@@ -79,6 +83,7 @@ small = cases.generator
 for q, t in ((4, 1), (4, 2), (4, 3), (8, 1), (8, 2)):
     assert generator(q, t) == small(q, t)
 cases.generator = generator
+cases.degree = lambda sheet, a: len(roots(sheet[0], strength(sheet, a)))
 
 
 # ---- the elimination: a unit at place k of sub-word i gives alpha^(j k) there, and alpha^(j (k + l i)) in nested word l
@@ -167,8 +172,8 @@ def quotes():
             quote(s, size)
     for s in cases.every():
         quote(s, 12)
-    # t 16 and 17 of q 8 have one generator; every strength of the large fields
-    assert cases.gen((8, 2, 1, 16, 17, 0, 0), 0) == cases.gen((8, 2, 1, 16, 17, 0, 0), 1)
+    # every strength of the large fields; t 16 and 17 of q 8 have one degree
+    assert len(roots(8, 16)) == len(roots(8, 17))
     for q in (8, 12):
         for t in range(1, 64):
             quote((q, 2, 1, t, t + 1, 0, 0), 12)

@@ -1,11 +1,13 @@
 -- The input's seven bytes: q, m, v, and t_0 to t_v where v is 1 to 3. A missing byte is 0.
 --   strengthRead input a    t_a, 0 where there is none
 --   sheetRead input         the parameters
+use mathlib.Core.Path.{_≡_, refl, sym}
 use mathlib.Core.Bool.{_&&_, cond}
 use mathlib.Core.List.{List}
-use Prim.Native.Nat.{ℕ, _+_}
+use Prim.Native.Nat.{ℕ, _+_, _≤_, _<_}
 use lib.Dec.{leb}
 use lib.ListN.{getD}
+use borrow.Author.Tests.{le-leb, lt-leb}
 use Rattle.code.specs.declared.Parameters.{Parameters}
 use Rattle.code.specs.Parameters.{sheet}
 
@@ -16,3 +18,26 @@ abbrev pub sheetRead : List ℕ → Parameters
 sheetRead input =
     sheet (getD input 0 0) (getD input 1 0) (getD input 2 0) (strengthRead input 0) (strengthRead input 1) (strengthRead input 2)
     (strengthRead input 3)
+
+-- ---- test by test
+module _ (input : List ℕ) (a : ℕ) where
+  abbrev v : ℕ
+  v = getD input 2 0
+
+  pub read-low : v < 1 → 0 ≡ strengthRead input a
+  read-low h = rw (lt-leb 1 v h) refl
+
+  module _ (low : 1 ≤ v) where
+    pub read-high : 3 < v → 0 ≡ strengthRead input a
+    read-high h = rw (le-leb 1 v low, lt-leb v 3 h) refl
+
+    module _ (high : v ≤ 3) where
+      pub read-past : v < a → 0 ≡ strengthRead input a
+      read-past h = rw (le-leb 1 v low, le-leb v 3 high, lt-leb a v h) refl
+
+      pub read-there : a ≤ v → getD input (3 + a) 0 ≡ strengthRead input a
+      read-there h = rw (le-leb 1 v low, le-leb v 3 high, le-leb a v h) refl
+
+pub sheet-read : (input : List ℕ) (t0 t1 t2 t3 : ℕ) → t0 ≡ strengthRead input 0 → t1 ≡ strengthRead input 1 → t2 ≡ strengthRead input 2
+    → t3 ≡ strengthRead input 3 → sheet (getD input 0 0) (getD input 1 0) (getD input 2 0) t0 t1 t2 t3 ≡ sheetRead input
+sheet-read input t0 t1 t2 t3 e0 e1 e2 e3 = rw (e0, e1, e2, e3) refl

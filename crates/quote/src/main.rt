@@ -1,8 +1,8 @@
 // The quote at the counter: standard input has q, m, v, then t_0 to t_v if v is 1 to 3, a byte each; a missing one counts as 0.
-// It writes the check bits of each level, the data bits of each block, the bytes of blocks and page, and the distance, as text,
-// or the refusal.
+// It writes, as text, the sheet and then the check bits of each level, the data bits of each block, the bytes of blocks and page, and the
+// distance, or the refusal.
 ghost use mathlib.Core.Path.{_≡_};
-ghost use lib.ListN.{getD};
+ghost use Prim.Native.Nat.{_<_};
 ghost use Rattle.quote.specs.Given.{strengthRead, sheetRead};
 use code::Outcome;
 use code::Parameters;
@@ -55,15 +55,38 @@ fn number(n: u64) {
     io::print_decimal(STDOUT_FILENO, n);
 }
 
-// The first `count` of the numbers from `at` on.
-fn numbers(list: &[u16], at: usize, count: usize) {
+// The numbers that are not 0: spare places are, and no other.
+fn numbers(list: &[u16]) {
     let mut k: usize = 0;
-    while k < count {
-        if at < list.len() && k < list.len() - at {
-            number(list[at + k] as u64);
+    while k < list.len() {
+        let n = list[k];
+        if n != 0 {
+            number(n as u64);
         }
         k += 1;
     }
+    text(b"\n");
+}
+
+// A strength; 0 is none.
+fn strength(t: u32) {
+    if t != 0 {
+        number(t as u64);
+    }
+}
+
+fn sheet(p: Parameters) {
+    text(b"sheet: q");
+    number(p.q as u64);
+    text(b", m");
+    number(p.m as u64);
+    text(b", v");
+    number(p.v as u64);
+    text(b", t");
+    strength(p.t0);
+    strength(p.t1);
+    strength(p.t2);
+    strength(p.t3);
     text(b"\n");
 }
 
@@ -75,24 +98,40 @@ fn size(name: &[u8], r: Size, unit: &[u8]) {
     }
 }
 
+// The number, and the word of the table of refusals.
 fn refused(k: u8) {
     text(b"refused");
     number(k as u64);
-    text(
-        match k {
-            1 => b": field\n",
-            2 => b": shape\n",
-            3 => b": strengths\n",
-            _ => b": clash\n",
-        },
-    );
+    if k == 1 {
+        text(b": field\n");
+    }
+    if k == 2 {
+        text(b": shape\n");
+    }
+    if k == 3 {
+        text(b": strengths\n");
+    }
+    if k == 4 {
+        text(b": clash\n");
+    }
 }
 
-fn quoted(p: Parameters, list: &[u16]) {
+fn quoted(p: Parameters, list: [u16; 12]) {
     text(b"check bits of each level:");
-    numbers(list, 0, p.v as usize + 1);
+    numbers(&[list[0], list[1], list[2], list[3]]);
     text(b"data bits of each block:");
-    numbers(list, 4, p.m as usize);
+    numbers(
+        &[
+            list[4],
+            list[5],
+            list[6],
+            list[7],
+            list[8],
+            list[9],
+            list[10],
+            list[11],
+        ],
+    );
     size(b"blocks:", sizes::data_bytes(p), b" bytes\n");
     size(b"page:", sizes::page_bytes(p), b" bytes\n");
     size(b"distance:", sizes::distance(p), b" bits\n");
@@ -102,10 +141,11 @@ fn main() {
     let mut input = [0u8; 7];
     io::read_full(0, &mut input);
     let p = sheet_given(input);
+    sheet(p);
     let mut list = [0u16; 12];
     let r = sizes::quote(p, &mut list);
     let Outcome::Refused(k) = r else {
-        quoted(p, &list);
+        quoted(p, list);
         return;
     };
     refused(k);
