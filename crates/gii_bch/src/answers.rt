@@ -35,8 +35,8 @@ pub fn size_number(r: Size) -> u32
     requires { ⌜ sizeFound r < 2 ^ 32 ⌝ }
     ensures { λ n. ⌜ n ≡ sizeFound r ⌝ }
 {
-    let Size::Is(x) = r else {
-        return 0;
-    };
-    x as u32
+    match r {
+        Size::Is(x) => x as u32,
+        Size::Refused(_) => 0,
+    }
 }

@@ -148,10 +148,10 @@ pub fn quote_refusal(p: Parameters, out: usize) -> u8
     if k != 0 {
         return k;
     }
-    if out != 12 {
-        return 10;
+    if out == 12 {
+        return 0;
     }
-    0
+    10
 }
 
 // ---- registers

@@ -29,9 +29,9 @@ cast-result c =
 
 returns : tie.Need-returns
 returns c =
-    let s = c .before .before .before in
-    let r = row-at (s .args .p) (s .pre .0) _ (s .args .a) (s .pre .1) (s .pre .2) in
-    c .degree-of .ensures ∙ row-deg (s .args .p) (s .pre .0) _ (s .args .a) (s .pre .2) r
+    let o = c .before .before .before in
+    let g = row-at (o .args .p) (o .pre .0) _ (o .args .a) (o .pre .1) (o .pre .2) in
+    c .degree-of .ensures ∙ row-deg (o .args .p) (o .pre .0) _ (o .args .a) (o .pre .2) g
 
 pub degree-at-spec : {M : Type 1} → statement M
 degree-at-spec =

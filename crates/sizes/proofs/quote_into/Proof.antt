@@ -15,7 +15,7 @@ loop-holds : tie.Need-loop-holds Inv-loop μ-loop
 loop-holds c = quoting-start _ _ (c .before .before .pre .2)
 
 quoted-at-requires : tie.Need-quoted-at-requires Inv-loop μ-loop
-quoted-at-requires c κs = let s = c .before .before .before .before in (s .pre .0, s .pre .1, c .loop-test .taken)
+quoted-at-requires c κs = let s = c .before .before .before .before in (s .pre .0, s .pre .1, omega (arith, c .loop-test .taken))
 
 mul-list : tie.Need-mul-list Inv-loop μ-loop
 mul-list c = search needs
@@ -30,13 +30,13 @@ loop-less : tie.Need-loop-less Inv-loop μ-loop
 loop-less c = search needs
 
 loop-again : tie.Need-loop-again Inv-loop μ-loop
-loop-again c = let t = c .before in quoting-next _ _ _ _ (t .loop-test .taken) (t .before .loop .inv) (c .quoted-at .ensures)
+loop-again c = let t = c .before in quoting-next _ _ _ _ (omega (arith, t .loop-test .taken)) (t .before .loop .inv) (c .quoted-at .ensures)
 
 same-length : tie.Need-same-length Inv-loop μ-loop
 same-length c = search needs
 
 returns : tie.Need-returns Inv-loop μ-loop
-returns c = quoting-done _ _ _ (c .loop-test .left) (c .before .loop .inv)
+returns c = quoting-done _ _ _ (omega (arith, c .loop-test .left)) (c .before .loop .inv)
 
 pub quote-into-spec : {M : Type 1} → statement M
 quote-into-spec =

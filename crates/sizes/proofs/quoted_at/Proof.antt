@@ -34,9 +34,9 @@ cast-result-2 c =
 
 returns-2 : tie.Need-returns-2
 returns-2 c =
-    let t = c .before in
-    let e = t .before .before in
-    block-number _ _ _ (e .if1 .left) (e .before .before .pre .2) (t .if2 .taken) (c .data-bits .ensures)
+    let b = c .before in
+    let e = b .before .before in
+    block-number _ _ _ (e .if1 .left) (e .before .before .pre .2) (b .if2 .taken) (c .data-bits .ensures)
 
 returns-3 : tie.Need-returns-3
 returns-3 c = let e = c .before .before in spare-number _ _ (e .if1 .left) (e .before .before .pre .2) (c .if2 .left)
