@@ -1,16 +1,17 @@
 -- The requirement's worked cases (docs/REQUIREMENT.md):
--- those of 'On the counter' that are marked *, and the writer program's two, in one table with one proof.
+-- those of 'On the counter' that are marked *, and the writer program's two, in one table with one proof;
+-- and those of the quote, in another.
 use mathlib.Core.Path.{_≡_, refl}
 use mathlib.Core.List.{List, [], _∷_, map}
 use Rattle.polynomial.specs.Digits.{value}
 use Rattle.field.specs.Field.{pow}
 use Rattle.field.specs.Fields.{fieldOf}
-use Rattle.generator.specs.Generator.{generator}
+use Rattle.generator.specs.Generator.{generator, width}
 use Rattle.code.specs.Parameters.{sheet, sheetRefusal}
 use Rattle.code.specs.Code.{syndromes}
 use Rattle.code.specs.Refusals.{writeRefusal}
 use Rattle.code.specs.Layout.{pageOf}
-use Rattle.code.specs.Calls.{verdictNumber, judgeAnswer}
+use Rattle.code.specs.Calls.{verdictNumber, judgeAnswer, quote}
 use Rattle.code.specs.Writer.{writer}
 use Rattle.cases.specs.Sheets.{Row, A, B, page}
 
@@ -39,3 +40,17 @@ table =
 pub starred : map (λ r. r .0) table ≡ map (λ r. r .1) table
 unfolding table value generator fieldOf pow writeRefusal pageOf judgeAnswer syndromes sheetRefusal writer
 starred = refl
+
+-- ---- check and data bits
+pub quotes : List Row
+quotes =
+    (map (width (fieldOf 4)) (1 ∷ 2 ∷ 3 ∷ 4 ∷ 7 ∷ []), 4 ∷ 8 ∷ 10 ∷ 14 ∷ 14 ∷ [])
+    ∷ (width (fieldOf 12) 39 ∷ [], 462 ∷ [])
+    ∷ (map (width (fieldOf 8)) (16 ∷ 17 ∷ []), 124 ∷ 124 ∷ [])
+    ∷ (quote A, 4 ∷ 8 ∷ 0 ∷ 0 ∷ 7 ∷ 11 ∷ 0 ∷ 0 ∷ 0 ∷ 0 ∷ 0 ∷ 0 ∷ [])
+    ∷ (quote B, 4 ∷ 8 ∷ 10 ∷ 0 ∷ 5 ∷ 7 ∷ 11 ∷ 0 ∷ 0 ∷ 0 ∷ 0 ∷ 0 ∷ [])
+    ∷ []
+
+pub quotes-hold : map (λ r. r .0) quotes ≡ map (λ r. r .1) quotes
+unfolding quotes width fieldOf quote
+quotes-hold = refl
