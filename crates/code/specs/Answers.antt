@@ -1,5 +1,6 @@
 -- Promises met: what a program shows where it refuses, and where it is done.
 use mathlib.Core.Path.{_≡_, refl, sym, ap, _∙_}
+use mathlib.Core.Logic.{_↔_, _≢_}
 use mathlib.Core.Bool.{Bool, true, false, _||_, cond}
 use mathlib.Core.List.{List, [], _∷_}
 use Prim.Native.Nat.{ℕ, zero, suc, _+_, _≤_, _<_, zero-le}
@@ -13,14 +14,14 @@ use Rattle.code.specs.declared.Parameters.{Parameters}
 use Rattle.code.specs.declared.Tested.{Tested}
 use Rattle.code.specs.declared.Verdict.{Verdict}
 use Rattle.code.specs.Register.{Register}
-use Rattle.code.specs.Calls.{Judged, Made, MadeC, Named, NestingMade, ReadOut, Written, fedBy, judgeAnswer, judgeNumber, judgeValues}
+use Rattle.code.specs.Calls.{Judged, Made, MadeC, Named, NestingMade, ReadOut, SizeC, Written, fedBy, judgeAnswer, judgeNumber, judgeValues}
 use Rattle.code.specs.Calls.{leaves, nesting, nestingBy, nestingNumber, nestingValues, outcome, outcomeNumber, outcomeValues}
-use Rattle.code.specs.Calls.{readAnswer, readLeaves, readNumber, readValues, unlessRefused, verdictNumber, verdictValues}
+use Rattle.code.specs.Calls.{readAnswer, readLeaves, readNumber, readValues, sizeUnless, unlessRefused, verdictNumber, verdictValues}
 use Rattle.code.specs.Chains.{when-le}
 use Rattle.code.specs.Code.{N, failing, failingNested, failingNumber, failingValues, verdict}
 use Rattle.code.specs.Layout.{dataOf, pageOf, wordsOf}
 use Rattle.code.specs.Lists.{_orElse_, lastRefusal, valuesBy}
-use Rattle.code.specs.Parameters.{Tests, sheetRefusal, sheetValues, tested, testedNumber, testedOf, testedValues}
+use Rattle.code.specs.Parameters.{Accepted, Tests, sheetRefusal, sheetValues, tested, testedNumber, testedOf, testedValues}
 use Rattle.code.specs.Refusals.{judgeRefusal, nestingRefusal, readRefusal, writeRefusal}
 use Rattle.code.specs.Refused.{BlocksBuffer, judge-le, read-judge, read-le, sheet-le, write-le}
 
@@ -272,3 +273,11 @@ nesting-made i l r e = record {
   values = ap nestingValues (e ∙ nesting-eq i l) ∙ nesting-values-by i l (nestingRefusal i l);
   small = when-le 9 (ltb 7 i || ltb 7 l) (lit≤ tt);
 }
+
+-- ---- C's sizes
+pub size-c : (p : Parameters) (size answer : ℕ) → (Accepted p → 0 < size) → answer ≡ sizeUnless (sheetRefusal p) size → SizeC p size answer
+size-c p size answer h e = record { answers = e; refused = rw e (go (sheetRefusal p) h) }
+  where
+    go : (r : ℕ) → (r ≡ 0 → 0 < size) → (sizeUnless r size ≡ 0) ↔ (r ≢ 0)
+    go zero f = ((λ z k. Nat.not-suc-le-zero (rw z at (f refl))), (λ k. absurd (k refl)))
+    go (suc r) f = ((λ z k. Nat.suc-ne-zero r k), (λ k. refl))

@@ -85,3 +85,7 @@ exact-of c k exact z = eqb→eq k exact (none c (eqb k exact) 0 (or-zero (suc c 
 -- a number that is not 0, found at the first link, is the chain's
 pub first-of : (k r s : ℕ) → k ≡ r → (k ≡ 0 → ⊥) → k ≡ (r orElse s)
 first-of k r s e h = e ∙ sym (or-first r s (Nat.pos-of-ne-zero (λ z. h (e ∙ z))))
+
+pub or-last : (r : ℕ) → (r orElse 0) ≡ r
+or-last zero = refl
+or-last (suc r) = refl

@@ -2,10 +2,10 @@
 --   isValue n q t e    e is one of them
 --   select n P         the numbers below n that pass the test P
 use mathlib.Core.Path.{_≡_, refl, sym, ap, ap₂, _∙_}
-use mathlib.Core.Logic.{_↔_, _⊎_, inl, inr}
+use mathlib.Core.Logic.{_⊎_, inl, inr}
 use mathlib.Core.Bool.{Bool, true, false, _||_, cond}
 use mathlib.Core.List.{List, [], _∷_}
-use Prim.Native.Nat.{ℕ, zero, suc, _+_, _*_, _%_, _^_, _≤_, _<_, zero-le, suc-le-suc}
+use Prim.Native.Nat.{ℕ, zero, suc, _+_, _*_, _%_, _^_, _≤_, _<_, zero-le}
 use native.Mathlib.Nat as Nat
 use native.Mathlib.Omega.{arith}
 use lib.Dec.{T, eqb, eqb→eq, eqb-refl}
@@ -19,7 +19,7 @@ use Rattle.code.specs.declared.Parameters.{Parameters}
 use Rattle.code.specs.Accepted.{Rules, n-is}
 use Rattle.code.specs.Chains.{either}
 use Rattle.code.specs.Code.{degree}
-use Rattle.code.specs.Lists.{addBelow, any, countBelow, range}
+use Rattle.code.specs.Lists.{any, countBelow, range}
 use Rattle.code.specs.Parameters.{len, strength}
 use Rattle.code.specs.Places.{addBelow-suc, addBelow-zero, countBelow-eq}
 use Rattle.code.specs.Steps.{degree-eq}

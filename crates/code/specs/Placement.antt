@@ -1,27 +1,30 @@
 -- Placement, literally over bytes: where a sub-word's coefficients, a block's bits and the check bits stand.
+-- Blocks that fit are known by their bits, and any bits are blocks that fit.
 use mathlib.Core.Path.{_≡_, refl, sym, ap, _∙_}
 use mathlib.Core.List.{List, [], _∷_, _++_, map}
 use Prim.Native.Nat.{ℕ, zero, suc, _+_, _-_, _*_, _/_, _%_, _^_, _≤_, _<_, zero-le, suc-le-suc}
 use native.Mathlib.Nat as Nat
 use native.Mathlib.Omega.{arith}
+use lib.Arith.{lt-one}
 use lib.Bits as Bits
 use lib.ListN.{length, getD, take, drop, replicate, List·getD-append, getD-replicate}
 use lib.Pow.{shr-shr}
-use lib.Seq.{getD-take, getD-drop, getD-append-add}
-use Rattle.polynomial.specs.Bits.{coefficient}
+use lib.Seq.{ext-getD, getD-take, getD-drop, getD-append-add}
+use Rattle.polynomial.specs.Bits.{coefficient, half-lt}
 use Rattle.polynomial.specs.Digits.{digits, digits-coefficient, length-digits, value-coefficient}
+use Rattle.polynomial.specs.Division.{shr-half}
 use Rattle.polynomial.specs.Sums.{all-drop, all-take}
 use Rattle.polynomial.specs.Xor.{xor}
 use Rattle.field.specs.Field.{add-assoc, add-zero, zero-add, zero-mul}
 use Rattle.code.specs.declared.Parameters.{Parameters}
 use Rattle.code.specs.Accepted.{Rules, lawful, width-below}
 use Rattle.code.specs.Code.{carried, checkBits, checked, dataFrom, dataWords, encode, encodeFrom, level, remainder}
-use Rattle.code.specs.Encode.{checked-data, checked-low}
+use Rattle.code.specs.Encode.{Sized, checked-data, checked-low}
 use Rattle.code.specs.Layout.{Bytes, Fits, IsPage, bitFrom, blockBit, blockBits, blockOffset, blockSizes}
 use Rattle.code.specs.Layout.{blocksOf, coefficientOf, dataBits, dataOf, pageOf, wordSizes, wordsOf}
 use Rattle.code.specs.Lists.{join, range, split, sum}
-use Rattle.code.specs.Pages.{blockBits-eq, blockSizes-eq, blocks-blocks, blocksOf-eq, dataOf-eq, length-bits}
-use Rattle.code.specs.Pages.{length-blocks, length-data, page-has, page-is, page-words, room, whole, wordsOf-eq}
+use Rattle.code.specs.Pages.{IsBlocks, blockBits-eq, blockSizes-eq, blocks-blocks, blocks-fit, blocks-join, blocksOf-eq, dataOf-eq}
+use Rattle.code.specs.Pages.{join-blocks, length-bits, length-blocks, length-data, page-has, page-is, page-words, room, whole, wordsOf-eq}
 use Rattle.code.specs.Parameters.{stored, subWordBytes}
 use Rattle.code.specs.Steps.{data-cons, data-nil, encode-cons}
 
@@ -191,3 +194,64 @@ module _ (p : Parameters) (R : Rules p) where
       (data-at p 0 i (wordsOf p x) ∙ ap (λ (k : ℕ). getD (wordsOf p x) i 0 / 2 ^ checkBits p k) (Nat.zero-add i))
       ∙ sym (high-coefficient (getD (wordsOf p x) i 0) (checkBits p i) r)
       ∙ sub-word-bit x (h .bytes) i (checkBits p i + r) l (data-room i r b)
+
+-- ---- numbers are their bits
+same-bits : (d a b : ℕ) → a < 2 ^ d → b < 2 ^ d → ((r : ℕ) → r < d → coefficient a r ≡ coefficient b r) → a ≡ b
+same-bits zero a b h l f = lt-one h ∙ sym (lt-one l)
+same-bits (suc d) a b h l f =
+    by-half (same-bits d (a / 2) (b / 2) (half-lt a d h) (half-lt b d l)
+    (λ r i. ap (λ (y : ℕ). y % 2) (sym (shr-half a r)) ∙ f (suc r) (suc-le-suc i) ∙ ap (λ (y : ℕ). y % 2) (shr-half b r)))
+    (ap (λ (y : ℕ). y % 2) (sym (Nat.div-one a)) ∙ f 0 (suc-le-suc zero-le) ∙ ap (λ (y : ℕ). y % 2) (Nat.div-one b))
+  where
+    by-half : a / 2 ≡ b / 2 → a % 2 ≡ b % 2 → a ≡ b
+    by-half x y = omega arith
+
+-- ---- blocks as numbers
+sized-at : (p : Parameters) (k : ℕ) (ds : List ℕ) → Sized p k ds → (i : ℕ) → i < length ds → getD ds i 0 < 2 ^ dataBits p (k + i)
+sized-at p k [] h i l = absurd (Nat.not-suc-le-zero l)
+sized-at p k (d ∷ ds) h zero l = rw (Nat.add-zero k) (h .0)
+sized-at p k (d ∷ ds) h (suc i) l = rw (Nat.add-suc k i, ← Nat.suc-add k i) (sized-at p (suc k) ds (h .1) i (Nat.le-of-suc-le-suc l))
+
+at-sized : (p : Parameters) (k : ℕ) (ds : List ℕ) → ((i : ℕ) → i < length ds → getD ds i 0 < 2 ^ dataBits p (k + i)) → Sized p k ds
+at-sized p k [] h = tt
+at-sized p k (d ∷ ds) h = (
+  rw (Nat.add-zero k) at (h 0 (suc-le-suc zero-le)),
+  at-sized p (suc k) ds (λ i l. rw (Nat.suc-add k i, ← Nat.add-suc k i) (h (suc i) (suc-le-suc l))),
+)
+
+module _ (p : Parameters) (R : Rules p) where
+  -- the places of a sub-word are its check and its data bits
+  pub all-places : (i : ℕ) → checkBits p i + dataBits p i ≡ stored p
+  all-places i = omega (arith, width-below p R (level p i) (Nat.sub-le (p .v) i))
+
+  -- blocks that fit are known by their bits
+  pub blocks-same : (a b : List ℕ) → Fits p a → Fits p b → ((i r : ℕ) → i < p .m → r < dataBits p i → blockBit p a i r ≡ blockBit p b i r)
+      → a ≡ b
+  blocks-same a b h j f =
+      sym (join-blocks p R a h) ∙ ap (join (blockSizes p)) (ext-getD 0 (blocksOf p a) (blocksOf p b) (x .many ∙ sym (y .many)) each)
+      ∙ join-blocks p R b j
+    where
+      x : IsBlocks p (blocksOf p a)
+      x = blocks-blocks p R a h
+
+      y : IsBlocks p (blocksOf p b)
+      y = blocks-blocks p R b j
+
+      each : (i : ℕ) → i < length (blocksOf p a) → getD (blocksOf p a) i 0 ≡ getD (blocksOf p b) i 0
+      each i l =
+          let m : i < p .m = rw (x .many) at l in
+          same-bits (dataBits p i) (getD (blocksOf p a) i 0) (getD (blocksOf p b) i 0)
+          (rw (Nat.zero-add i) at (sized-at p 0 (blocksOf p a) (x .fits) i l))
+          (rw (Nat.zero-add i) at (sized-at p 0 (blocksOf p b) (y .fits) i (rw (y .many) m)))
+          (λ r k. block-bit p R a (h .bytes) i r m k ∙ f i r m k ∙ sym (block-bit p R b (j .bytes) i r m k))
+
+  -- any numbers of so many bits are the blocks of a set that fits
+  module _ (ds : List ℕ) (e : length ds ≡ p .m) (h : (i : ℕ) → i < p .m → getD ds i 0 < 2 ^ dataBits p i) where
+    are-blocks : IsBlocks p ds
+    are-blocks = record { many = e; fits = at-sized p 0 ds (λ i l. rw (Nat.zero-add i) (h i (rw e at l))) }
+
+    pub any-fit : Fits p (join (blockSizes p) ds)
+    any-fit = blocks-fit p R ds are-blocks
+
+    pub any-has : blocksOf p (join (blockSizes p) ds) ≡ ds
+    any-has = blocks-join p R ds are-blocks

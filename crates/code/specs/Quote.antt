@@ -1,39 +1,30 @@
--- The quote: its numbers, place by place, its refusal, and what they say of pages. Data bits are free, and check bits follow from them.
+-- The quote: its refusal, link by link, and its numbers, place by place.
 use mathlib.Core.Path.{_≡_, refl, sym, ap, ap₂, _∙_}
-use mathlib.Core.Logic.{_↔_, _≢_}
 use mathlib.Core.Bool.{Bool, true, false, cond}
-use mathlib.Core.List.{List, [], _∷_, _++_, map}
-use Prim.Native.Nat.{ℕ, zero, suc, _+_, _-_, _*_, _/_, _%_, _^_, _≤_, _<_, zero-le, suc-le-suc}
+use mathlib.Core.List.{List, _++_, map}
+use Prim.Native.Nat.{ℕ, _+_, _-_, _*_, _^_, _≤_, _<_}
 use native.Mathlib.Nat as Nat
 use native.Mathlib.Omega.{arith}
-use lib.Arith.{lt-one}
 use lib.Dec.{ltb, lit≤, lit<}
 use lib.ListN.{length, getD, List·getD-append, length-append, length-map}
-use lib.Seq.{ext-getD, getD-append-add}
+use lib.Seq.{getD-append-add}
 use borrow.Author.Tests.{le-leb, lt-leb, lt-ltb, le-ltb, ltb-true, ltb-false, ne-eqb}
-use Rattle.polynomial.specs.Bits.{coefficient, half-lt}
-use Rattle.polynomial.specs.Division.{shr-half}
 use Rattle.polynomial.specs.Sums.{All, at-all}
 use Rattle.field.specs.Fields.{by-known}
 use Rattle.code.specs.declared.Parameters.{Parameters}
-use Rattle.code.specs.Accepted.{Rules, degree-high, width-below}
-use Rattle.code.specs.Calls.{bitsQuoted, degreeQuoted, quote, sizeUnless, SizeC}
-use Rattle.code.specs.Chains.{exact-none, exact-of, first-of, or-le, or-none, or-second, or-zero, when-le}
-use Rattle.code.specs.Code.{checkBits, degree, level}
-use Rattle.code.specs.Encode.{Sized}
-use Rattle.code.specs.Layout.{Fits, blockBit, blockSizes, blocksOf, dataBits}
-use Rattle.code.specs.Lists.{_orElse_, _when_, join, lastRefusal, range}
-use Rattle.code.specs.Pages.{IsBlocks, blocks-blocks, blocks-fit, blocks-join, join-blocks, length-range}
+use Rattle.code.specs.Accepted.{Rules, degree-high}
+use Rattle.code.specs.Calls.{bitsQuoted, degreeQuoted, quote}
+use Rattle.code.specs.Chains.{exact-none, exact-of, first-of, or-last, or-le, or-none, or-second, or-zero, when-le}
+use Rattle.code.specs.Code.{checkBits, degree}
+use Rattle.code.specs.Layout.{dataBits}
+use Rattle.code.specs.Lists.{_orElse_, _when_, lastRefusal, range}
+use Rattle.code.specs.Pages.{length-range}
 use Rattle.code.specs.Parameters.{Accepted, sheetRefusal, stored}
-use Rattle.code.specs.Placement.{block-bit, getD-map-range}
+use Rattle.code.specs.Placement.{getD-map-range}
 use Rattle.code.specs.Refusals.{notExact, quoteRefusal}
 use Rattle.code.specs.Refused.{sheet-le}
 
 -- ---- its refusal, link by link
-or-nothing : (r : ℕ) → (r orElse 0) ≡ r
-or-nothing zero = refl
-or-nothing (suc r) = refl
-
 module _ (size : ℕ) (p : Parameters) (out : ℕ) where
   abbrev list-10 : ℕ
   list-10 = 10 when notExact out (size * 12)
@@ -55,7 +46,7 @@ module _ (size : ℕ) (p : Parameters) (out : ℕ) where
   quote-none A e = quote-links ∙ or-zero (sheetRefusal p) list-10 A (exact-none 10 out (size * 12) e)
 
   pub quote-exact : out ≡ size * 12 → quoteRefusal size p out ≡ sheetRefusal p
-  quote-exact e = quote-links ∙ ap (λ (r : ℕ). sheetRefusal p orElse r) (exact-none 10 out (size * 12) e) ∙ or-nothing (sheetRefusal p)
+  quote-exact e = quote-links ∙ ap (λ (r : ℕ). sheetRefusal p orElse r) (exact-none 10 out (size * 12) e) ∙ or-last (sheetRefusal p)
 
   pub quote-zero : quoteRefusal size p out ≡ 0 → Accepted p × (out ≡ size * 12)
   quote-zero z = let s = or-none (sheetRefusal p) list-10 (sym quote-links ∙ z) in (s .0, exact-of 9 out (size * 12) (s .1))
@@ -103,35 +94,7 @@ module _ (p : Parameters) where
   pub quote-past-m : (i : ℕ) → i < 8 → p .m ≤ i → getD (quote p) (4 + i) 0 ≡ 0
   quote-past-m i h l = bits-place i h ∙ ap (λ (b : Bool). cond b (dataBits p i) 0) (le-ltb i (p .m) l)
 
--- ---- numbers are their bits
-same-bits : (d a b : ℕ) → a < 2 ^ d → b < 2 ^ d → ((r : ℕ) → r < d → coefficient a r ≡ coefficient b r) → a ≡ b
-same-bits zero a b h l f = lt-one h ∙ sym (lt-one l)
-same-bits (suc d) a b h l f =
-    by-half (same-bits d (a / 2) (b / 2) (half-lt a d h) (half-lt b d l)
-    (λ r i. ap (λ (y : ℕ). y % 2) (sym (shr-half a r)) ∙ f (suc r) (suc-le-suc i) ∙ ap (λ (y : ℕ). y % 2) (shr-half b r)))
-    (ap (λ (y : ℕ). y % 2) (sym (Nat.div-one a)) ∙ f 0 (suc-le-suc zero-le) ∙ ap (λ (y : ℕ). y % 2) (Nat.div-one b))
-  where
-    by-half : a / 2 ≡ b / 2 → a % 2 ≡ b % 2 → a ≡ b
-    by-half x y = omega arith
-
--- ---- blocks as numbers
-sized-at : (p : Parameters) (k : ℕ) (ds : List ℕ) → Sized p k ds → (i : ℕ) → i < length ds → getD ds i 0 < 2 ^ dataBits p (k + i)
-sized-at p k [] h i l = absurd (Nat.not-suc-le-zero l)
-sized-at p k (d ∷ ds) h zero l = rw (Nat.add-zero k) (h .0)
-sized-at p k (d ∷ ds) h (suc i) l = rw (Nat.add-suc k i, ← Nat.suc-add k i) (sized-at p (suc k) ds (h .1) i (Nat.le-of-suc-le-suc l))
-
-at-sized : (p : Parameters) (k : ℕ) (ds : List ℕ) → ((i : ℕ) → i < length ds → getD ds i 0 < 2 ^ dataBits p (k + i)) → Sized p k ds
-at-sized p k [] h = tt
-at-sized p k (d ∷ ds) h = (
-  rw (Nat.add-zero k) at (h 0 (suc-le-suc zero-le)),
-  at-sized p (suc k) ds (λ i l. rw (Nat.suc-add k i, ← Nat.add-suc k i) (h (suc i) (suc-le-suc l))),
-)
-
 module _ (p : Parameters) (R : Rules p) where
-  -- the places of a sub-word are its check and its data bits
-  pub all-places : (i : ℕ) → checkBits p i + dataBits p i ≡ stored p
-  all-places i = omega (arith, width-below p R (level p i) (Nat.sub-le (p .v) i))
-
   -- every number is below 2^16
   stored-small : stored p < 2 ^ 16
   stored-small = by-known (λ q. 2 ^ q - 1 < 2 ^ 16) (lit< tt) (lit< tt) (lit< tt) (p .q) (R .known)
@@ -159,43 +122,3 @@ module _ (p : Parameters) (R : Rules p) where
 
   pub quote-small : All (λ x. x < 2 ^ 16) (quote p)
   quote-small = at-all (λ x. x < 2 ^ 16) (quote p) (λ j l. quote-lt j (rw (quote-length p) at l))
-
-  -- blocks that fit are known by their bits
-  pub blocks-same : (a b : List ℕ) → Fits p a → Fits p b → ((i r : ℕ) → i < p .m → r < dataBits p i → blockBit p a i r ≡ blockBit p b i r)
-      → a ≡ b
-  blocks-same a b h j f =
-      sym (join-blocks p R a h) ∙ ap (join (blockSizes p)) (ext-getD 0 (blocksOf p a) (blocksOf p b) (x .many ∙ sym (y .many)) each)
-      ∙ join-blocks p R b j
-    where
-      x : IsBlocks p (blocksOf p a)
-      x = blocks-blocks p R a h
-
-      y : IsBlocks p (blocksOf p b)
-      y = blocks-blocks p R b j
-
-      each : (i : ℕ) → i < length (blocksOf p a) → getD (blocksOf p a) i 0 ≡ getD (blocksOf p b) i 0
-      each i l =
-          let m : i < p .m = rw (x .many) at l in
-          same-bits (dataBits p i) (getD (blocksOf p a) i 0) (getD (blocksOf p b) i 0)
-          (rw (Nat.zero-add i) at (sized-at p 0 (blocksOf p a) (x .fits) i l))
-          (rw (Nat.zero-add i) at (sized-at p 0 (blocksOf p b) (y .fits) i (rw (y .many) m)))
-          (λ r k. block-bit p R a (h .bytes) i r m k ∙ f i r m k ∙ sym (block-bit p R b (j .bytes) i r m k))
-
-  -- any numbers of so many bits are the blocks of a set that fits
-  module _ (ds : List ℕ) (e : length ds ≡ p .m) (h : (i : ℕ) → i < p .m → getD ds i 0 < 2 ^ dataBits p i) where
-    are-blocks : IsBlocks p ds
-    are-blocks = record { many = e; fits = at-sized p 0 ds (λ i l. rw (Nat.zero-add i) (h i (rw e at l))) }
-
-    pub any-fit : Fits p (join (blockSizes p) ds)
-    any-fit = blocks-fit p R ds are-blocks
-
-    pub any-has : blocksOf p (join (blockSizes p) ds) ≡ ds
-    any-has = blocks-join p R ds are-blocks
-
--- ---- C's sizes
-pub size-c : (p : Parameters) (size answer : ℕ) → (Accepted p → 0 < size) → answer ≡ sizeUnless (sheetRefusal p) size → SizeC p size answer
-size-c p size answer h e = record { answers = e; refused = rw e (go (sheetRefusal p) h) }
-  where
-    go : (r : ℕ) → (r ≡ 0 → 0 < size) → (sizeUnless r size ≡ 0) ↔ (r ≢ 0)
-    go zero f = ((λ z k. Nat.not-suc-le-zero (rw z at (f refl))), (λ k. absurd (k refl)))
-    go (suc r) f = ((λ z k. Nat.suc-ne-zero r k), (λ k. refl))

@@ -42,10 +42,9 @@ use Rattle.code.specs.Newton.{nesteds-of, newtons-of}
 use Rattle.code.specs.Pages.{IsWords, again-from, again-to, data-fit, join-words}
 use Rattle.code.specs.Pages.{page-back, page-has, page-is, page-words, sum-fits, sum-page}
 use Rattle.code.specs.Parameters.{Accepted, full, len, stored, strength}
-use Rattle.code.specs.Placement.{check-bits, read-bit, sub-word-bit, written-bit}
+use Rattle.code.specs.Placement.{all-places, any-fit, any-has, blocks-same, check-bits, read-bit, sub-word-bit, written-bit}
 use Rattle.code.specs.Places.{addBelow-ext, countBelow-ext, distance-places}
-use Rattle.code.specs.Quote.{all-places, any-fit, any-has, blocks-same, quote-bits, quote-degree}
-use Rattle.code.specs.Quote.{quote-length, quote-none, quote-past-m, quote-past-v}
+use Rattle.code.specs.Quote.{quote-bits, quote-degree, quote-length, quote-none, quote-past-m, quote-past-v}
 use Rattle.code.specs.Refusals.{quoteRefusal, writeRefusal}
 use Rattle.code.specs.Refused.{BlocksBuffer, PageBuffer, Width, judge-is, judged-page}
 use Rattle.code.specs.Refused.{read-is, read-leaves, write-alike, write-done, write-leaves}

@@ -1,5 +1,5 @@
 -- The quote as numbers and as bytes: numbers are 12, so that 10 is for the bytes alone.
-use mathlib.Core.Path.{_≡_, refl, sym, ap, _∙_}
+use mathlib.Core.Path.{_≡_, sym, ap, _∙_}
 use mathlib.Core.List.{List}
 use Prim.Native.Nat.{ℕ}
 use native.Mathlib.Nat as Nat
@@ -8,7 +8,7 @@ use Rattle.code.specs.declared.Outcome.{Outcome}
 use Rattle.code.specs.declared.Parameters.{Parameters}
 use Rattle.code.specs.Answers.{leaves-refused}
 use Rattle.code.specs.Calls.{QuoteMade, QuoteMadeC, asBytes, leaves, outcomeNumber, quote}
-use Rattle.code.specs.Parameters.{Accepted, sheetRefusal}
+use Rattle.code.specs.Parameters.{sheetRefusal}
 use Rattle.code.specs.Quote.{quote-exact, quote-le, quote-none, quote-sheet, quote-ten}
 use Rattle.code.specs.Refusals.{quoteRefusal}
 

@@ -1,17 +1,17 @@
 -- Sizes as numbers: 0 stands for a refusal, and is no size.
 --   sizeFound r    the size of an answer, 0 where it is a refusal
-use mathlib.Core.Path.{_≡_, refl, sym, ap, _∙_}
+use mathlib.Core.Path.{_≡_, refl, ap, _∙_}
 use Prim.Native.Nat.{ℕ, zero, suc, _+_, _-_, _*_, _^_, _≤_, _<_, zero-le}
 use native.Mathlib.Nat as Nat
 use native.Mathlib.Omega.{arith}
 use lib.Dec.{lit<}
 use Rattle.code.specs.declared.Parameters.{Parameters}
 use Rattle.code.specs.Accepted.{accepted}
+use Rattle.code.specs.Answers.{size-c}
 use Rattle.code.specs.Calls.{SizeC, sizeUnless}
 use Rattle.code.specs.Code.{distance}
 use Rattle.code.specs.Layout.{dataBytes, pageBytes}
 use Rattle.code.specs.Parameters.{Accepted, sheetRefusal, strength}
-use Rattle.code.specs.Quote.{size-c}
 use Rattle.code.specs.Theorems.{demand3}
 use Rattle.layout.specs.Parts.{block-room, bytes-high}
 use Rattle.layout.specs.Sizes.{bits-all, data-low, length-low, page-high}

@@ -1,7 +1,7 @@
 -- The input's seven bytes: q, m, v, and t_0 to t_v where v is 1 to 3. A missing byte is 0.
 --   strengthRead input a    t_a, 0 where there is none
 --   sheetRead input         the parameters
-use mathlib.Core.Path.{_≡_, refl, sym}
+use mathlib.Core.Path.{_≡_, refl}
 use mathlib.Core.Bool.{_&&_, cond}
 use mathlib.Core.List.{List}
 use Prim.Native.Nat.{ℕ, _+_, _≤_, _<_}
