@@ -3,9 +3,10 @@
 // from what the calls promise and the theorems on the promises, and nothing of how a page is made.
 ghost use mathlib.Core.Path.{_≡_};
 ghost use Prim.Native.Nat.{_≤_};
-ghost use lib.ListN.{length};
+ghost use lib.ListN.{length, getD};
 ghost use Rattle.polynomial.specs.Sums.{add};
 ghost use Rattle.code.specs.Calls.{Written, judgeAnswer, outcomeNumber};
+ghost use Rattle.code.specs.Demands.{QuotedPage};
 ghost use Rattle.code.specs.Layout.{Fits, IsPage, dataBytes, pageBytes};
 ghost use Rattle.code.specs.Parameters.{Accepted};
 ghost use Rattle.code.specs.Refused.{BlocksBuffer, PageBuffer, Width};
@@ -105,6 +106,16 @@ fn round(
     check::expect(check::same(back, blocks));
     put(p, m, back, again);
     check::expect(check::same(again, page));
+}
+
+// The quote is done, and the page of blocks that fit has the check and data bits quoted.
+fn quoted(p: Parameters, l: u32, blocks: &[u8], page: &mut [u8], list: &mut [u16])
+    requires { ⌜ Accepted p × Width l × Fits p (now blocks) × PageBuffer p (now page) × (length (now list) ≡ 12) ⌝ }
+    ensures { λ x. ⌜ QuotedPage p (λ j. getD (now (list .exit)) j 0) (now (blocks .entry)) (now (page .exit)) ⌝ }
+{
+    let r = sizes::quote(p, list);
+    check::expect(done(r));
+    put(p, l, blocks, page);
 }
 
 // The page of a sum is the sum of the pages.
@@ -219,12 +230,22 @@ fn rewrites_rooms(p: Parameters, x: &[u8], k: usize) -> bool
     rewrites(p, 64, x, &mut blocks[..k], &mut again[..n])
 }
 
+// And the quote, beside the page of a.
+fn quoted_rooms(p: Parameters, a: &[u8], n: usize)
+    requires { ⌜ Accepted p × Fits p (now a) × (n ≡ pageBytes p) × (n ≤ 1024) ⌝ }
+{
+    let mut page = [0x33u8; 1024];
+    let mut list = [0xffffu16; 12];
+    quoted(p, 9, a, &mut page[..n], &mut list);
+}
+
 // The laws on blocks a and b and on any page x. Is it a member?
 fn holds(p: Parameters, a: &[u8], b: &[u8], x: &[u8]) -> bool
     requires { ⌜ Accepted p × Fits p (now a) × Fits p (now b) × IsPage p (now x) × (length (now a) ≤ 1024) × (length (now x) ≤ 1024) ⌝ }
     ensures { λ r. ⌜ r ≡ isMember (judgeAnswer p (now (x .entry))) ⌝ }
 {
     on_rooms(p, a, b, x.len());
+    quoted_rooms(p, a, x.len());
     rewrites_rooms(p, x, a.len())
 }
 
