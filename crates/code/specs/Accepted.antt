@@ -28,7 +28,7 @@ chosen : (b c d : Bool) → T b → T (cond b c d) → T c
 chosen true c d h t = t
 chosen false c d h t = absurd h
 
-any-none : (P : ℕ → Bool) (i k : ℕ) → T (not (any P (range i k))) → (x : ℕ) → i ≤ x → x < i + k → T (not (P x))
+pub any-none : (P : ℕ → Bool) (i k : ℕ) → T (not (any P (range i k))) → (x : ℕ) → i ≤ x → x < i + k → T (not (P x))
 unfolding any range
 any-none P i zero t x h l = absurd (Nat.not-suc-le-zero {n = 0} (omega arith))
 any-none P i (suc k) t x h l =

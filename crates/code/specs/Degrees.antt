@@ -3,7 +3,7 @@
 --   select n P         the numbers below n that pass the test P
 use mathlib.Core.Path.{_≡_, refl, sym, ap, ap₂, _∙_}
 use mathlib.Core.Logic.{_⊎_, inl, inr}
-use mathlib.Core.Bool.{Bool, true, false, _||_, cond}
+use mathlib.Core.Bool.{Bool, true, false, not, cond}
 use mathlib.Core.List.{List, [], _∷_}
 use Prim.Native.Nat.{ℕ, zero, suc, _+_, _*_, _%_, _^_, _≤_, _<_, zero-le}
 use native.Mathlib.Nat as Nat
@@ -16,7 +16,7 @@ use Rattle.generator.specs.Exponents.{Orbit, exponents, exponents-ind, exponent
 use Rattle.generator.specs.Generator.{length-le, width, width-eq}
 use Rattle.generator.specs.Distinct.{Mem, Once}
 use Rattle.code.specs.declared.Parameters.{Parameters}
-use Rattle.code.specs.Accepted.{Rules, n-is}
+use Rattle.code.specs.Accepted.{Rules, any-none, n-is}
 use Rattle.code.specs.Chains.{either}
 use Rattle.code.specs.Code.{degree}
 use Rattle.code.specs.Lists.{any, countBelow, range}
@@ -29,21 +29,15 @@ isValue n q t e = any (λ j. any (λ s. eqb (j * 2 ^ s % n) e) (range 0 q)) (ran
 
 -- ---- tests on ranges
 some-of : (P : ℕ → Bool) (i k x : ℕ) → i ≤ x → x < i + k → T (P x) → T (any P (range i k))
-unfolding any range
-some-of P i zero x h l t = absurd (Nat.not-suc-le-zero {n = 0} (omega arith))
-some-of P i (suc k) x h l t = go (Nat.eq-or-lt-of-le h) (λ m. some-of P (suc i) k x m (omega arith) t)
+some-of P i k x h l t = go (any P (range i k)) refl
   where
-    left : (a b : Bool) → T a → T (a || b)
-    left true b t = tt
-    left false b t = absurd t
+    against : (b : Bool) → T b → T (not b) → ⊥
+    against true t u = u
+    against false t u = t
 
-    right : (a b : Bool) → T b → T (a || b)
-    right true b t = tt
-    right false b t = t
-
-    go : (i ≡ x) ⊎ (i < x) → (i < x → T (any P (range (suc i) k))) → T (P i || any P (range (suc i) k))
-    go (inl e) ih = left (P i) (any P (range (suc i) k)) (rw e t)
-    go (inr m) ih = right (P i) (any P (range (suc i) k)) (ih m)
+    go : (b : Bool) → any P (range i k) ≡ b → T b
+    go true e = tt
+    go false e = absurd (against (P x) t (any-none P i k (rw e tt) x h l))
 
 of-some : (P : ℕ → Bool) (i k : ℕ) → T (any P (range i k)) → (x : ℕ) × (i ≤ x) × (x < i + k) × T (P x)
 unfolding any range

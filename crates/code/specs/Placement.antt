@@ -2,14 +2,15 @@
 -- Blocks that fit are known by their bits, and any bits are blocks that fit.
 use mathlib.Core.Path.{_≡_, refl, sym, ap, _∙_}
 use mathlib.Core.List.{List, [], _∷_, _++_, map}
+use mathlib.Core.Logic.{_⊎_, inl, inr}
 use Prim.Native.Nat.{ℕ, zero, suc, _+_, _-_, _*_, _/_, _%_, _^_, _≤_, _<_, zero-le, suc-le-suc}
 use native.Mathlib.Nat as Nat
 use native.Mathlib.Omega.{arith}
 use lib.Arith.{lt-one}
 use lib.Bits as Bits
-use lib.ListN.{length, getD, take, drop, replicate, List·getD-append, getD-replicate}
+use lib.ListN.{length, getD, set, take, drop, replicate, List·getD-append, getD-replicate}
 use lib.Pow.{shr-shr}
-use lib.Seq.{ext-getD, getD-take, getD-drop, getD-append-add}
+use lib.Seq.{ext-getD, getD-take, getD-drop, getD-append-add, getD-set-same, getD-set-other}
 use Rattle.polynomial.specs.Bits.{coefficient, half-lt}
 use Rattle.polynomial.specs.Digits.{digits, digits-coefficient, length-digits, value-coefficient}
 use Rattle.polynomial.specs.Division.{shr-half}
@@ -76,6 +77,15 @@ getD-map-range f a zero i h = absurd (Nat.not-suc-le-zero h)
 getD-map-range f a (suc k) zero h = ap f (sym (Nat.add-zero a))
 getD-map-range f a (suc k) (suc i) h =
     getD-map-range f (suc a) k i (Nat.le-of-suc-le-suc h) ∙ ap f (Nat.suc-add a i ∙ sym (Nat.add-suc a i))
+
+-- a list that begins with f 0 to f (k - 1), and one element more
+pub first-more : (f : ℕ → ℕ) (k d : ℕ) (l : List ℕ) → k < length l → ((i : ℕ) → i < k → getD l i 0 ≡ f i) → d ≡ f k
+    → (i : ℕ) → i < k + 1 → getD (set l k d) i 0 ≡ f i
+first-more f k d l h b e i j = go (Nat.eq-or-lt-of-le (Nat.le-of-suc-le-suc (omega arith)))
+  where
+    go : (i ≡ k) ⊎ (i < k) → getD (set l k d) i 0 ≡ f i
+    go (inl g) = rw g (getD-set-same l k d 0 h ∙ e)
+    go (inr g) = getD-set-other l k i d 0 (λ s. omega arith) ∙ b i g
 
 getD-map : (f : ℕ → ℕ) (l : List ℕ) (i : ℕ) → i < length l → getD (map f l) i 0 ≡ f (getD l i 0)
 getD-map f [] i h = absurd (Nat.not-suc-le-zero h)

@@ -3,7 +3,6 @@
 --   Filled f k l    the first k places of l hold f 0 to f (k - 1), and the rest 0
 --   Row t s w r     the first w of the 13 words of r are those of t from place s on, and the rest is 0
 use mathlib.Core.Path.{_≡_, refl, sym, ap, _∙_}
-use mathlib.Core.Logic.{_⊎_, inl, inr}
 use mathlib.Core.Bool.{Bool, true, false}
 use mathlib.Core.List.{List}
 use Prim.Native.Nat.{ℕ, zero, suc, _+_, _*_, _/_, _%_, _^_, _≤_, _<_}
@@ -12,10 +11,11 @@ use native.Mathlib.Omega.{arith}
 use lib.Dec.{ltb}
 use lib.ListN.{length, getD, set, replicate, length-set}
 use lib.Pow.{pow-mono}
-use lib.Seq.{ext-getD, getD-set-same, getD-set-other}
+use lib.Seq.{ext-getD, getD-set-other}
 use borrow.Author.Tests.{ltb-true, ltb-false}
 use Rattle.polynomial.specs.Digits.{digits, digits-at, length-digits}
 use Rattle.field.specs.Fields.{fieldOf}
+use Rattle.code.specs.Placement.{first-more}
 use Rattle.generator.specs.Generator.{generator}
 use Rattle.tables.specs.Generators.{Generators}
 
@@ -42,13 +42,9 @@ module _ (f : ℕ → ℕ) where
 
   pub filled-next : (k d : ℕ) (l : List ℕ) → k < length l → Filled f k l → d ≡ f k → Filled f (k + 1) (set l k d)
   filled-next k d l h c e = record {
-    first = λ a b. go a (Nat.eq-or-lt-of-le (Nat.le-of-suc-le-suc (omega arith)));
+    first = first-more f k d l h (c .first) e;
     rest = λ a b. getD-set-other l k a d 0 (λ g. omega arith) ∙ c .rest a (omega arith);
   }
-    where
-      go : (a : ℕ) → (a ≡ k) ⊎ (a < k) → getD (set l k d) a 0 ≡ f a
-      go a (inl b) = rw b (getD-set-same l k d 0 h ∙ e)
-      go a (inr b) = getD-set-other l k a d 0 (λ g. omega arith) ∙ c .first a b
 
 -- ---- a row of a table
 pub record Row (t : List ℕ) (s w : ℕ) (r : List ℕ) : Type 0 where

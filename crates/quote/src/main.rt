@@ -55,17 +55,11 @@ fn number(n: u64) {
     io::print_decimal(STDOUT_FILENO, n);
 }
 
-// The numbers that are not 0: spare places are, and no other.
-fn numbers(list: &[u16]) {
-    let mut k: usize = 0;
-    while k < list.len() {
-        let n = list[k];
-        if n != 0 {
-            number(n as u64);
-        }
-        k += 1;
+// A number of the quote, unless it is 0: spare places are, and no other.
+fn shown(n: u16) {
+    if n != 0 {
+        number(n as u64);
     }
-    text(b"\n");
 }
 
 // A strength; 0 is none.
@@ -118,20 +112,20 @@ fn refused(k: u8) {
 
 fn quoted(p: Parameters, list: [u16; 12]) {
     text(b"check bits of each level:");
-    numbers(&[list[0], list[1], list[2], list[3]]);
-    text(b"data bits of each block:");
-    numbers(
-        &[
-            list[4],
-            list[5],
-            list[6],
-            list[7],
-            list[8],
-            list[9],
-            list[10],
-            list[11],
-        ],
-    );
+    shown(list[0]);
+    shown(list[1]);
+    shown(list[2]);
+    shown(list[3]);
+    text(b"\ndata bits of each block:");
+    shown(list[4]);
+    shown(list[5]);
+    shown(list[6]);
+    shown(list[7]);
+    shown(list[8]);
+    shown(list[9]);
+    shown(list[10]);
+    shown(list[11]);
+    text(b"\n");
     size(b"blocks:", sizes::data_bytes(p), b" bytes\n");
     size(b"page:", sizes::page_bytes(p), b" bytes\n");
     size(b"distance:", sizes::distance(p), b" bits\n");

@@ -3,13 +3,12 @@
 use mathlib.Core.Path.{_≡_, refl, sym, ap, _∙_}
 use mathlib.Core.Bool.{Bool, true, false}
 use mathlib.Core.List.{List}
-use mathlib.Core.Logic.{_⊎_, inl, inr}
 use Prim.Native.Nat.{ℕ, _+_, _-_, _^_, _≤_, _<_}
 use native.Mathlib.Nat as Nat
 use native.Mathlib.Omega.{arith}
 use lib.Dec.{leb}
 use lib.ListN.{length, getD, set, length-set}
-use lib.Seq.{ext-getD, getD-set-same, getD-set-other}
+use lib.Seq.{ext-getD}
 use borrow.Author.Tests.{leb-true, leb-false}
 use Rattle.code.specs.declared.Outcome.{Outcome}
 use Rattle.code.specs.declared.Parameters.{Parameters}
@@ -18,6 +17,7 @@ use Rattle.code.specs.Answers.{made-done, made-refused}
 use Rattle.code.specs.Calls.{QuoteMade, quote}
 use Rattle.code.specs.Layout.{dataBits}
 use Rattle.code.specs.Parameters.{Accepted}
+use Rattle.code.specs.Placement.{first-more}
 use Rattle.code.specs.Quote.{quote-bits, quote-degree, quote-le, quote-length, quote-lt, quote-past-m, quote-past-v, quote-zero}
 use Rattle.code.specs.Refusals.{quoteRefusal}
 use Rattle.layout.specs.Sizes.{Degrees}
@@ -31,12 +31,10 @@ module _ (p : Parameters) where
   quoting-start l e = record { exact = e; first = λ j h. absurd (Nat.not-suc-le-zero h) }
 
   pub quoting-next : (k x : ℕ) (l : List ℕ) → k < 12 → Quoting p k l → x ≡ getD (quote p) k 0 → Quoting p (k + 1) (set l k x)
-  quoting-next k x l h q e =
-      record { exact = length-set l k x ∙ q .exact; first = λ j b. go j (Nat.eq-or-lt-of-le (Nat.le-of-suc-le-suc (omega arith))) }
-    where
-      go : (j : ℕ) → (j ≡ k) ⊎ (j < k) → getD (set l k x) j 0 ≡ getD (quote p) j 0
-      go j (inl b) = rw b (getD-set-same l k x 0 (omega (arith, q .exact)) ∙ e)
-      go j (inr b) = getD-set-other l k j x 0 (λ g. omega arith) ∙ q .first j b
+  quoting-next k x l h q e = record {
+    exact = length-set l k x ∙ q .exact;
+    first = first-more (λ j. getD (quote p) j 0) k x l (omega (arith, q .exact)) (q .first) e;
+  }
 
   pub quoting-done : (k : ℕ) (l : List ℕ) → 12 ≤ k → Quoting p k l → l ≡ quote p
   quoting-done k l h q =

@@ -1,13 +1,12 @@
 -- A list of syndromes, filled from S_1 on: those of even number are squares of earlier ones.
 --   Begun q c k l    the first k places of l hold S_1 to S_k of c
 use mathlib.Core.Path.{_≡_, sym, ap, ap₂, _∙_}
-use mathlib.Core.Logic.{_⊎_, inl, inr}
 use mathlib.Core.List.{List, map}
 use Prim.Native.Nat.{ℕ, _+_, _-_, _/_, _%_, _^_, _<_}
 use native.Mathlib.Nat as Nat
 use native.Mathlib.Omega.{arith}
 use lib.ListN.{length, getD, set, length-map}
-use lib.Seq.{ext-getD, getD-set-same, getD-set-other}
+use lib.Seq.{ext-getD}
 use Rattle.field.specs.Elements.{times, times-num, syndrome, syndrome-num, syndrome-lt}
 use Rattle.field.specs.Eval.{eval, eval-sq}
 use Rattle.field.specs.Field.{pow, pow-add}
@@ -15,7 +14,7 @@ use Rattle.field.specs.Fields.{Known, fieldOf}
 use Rattle.element.specs.Fields.{size-most}
 use Rattle.code.specs.Lists.{range}
 use Rattle.code.specs.Pages.{length-range}
-use Rattle.code.specs.Placement.{getD-map-range}
+use Rattle.code.specs.Placement.{first-more, getD-map-range}
 
 abbrev pub Begun : ℕ → ℕ → ℕ → List ℕ → Type 0
 Begun q c k l = (i : ℕ) → i < k → getD l i 0 ≡ syndrome q c (i + 1)
@@ -35,11 +34,7 @@ even-is q h c i l b o =
     ap₂ (times q) (b (i / 2) (omega arith)) (b (i / 2) (omega arith)) ∙ square q h c (i / 2 + 1) ∙ ap (syndrome q c) e
 
 pub begun-next : (q c k s : ℕ) (l : List ℕ) → k < length l → Begun q c k l → s ≡ syndrome q c (k + 1) → Begun q c (k + 1) (set l k s)
-begun-next q c k s l h b e i j = go (Nat.eq-or-lt-of-le (Nat.le-of-suc-le-suc (omega arith)))
-  where
-    go : (i ≡ k) ⊎ (i < k) → getD (set l k s) i 0 ≡ syndrome q c (i + 1)
-    go (inl f) = rw f (getD-set-same l k s 0 h ∙ e)
-    go (inr f) = getD-set-other l k i s 0 (λ g. omega arith) ∙ b i f
+begun-next q c = first-more (λ i. syndrome q c (i + 1))
 
 pub begun-all : (q c : ℕ) (l : List ℕ) → Begun q c (length l) l → l ≡ map (λ j. syndrome q c j) (range 1 (length l))
 begun-all q c l b =
