@@ -93,9 +93,6 @@ select-once (suc n) P = go (P n) (select-once n P)
     go false o = o
 
 module _ (B : BinaryField) (t : ℕ) where
-  abbrev n : ℕ
-  n = B .n
-
   abbrev P : ℕ → Bool
   P = isValue (B .n) (B .q) t
 
