@@ -7,8 +7,8 @@
 
 The first writes the tables of Own.antt, in rt fmt's layout; the second says nothing where they stand there already, else
 it names the file and ends with 1. A row has what a definition gives, as a term, and what this program works out, as
-numbers; the rows are of definitions that no compiled call gives back. What the calls give is compared by programs:
-tools/trial.py, tools/counter.py and tools/writer.py take their answers from here.
+numbers; the rows are of definitions that no compiled call gives back, and of the calls on erased pages. What the calls
+give is compared by programs: tools/trial.py, tools/counter.py and tools/writer.py take their answers from here.
 
 It shares no method with the definitions: generators by trying every polynomial, pages by elimination on the code's
 linear conditions, membership by evaluation at the roots, nested words by turning lists of bits, remainders by long
@@ -22,6 +22,7 @@ from pathlib import Path
 OWN = 'crates/cases/specs/Own.antt'
 
 FIELD = {4: 19, 8: 285, 12: 4179}
+BLANK = 96                                 # the number of the answer blank
 
 
 # ---- polynomials over 0 and 1: lists of bits, the coefficient of x^0 first
@@ -207,8 +208,13 @@ def nested(sheet, ws, l):
     return out
 
 
-def judge(sheet, page):
-    """0, 32 + i or 64 + l."""
+def blank(sheet, page):
+    """Every stored coefficient is 1, whatever the spare bits are."""
+    return all(all(w) for w in words(sheet, page))
+
+
+def failing(sheet, page):
+    """The first word that fails: 32 + i or 64 + l; 0 for none."""
     q, m, v, *t = sheet
     ws = words(sheet, page)
     for i in range(m):
@@ -261,13 +267,18 @@ def solved(sheet, ws, unknown, nested_words, free):
 
 def page_of_blocks(sheet, data):
     """The one page whose blocks are these and whose words meet every condition."""
+    return list(encoded(sheet, tuple(data)))
+
+
+@lru_cache(None)
+def encoded(sheet, data):
     ws, unknown = [], []
     for i, block in enumerate(blocks_with_unused(sheet, data)):
         w = check_bits(sheet, i)
         ws.append([0] * w + block[:length(sheet) - w])
         unknown += [(i, k) for k in range(w)]
     page = page_of_words(sheet, solved(sheet, ws, unknown, range(sheet[2]), None))
-    assert judge(sheet, page) == 0 and blocks_of_page(sheet, page) == data
+    assert failing(sheet, page) == 0 and blocks_of_page(sheet, page) == list(data)
     return page
 
 
@@ -277,7 +288,7 @@ def page_failing_at(sheet, l):
     empty = [[0] * length(sheet) for _ in range(sheet[1])]
     while True:
         page = page_of_words(sheet, solved(sheet, empty, everywhere, range(l), lambda: below(2)))
-        if judge(sheet, page) == 64 + l:
+        if failing(sheet, page) == 64 + l:
             return page
 
 
@@ -403,6 +414,7 @@ def refusal(sheet, width=None, blocks=None, page=None, fed=None, sub_word=None, 
         (10, lambda: room is not None and room[0] != room[1]()),
         (11, lambda: register is not None and register[1] + width > length(sheet)),
         (12, lambda: register is not None and (register[0] > v or len(bits(register[2])) > degree(sheet, register[0]))),
+        (13, lambda: read(blocks) and blank(sheet, page_of_blocks(sheet, blocks))),
     ]
     return next((k for k, holds in table if holds()), 0)
 
@@ -412,15 +424,23 @@ def write(sheet, width, blocks, old):
     return [code] + (old if code else page_of_blocks(sheet, blocks))
 
 
+def verdict(sheet, page, **lent):
+    """The number of judge's and read out's answer: blank goes before 8."""
+    code = refusal(sheet, page=page, **lent)
+    if code in (0, 8) and blank(sheet, page):
+        return BLANK
+    return code or failing(sheet, page)
+
+
 def read_out(sheet, page, old):
-    code = refusal(sheet, page=page, blocks=len(old))
-    return [code] + old if code else [judge(sheet, page)] + blocks_of_page(sheet, page)
+    answer = verdict(sheet, page, blocks=len(old))
+    return [answer] + (old if 0 < answer < 32 else blocks_of_page(sheet, page))
 
 
 def judged(sheet, page):
     """The answer's number, and its values."""
-    answer = refusal(sheet, page=page) or judge(sheet, page)
-    return [answer] + ([answer % 32] if answer >= 32 else [])
+    answer = verdict(sheet, page)
+    return [answer] + ([answer % 32] if 32 <= answer < BLANK else [])
 
 
 def writer(data):
@@ -463,6 +483,15 @@ def all_ones(sheet):
 def one_bit(sheet, i, r):
     return [x for k, (b, size) in enumerate(zip(block_bits(sheet), block_bytes(sheet)))
             for x in bytes_of_bits([int((k, j) == (i, r)) for j in range(b)], size)]
+
+
+def all_but_one(sheet, i, r):
+    return [x ^ y for x, y in zip(all_ones(sheet), one_bit(sheet, i, r))]
+
+
+def erased(sheet, spare):
+    """A blank page with these spare bits, one for each sub-word."""
+    return page_of_words(sheet, [[1] * length(sheet) + [b] for b in spare])
 
 
 def some_page(sheet):
@@ -575,6 +604,7 @@ WIDE = (4, 5, 2, 1, 2, 2, 0)               # x^(l i) with l i above 3
 DEEP = (4, 5, 3, 1, 2, 2, 2)
 TIGHT = (4, 3, 2, 2, 5, 7, 0)              # two blocks of one bit
 SMALL = (4, 3, 2, 6, 7, 7, 0)              # all blocks of one bit, g_0 = g_1 = g_2
+CLASH = (4, 4, 2, 1, 2, 3, 0)
 EIGHT = (8, 8, 3, 1, 2, 2, 2)
 LARGE = (12, 8, 3, 28, 32, 39, 58)
 CHOSEN = [A, B, ALIKE, WIDE, DEEP, TIGHT, SMALL, (4, 4, 1, 1, 2, 0, 0), (4, 5, 1, 1, 2, 0, 0), (4, 3, 1, 2, 3, 0, 0),
@@ -597,15 +627,18 @@ def least_weight(sheet):
 
 
 def self_test():
-    """The requirement's own numbers (docs/REQUIREMENT.md, "On the counter"), the equal form as a whole, and the distance by trial."""
+    """The requirement's own numbers (docs/REQUIREMENT.md, "On the counter"), the equal form as a whole, the distance by trial,
+    and that a page is blank where every data bit is 1."""
     assert [number(generator(4, t)) for t in (1, 2, 3, 4, 7)] == [0x13, 0x1D1, 0x537, 0x7FFF, 0x7FFF]
     assert page_of_blocks(A, [0x00, 0x01, 0x00]) == [0x13, 0x00, 0x13, 0x00]
     assert page_of_blocks(A, [0x01, 0x01, 0x00]) == [0xC2, 0x01, 0x13, 0x00]
     assert page_of_blocks(B, one_bit(B, 2, 0)) == [0x26, 0x00, 0x35, 0x00, 0x13, 0x00]
-    assert judge(A, [0xFF, 0x7F, 0xFF, 0x7F]) == 0
-    assert judge(A, [0x01, 0x00, 0x00, 0x00]) == 32 and judge(A, [0x13, 0x00, 0x00, 0x00]) == 64
+    assert judged(A, [0xFF, 0x7F, 0xFF, 0x7F]) == judged(A, [0xFF, 0xFF, 0xFF, 0xFF]) == [96]
+    assert judged(A, [0x01, 0x00, 0x00, 0x00]) == [32, 0] and judged(A, [0x13, 0x00, 0x00, 0x00]) == [64, 0]
+    assert read_out(A, [0xFF, 0xFF, 0xFF, 0xFF], [0x00] * 3) == [96, 0x7F, 0xFF, 0x07]
+    assert write(A, 8, [0x7F, 0xFF, 0x07], [0x00] * 4) == [13] + [0x00] * 4
     assert [syndrome(4, bits(2), j) for j in (1, 2, 3, 4)] == [2, 4, 8, 3]
-    assert refusal((4, 4, 2, 1, 2, 3, 0)) == 4 and refusal((4, 4, 2, 1, 2, 2, 0)) == 0
+    assert refusal(CLASH) == 4 and refusal((4, 4, 2, 1, 2, 2, 0)) == 0
     assert refusal((8, 4, 1, 1, 42, 0, 0)) == 0 and refusal((8, 4, 1, 1, 43, 0, 0)) == 4
     assert distance(LARGE) == 117 and page_bytes(LARGE) == 4096
     assert number(nesting(2, 1)) == 0b11 and number(nesting(4, 2)) == 0b11011
@@ -615,6 +648,7 @@ def self_test():
         assert whole(some_member(s)) and not any(whole(page_failing_at(s, l)) for l in range(s[2]) if degree(s, s[2] - l) > degree(s, 0))
     small = [s for s in every() if sum(block_bits(s)) <= 16 or s == A]
     assert least_weight(A) == distance(A) and all(least_weight(s) >= distance(s) for s in small)
+    assert all(refusal(s, blocks=all_ones(s)) == 13 for s in CHOSEN)
 
 
 # ---- the cases
@@ -714,7 +748,59 @@ def huge_numbers():
     alone('%s %d 0' % (call('remainderRefusal', A, page), U64), refusal(A, page=page, sub_word=U64, room=(0, lambda: 96)))
 
 
-HEAD = '''-- Cases of our own, of definitions that no compiled call gives back:
+def erased_pages():
+    def each(function, pages, answer):
+        numbers('map (%s) %s' % (function, as_list(map(data, pages))), map(answer, pages))
+
+    def answered(number, leaves, answer):
+        row('%s ∷ %s' % (number, leaves), listed(answer[:1] + hexed(answer[1:])))
+
+    old = lambda size: '(replicate %d 0xA5)' % size
+    patterns = [erased(A, spare) for spare in tuples((0, 1), repeat=2)]
+    clear, full = patterns[0], patterns[-1]
+    near = [[flipped(A, x, (i, k)) for i in (0, 1) for k in (0, 6, 14)] for x in (clear, full)]
+    half = [[y for word in ([0x00, 0x00], [0x13, 0x00], [0x01, 0x00]) for y in (x[:2] + word, word + x[2:])] for x in (clear, full)]
+
+    table('erasedJudged', 'Judge on erased pages and on pages that are nearly so: spare bits in all patterns, all clear, all set.',
+          'judgeNumber judgeValues pow')
+    for pages in [patterns, *near, *half, [[0xFF] * size for size in (0, 3, 5, 6)]]:
+        each('judgeNumber A', pages, lambda x: judged(A, x)[0])
+    byte, refused = (8, 2, 1, 1, 2, 0, 0), [(5, 2, 1, 1, 2, 0, 0), (4, 1, 1, 1, 2, 0, 0), (4, 2, 1, 2, 2, 0, 0), CLASH]
+    for given in [[(B, erased(B, (0, 1, 0))), (SMALL, erased(SMALL, (1, 0, 1)))], [(byte, [0xFF] * 64), (byte, [0xFE] + [0xFF] * 63)],
+                  [(s, [0xFF] * (2 * s[1])) for s in refused]]:
+        numbers(as_list(call('judgeNumber', s, x) for s, x in given)[1:-1], [judged(s, x)[0] for s, x in given])
+    for x in (full, near[0][5]):
+        numbers(call('judgeValues', A, x), judged(A, x)[1:])
+
+    table('erasedRead', 'Read out on them: the number and what it leaves.', 'readNumber readLeaves pow')
+    for s, x, size in [*((A, x, 3) for x in patterns + [near[0][2], near[1][2]]), (B, erased(B, (0, 1, 0)), 4), (A, full, 2), (A, full[:-1], 3)]:
+        answered(call('readNumber', s, x, old(size)), call('readLeaves', s, x, old(size)), read_out(s, x, [0xA5] * size))
+
+    table('onesWritten', 'Write where every data bit is 1, or all but one: the number and what it leaves; 5, 6, 7 and 8 go before 13.',
+          'writeRefusal pageOf writer pow')
+    ones = all_ones(A)
+    for s, blocks in [(A, ones), (A, all_but_one(A, 0, 0)), (A, all_but_one(A, 1, 10)), (A, [0xFF, 0xFF, 0x07]),
+                      (B, all_ones(B)), (SMALL, all_ones(SMALL)), (SMALL, all_but_one(SMALL, 1, 0))]:
+        size = page_bytes(s)
+        answered(call('writeRefusal', s, 8, blocks, size), call('writeLeaves', s, 8, blocks, old(size)), write(s, 8, blocks, [0xA5] * size))
+    wrong = [(0, ones, 4), (8, ones[:-1], 4), (8, ones, 5)]
+    numbers(as_list(call('writeRefusal', A, *given) for given in wrong)[1:-1], [refusal(A, width, blocks, size) for width, blocks, size in wrong])
+    x = [4, 2, 1, 8, 1, 2] + ones
+    row('writer %s' % data(x), listed(hexed(writer(x))))
+
+    table('erasedWords', 'One word of an erased page, as of any other: 8 with a spare bit set, else worked out.',
+          'wordRefusal remainderBytes nestedWordBytes syndromeList nestedSyndromeList pow')
+    for name, part, size in [('remainderRefusal', 'sub_word', 96), ('nestedRefusal', 'nested_word', 2), ('syndromesRefusal 1', 'sub_word', 2)]:
+        each('λ x. %s A x 0 %d' % (name, size), patterns, lambda x: refusal(A, page=x, room=(size, lambda: size), **{part: 0}))
+    row(call('remainderBytes', A, clear, 1), listed(hexed(remainder_bytes(A, clear, 1))))
+    for s in (A, B):
+        x = erased(s, [0] * s[1])
+        row(call('nestedWordBytes', s, x, s[2] - 1), listed(hexed(nested_bytes(s, x, s[2] - 1))))
+    numbers(call('syndromeList', A, clear, 1), syndrome_list(A, clear, 1))
+    numbers(call('nestedSyndromeList', A, clear, 0), nested_syndrome_list(A, clear, 0))
+
+
+HEAD = '''-- Cases of our own, of definitions that no compiled call gives back, and of the calls on erased pages:
 -- each row has what a definition gives and what an independent program says.
 -- Written by tools/cases.py, which works every number out by other means; see there. The calls' own cases are run: tools/trial.py.
 use mathlib.Core.Path.{_≡_, refl}
@@ -729,9 +815,10 @@ use Rattle.field.specs.Field.{pow}
 use Rattle.code.specs.Lists.{range, sum}
 use Rattle.code.specs.Parameters.{sheet, sheetRefusal}
 use Rattle.code.specs.Code.{carried, combine, distance, divisor, N, newton}
-use Rattle.code.specs.Layout.{blockOffset, wordsOf, coefficientOf, blockBit, differences}
-use Rattle.code.specs.Refusals.{feedRefusal, wordRefusal, remainderRefusal}
-use Rattle.code.specs.Calls.{asBytes, empty, fed}
+use Rattle.code.specs.Layout.{blockOffset, wordsOf, pageOf, coefficientOf, blockBit, differences}
+use Rattle.code.specs.Refusals.{feedRefusal, writeRefusal, wordRefusal, remainderRefusal, nestedRefusal, syndromesRefusal}
+use Rattle.code.specs.Calls.{asBytes, empty, fed, judgeNumber, judgeValues, readNumber, readLeaves, writeLeaves}
+use Rattle.code.specs.Calls.{remainderBytes, nestedWordBytes, syndromeList, nestedSyndromeList}
 use Rattle.code.specs.Registers.{cut, feedings}
 use Rattle.code.specs.Writer.{writer}
 use Rattle.cases.specs.Sheets.{Row, A, B, held}
@@ -748,7 +835,7 @@ def printed():
 
 def main(words):
     self_test()
-    for part in (layouts, equal_form, divisors, page_differences, parts, field_sums, bytes_for_c, writings, huge_numbers):
+    for part in (layouts, equal_form, divisors, page_differences, parts, field_sums, bytes_for_c, writings, huge_numbers, erased_pages):
         part()
     if words == ['--check']:
         if (Path(__file__).resolve().parent.parent / OWN).read_text(encoding='utf-8') != printed():

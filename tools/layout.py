@@ -141,7 +141,7 @@ def example(y):
         at += sizes[i]
         y += STEP + 6
     nested = cases.nested(sheet, words, 0)
-    assert cases.trimmed(nested) == cases.gen(sheet, 1) and cases.judge(sheet, made) == 0
+    assert cases.trimmed(nested) == cases.gen(sheet, 1) and cases.judged(sheet, made) == [0]
     cells(y, nested, ["white"] * 15, "nested word 0", ["c_{0} + c_{1} = " + terms(nested), "= g_{1}, and g_{0} divides c_{0} and c_{1}: a member"])
     return y + HIGH + 26
 

@@ -1,4 +1,4 @@
--- Cases of our own, of definitions that no compiled call gives back:
+-- Cases of our own, of definitions that no compiled call gives back, and of the calls on erased pages:
 -- each row has what a definition gives and what an independent program says.
 -- Written by tools/cases.py, which works every number out by other means; see there. The calls' own cases are run: tools/trial.py.
 use mathlib.Core.Path.{_≡_, refl}
@@ -13,9 +13,10 @@ use Rattle.field.specs.Field.{pow}
 use Rattle.code.specs.Lists.{range, sum}
 use Rattle.code.specs.Parameters.{sheet, sheetRefusal}
 use Rattle.code.specs.Code.{carried, combine, distance, divisor, N, newton}
-use Rattle.code.specs.Layout.{blockOffset, wordsOf, coefficientOf, blockBit, differences}
-use Rattle.code.specs.Refusals.{feedRefusal, wordRefusal, remainderRefusal}
-use Rattle.code.specs.Calls.{asBytes, empty, fed}
+use Rattle.code.specs.Layout.{blockOffset, wordsOf, pageOf, coefficientOf, blockBit, differences}
+use Rattle.code.specs.Refusals.{feedRefusal, writeRefusal, wordRefusal, remainderRefusal, nestedRefusal, syndromesRefusal}
+use Rattle.code.specs.Calls.{asBytes, empty, fed, judgeNumber, judgeValues, readNumber, readLeaves, writeLeaves}
+use Rattle.code.specs.Calls.{remainderBytes, nestedWordBytes, syndromeList, nestedSyndromeList}
 use Rattle.code.specs.Registers.{cut, feedings}
 use Rattle.code.specs.Writer.{writer}
 use Rattle.cases.specs.Sheets.{Row, A, B, held}
@@ -229,3 +230,173 @@ hugeNumbers = (
 pub hugeNumbers-hold : map (λ r. r .0) hugeNumbers ≡ map (λ r. r .1) hugeNumbers
 unfolding hugeNumbers sheetRefusal feedRefusal wordRefusal
 hugeNumbers-hold = refl
+
+-- Judge on erased pages and on pages that are nearly so: spare bits in all patterns, all clear, all set.
+pub erasedJudged : List Row
+erasedJudged = (
+  map (judgeNumber A) ((0xFF ∷ 0x7F ∷ 0xFF ∷ 0x7F ∷ []) ∷ (0xFF ∷ 0x7F ∷ 0xFF ∷ 0xFF ∷ []) ∷ (0xFF ∷ 0xFF ∷ 0xFF ∷ 0x7F ∷ []) ∷ (0xFF
+      ∷ 0xFF ∷ 0xFF ∷ 0xFF ∷ []) ∷ []),
+  96 ∷ 96 ∷ 96 ∷ 96 ∷ [],
+)
+    ∷ (
+      map (judgeNumber A) ((0xFE ∷ 0x7F ∷ 0xFF ∷ 0x7F ∷ []) ∷ (0xBF ∷ 0x7F ∷ 0xFF ∷ 0x7F ∷ []) ∷ (0xFF ∷ 0x3F ∷ 0xFF ∷ 0x7F ∷ []) ∷ (0xFF
+          ∷ 0x7F ∷ 0xFE ∷ 0x7F ∷ []) ∷ (0xFF ∷ 0x7F ∷ 0xBF ∷ 0x7F ∷ []) ∷ (0xFF ∷ 0x7F ∷ 0xFF ∷ 0x3F ∷ []) ∷ []),
+      32 ∷ 32 ∷ 32 ∷ 33 ∷ 33 ∷ 33 ∷ [],
+    )
+    ∷ (
+      map (judgeNumber A) ((0xFE ∷ 0xFF ∷ 0xFF ∷ 0xFF ∷ []) ∷ (0xBF ∷ 0xFF ∷ 0xFF ∷ 0xFF ∷ []) ∷ (0xFF ∷ 0xBF ∷ 0xFF ∷ 0xFF ∷ []) ∷ (0xFF
+          ∷ 0xFF ∷ 0xFE ∷ 0xFF ∷ []) ∷ (0xFF ∷ 0xFF ∷ 0xBF ∷ 0xFF ∷ []) ∷ (0xFF ∷ 0xFF ∷ 0xFF ∷ 0xBF ∷ []) ∷ []),
+      replicate 6 8,
+    )
+    ∷ (
+      map (judgeNumber A) ((0xFF ∷ 0x7F ∷ 0x00 ∷ 0x00 ∷ []) ∷ (0x00 ∷ 0x00 ∷ 0xFF ∷ 0x7F ∷ []) ∷ (0xFF ∷ 0x7F ∷ 0x13 ∷ 0x00 ∷ []) ∷ (0x13
+          ∷ 0x00 ∷ 0xFF ∷ 0x7F ∷ []) ∷ (0xFF ∷ 0x7F ∷ 0x01 ∷ 0x00 ∷ []) ∷ (0x01 ∷ 0x00 ∷ 0xFF ∷ 0x7F ∷ []) ∷ []),
+      0 ∷ 0 ∷ 64 ∷ 64 ∷ 33 ∷ 32 ∷ [],
+    )
+    ∷ (
+      map (judgeNumber A) ((0xFF ∷ 0xFF ∷ 0x00 ∷ 0x00 ∷ []) ∷ (0x00 ∷ 0x00 ∷ 0xFF ∷ 0xFF ∷ []) ∷ (0xFF ∷ 0xFF ∷ 0x13 ∷ 0x00 ∷ []) ∷ (0x13
+          ∷ 0x00 ∷ 0xFF ∷ 0xFF ∷ []) ∷ (0xFF ∷ 0xFF ∷ 0x01 ∷ 0x00 ∷ []) ∷ (0x01 ∷ 0x00 ∷ 0xFF ∷ 0xFF ∷ []) ∷ []),
+      replicate 6 8,
+    )
+    ∷ (
+      map (judgeNumber A) ([] ∷ (0xFF ∷ 0xFF ∷ 0xFF ∷ []) ∷ (0xFF ∷ 0xFF ∷ 0xFF ∷ 0xFF ∷ 0xFF ∷ []) ∷ (replicate 6 0xFF) ∷ []),
+      7 ∷ 7 ∷ 7 ∷ 7 ∷ [],
+    )
+    ∷ (
+      judgeNumber B (0xFF ∷ 0x7F ∷ 0xFF ∷ 0xFF ∷ 0xFF ∷ 0x7F ∷ []) ∷ judgeNumber (sheet 4 3 2 6 7 7 0) (0xFF ∷ 0xFF ∷ 0xFF ∷ 0x7F ∷ 0xFF
+          ∷ 0xFF ∷ []) ∷ [],
+      96 ∷ 96 ∷ [],
+    )
+    ∷ (
+      judgeNumber (sheet 8 2 1 1 2 0 0) (replicate 64 0xFF) ∷ judgeNumber (sheet 8 2 1 1 2 0 0) (0xFE ∷ replicate 63 0xFF) ∷ [],
+      96 ∷ 8 ∷ [],
+    )
+    ∷ (
+      judgeNumber (sheet 5 2 1 1 2 0 0) (0xFF ∷ 0xFF ∷ 0xFF ∷ 0xFF ∷ []) ∷ judgeNumber (sheet 4 1 1 1 2 0 0) (0xFF ∷ 0xFF ∷ [])
+          ∷ judgeNumber (sheet 4 2 1 2 2 0 0) (0xFF ∷ 0xFF ∷ 0xFF ∷ 0xFF ∷ []) ∷ judgeNumber (sheet 4 4 2 1 2 3 0) (replicate 8 0xFF) ∷ [],
+      1 ∷ 2 ∷ 3 ∷ 4 ∷ [],
+    )
+    ∷ (judgeValues A (0xFF ∷ 0xFF ∷ 0xFF ∷ 0xFF ∷ []), [])
+    ∷ (judgeValues A (0xFF ∷ 0x7F ∷ 0xFF ∷ 0x3F ∷ []), 1 ∷ [])
+    ∷ []
+
+pub erasedJudged-hold : map (λ r. r .0) erasedJudged ≡ map (λ r. r .1) erasedJudged
+unfolding erasedJudged judgeNumber judgeValues pow
+erasedJudged-hold = refl
+
+-- Read out on them: the number and what it leaves.
+pub erasedRead : List Row
+erasedRead = (
+  readNumber A (0xFF ∷ 0x7F ∷ 0xFF ∷ 0x7F ∷ []) (replicate 3 0xA5) ∷ readLeaves A (0xFF ∷ 0x7F ∷ 0xFF ∷ 0x7F ∷ []) (replicate 3 0xA5),
+  96 ∷ 0x7F ∷ 0xFF ∷ 0x07 ∷ [],
+)
+    ∷ (
+      readNumber A (0xFF ∷ 0x7F ∷ 0xFF ∷ 0xFF ∷ []) (replicate 3 0xA5) ∷ readLeaves A (0xFF ∷ 0x7F ∷ 0xFF ∷ 0xFF ∷ []) (replicate 3 0xA5),
+      96 ∷ 0x7F ∷ 0xFF ∷ 0x07 ∷ [],
+    )
+    ∷ (
+      readNumber A (0xFF ∷ 0xFF ∷ 0xFF ∷ 0x7F ∷ []) (replicate 3 0xA5) ∷ readLeaves A (0xFF ∷ 0xFF ∷ 0xFF ∷ 0x7F ∷ []) (replicate 3 0xA5),
+      96 ∷ 0x7F ∷ 0xFF ∷ 0x07 ∷ [],
+    )
+    ∷ (
+      readNumber A (0xFF ∷ 0xFF ∷ 0xFF ∷ 0xFF ∷ []) (replicate 3 0xA5) ∷ readLeaves A (0xFF ∷ 0xFF ∷ 0xFF ∷ 0xFF ∷ []) (replicate 3 0xA5),
+      96 ∷ 0x7F ∷ 0xFF ∷ 0x07 ∷ [],
+    )
+    ∷ (
+      readNumber A (0xFF ∷ 0x3F ∷ 0xFF ∷ 0x7F ∷ []) (replicate 3 0xA5) ∷ readLeaves A (0xFF ∷ 0x3F ∷ 0xFF ∷ 0x7F ∷ []) (replicate 3 0xA5),
+      32 ∷ 0x3F ∷ 0xFF ∷ 0x07 ∷ [],
+    )
+    ∷ (
+      readNumber A (0xFF ∷ 0xBF ∷ 0xFF ∷ 0xFF ∷ []) (replicate 3 0xA5) ∷ readLeaves A (0xFF ∷ 0xBF ∷ 0xFF ∷ 0xFF ∷ []) (replicate 3 0xA5),
+      8 ∷ 0xA5 ∷ 0xA5 ∷ 0xA5 ∷ [],
+    )
+    ∷ (
+      readNumber B (0xFF ∷ 0x7F ∷ 0xFF ∷ 0xFF ∷ 0xFF ∷ 0x7F ∷ []) (replicate 4 0xA5) ∷ readLeaves B (0xFF ∷ 0x7F ∷ 0xFF ∷ 0xFF ∷ 0xFF
+          ∷ 0x7F ∷ []) (replicate 4 0xA5),
+      96 ∷ 0x1F ∷ 0x7F ∷ 0xFF ∷ 0x07 ∷ [],
+    )
+    ∷ (
+      readNumber A (0xFF ∷ 0xFF ∷ 0xFF ∷ 0xFF ∷ []) (replicate 2 0xA5) ∷ readLeaves A (0xFF ∷ 0xFF ∷ 0xFF ∷ 0xFF ∷ []) (replicate 2 0xA5),
+      6 ∷ 0xA5 ∷ 0xA5 ∷ [],
+    )
+    ∷ (
+      readNumber A (0xFF ∷ 0xFF ∷ 0xFF ∷ []) (replicate 3 0xA5) ∷ readLeaves A (0xFF ∷ 0xFF ∷ 0xFF ∷ []) (replicate 3 0xA5),
+      7 ∷ 0xA5 ∷ 0xA5 ∷ 0xA5 ∷ [],
+    )
+    ∷ []
+
+pub erasedRead-hold : map (λ r. r .0) erasedRead ≡ map (λ r. r .1) erasedRead
+unfolding erasedRead readNumber readLeaves pow
+erasedRead-hold = refl
+
+-- Write where every data bit is 1, or all but one: the number and what it leaves; 5, 6, 7 and 8 go before 13.
+pub onesWritten : List Row
+onesWritten = (
+  writeRefusal A 8 (0x7F ∷ 0xFF ∷ 0x07 ∷ []) 4 ∷ writeLeaves A 8 (0x7F ∷ 0xFF ∷ 0x07 ∷ []) (replicate 4 0xA5),
+  13 ∷ 0xA5 ∷ 0xA5 ∷ 0xA5 ∷ 0xA5 ∷ [],
+)
+    ∷ (
+      writeRefusal A 8 (0x7E ∷ 0xFF ∷ 0x07 ∷ []) 4 ∷ writeLeaves A 8 (0x7E ∷ 0xFF ∷ 0x07 ∷ []) (replicate 4 0xA5),
+      0 ∷ 0x2E ∷ 0x7E ∷ 0xFF ∷ 0x7F ∷ [],
+    )
+    ∷ (
+      writeRefusal A 8 (0x7F ∷ 0xFF ∷ 0x03 ∷ []) 4 ∷ writeLeaves A 8 (0x7F ∷ 0xFF ∷ 0x03 ∷ []) (replicate 4 0xA5),
+      0 ∷ 0x1E ∷ 0x7F ∷ 0xF6 ∷ 0x3F ∷ [],
+    )
+    ∷ (
+      writeRefusal A 8 (0xFF ∷ 0xFF ∷ 0x07 ∷ []) 4 ∷ writeLeaves A 8 (0xFF ∷ 0xFF ∷ 0x07 ∷ []) (replicate 4 0xA5),
+      8 ∷ 0xA5 ∷ 0xA5 ∷ 0xA5 ∷ 0xA5 ∷ [],
+    )
+    ∷ (
+      writeRefusal B 8 (0x1F ∷ 0x7F ∷ 0xFF ∷ 0x07 ∷ []) 6 ∷ writeLeaves B 8 (0x1F ∷ 0x7F ∷ 0xFF ∷ 0x07 ∷ []) (replicate 6 0xA5),
+      13 ∷ replicate 6 0xA5,
+    )
+    ∷ (
+      writeRefusal (sheet 4 3 2 6 7 7 0) 8 (0x01 ∷ 0x01 ∷ 0x01 ∷ []) 6 ∷ writeLeaves (sheet 4 3 2 6 7 7 0) 8 (0x01 ∷ 0x01 ∷ 0x01
+          ∷ []) (replicate 6 0xA5),
+      13 ∷ replicate 6 0xA5,
+    )
+    ∷ (
+      writeRefusal (sheet 4 3 2 6 7 7 0) 8 (0x01 ∷ 0x00 ∷ 0x01 ∷ []) 6 ∷ writeLeaves (sheet 4 3 2 6 7 7 0) 8 (0x01 ∷ 0x00 ∷ 0x01
+          ∷ []) (replicate 6 0xA5),
+      0 ∷ 0xFF ∷ 0x7F ∷ 0x00 ∷ 0x00 ∷ 0xFF ∷ 0x7F ∷ [],
+    )
+    ∷ (
+      writeRefusal A 0 (0x7F ∷ 0xFF ∷ 0x07 ∷ []) 4 ∷ writeRefusal A 8 (0x7F ∷ 0xFF ∷ []) 4 ∷ writeRefusal A 8 (0x7F ∷ 0xFF ∷ 0x07 ∷ []) 5
+          ∷ [],
+      5 ∷ 6 ∷ 7 ∷ [],
+    )
+    ∷ (writer (0x04 ∷ 0x02 ∷ 0x01 ∷ 0x08 ∷ 0x01 ∷ 0x02 ∷ 0x7F ∷ 0xFF ∷ 0x07 ∷ []), 0x0D ∷ [])
+    ∷ []
+
+pub onesWritten-hold : map (λ r. r .0) onesWritten ≡ map (λ r. r .1) onesWritten
+unfolding onesWritten writeRefusal pageOf writer pow
+onesWritten-hold = refl
+
+-- One word of an erased page, as of any other: 8 with a spare bit set, else worked out.
+pub erasedWords : List Row
+erasedWords = (
+  map (λ x. remainderRefusal A x 0 96) ((0xFF ∷ 0x7F ∷ 0xFF ∷ 0x7F ∷ []) ∷ (0xFF ∷ 0x7F ∷ 0xFF ∷ 0xFF ∷ []) ∷ (0xFF ∷ 0xFF ∷ 0xFF ∷ 0x7F
+      ∷ []) ∷ (0xFF ∷ 0xFF ∷ 0xFF ∷ 0xFF ∷ []) ∷ []),
+  0 ∷ 8 ∷ 8 ∷ 8 ∷ [],
+)
+    ∷ (
+      map (λ x. nestedRefusal A x 0 2) ((0xFF ∷ 0x7F ∷ 0xFF ∷ 0x7F ∷ []) ∷ (0xFF ∷ 0x7F ∷ 0xFF ∷ 0xFF ∷ []) ∷ (0xFF ∷ 0xFF ∷ 0xFF ∷ 0x7F
+          ∷ []) ∷ (0xFF ∷ 0xFF ∷ 0xFF ∷ 0xFF ∷ []) ∷ []),
+      0 ∷ 8 ∷ 8 ∷ 8 ∷ [],
+    )
+    ∷ (
+      map (λ x. syndromesRefusal 1 A x 0 2) ((0xFF ∷ 0x7F ∷ 0xFF ∷ 0x7F ∷ []) ∷ (0xFF ∷ 0x7F ∷ 0xFF ∷ 0xFF ∷ []) ∷ (0xFF ∷ 0xFF ∷ 0xFF
+          ∷ 0x7F ∷ []) ∷ (0xFF ∷ 0xFF ∷ 0xFF ∷ 0xFF ∷ []) ∷ []),
+      0 ∷ 8 ∷ 8 ∷ 8 ∷ [],
+    )
+    ∷ (remainderBytes A (0xFF ∷ 0x7F ∷ 0xFF ∷ 0x7F ∷ []) 1, replicate 96 0x00)
+    ∷ (nestedWordBytes A (0xFF ∷ 0x7F ∷ 0xFF ∷ 0x7F ∷ []) 0, 0x00 ∷ 0x00 ∷ [])
+    ∷ (nestedWordBytes B (0xFF ∷ 0x7F ∷ 0xFF ∷ 0x7F ∷ 0xFF ∷ 0x7F ∷ []) 1, 0xFF ∷ 0x7F ∷ [])
+    ∷ (syndromeList A (0xFF ∷ 0x7F ∷ 0xFF ∷ 0x7F ∷ []) 1, 0 ∷ 0 ∷ [])
+    ∷ (nestedSyndromeList A (0xFF ∷ 0x7F ∷ 0xFF ∷ 0x7F ∷ []) 0, 0 ∷ 0 ∷ 0 ∷ 0 ∷ [])
+    ∷ []
+
+pub erasedWords-hold : map (λ r. r .0) erasedWords ≡ map (λ r. r .1) erasedWords
+unfolding erasedWords wordRefusal remainderBytes nestedWordBytes syndromeList nestedSyndromeList pow
+erasedWords-hold = refl
