@@ -20,6 +20,7 @@ WIDTHS = (1, 7, 8, 63, 64)
 
 BYTE = (8, 4, 2, 3, 5, 9, 0)
 FULL = (8, 5, 3, 2, 4, 6, 7)
+TWELVE = (12, 3, 2, 1, 2, 3, 0)
 SHEETS = (A, B, ALIKE, WIDE, DEEP, TIGHT, SMALL, BYTE, FULL, EIGHT, LARGE)
 REFUSED = ((5, 2, 1, 1, 2, 0, 0), (0, 0, 0, 0, 0, 0, 0), (4, 2, 0, 1, 2, 0, 0), (8, 9, 1, 1, 2, 0, 0), (12, 3, 3, 1, 2, 3, 4),
            (4, 2, 1, 2, 2, 0, 0), (4, 2, 1, 0, 2, 0, 0), (12, 8, 3, 28, 32, 39, 65), (4, 2, 1, 1, 2, 1, 0), (4, 6, 1, 1, 2, 0, 0),
@@ -123,6 +124,7 @@ def ones():
 
 other = ones()
 cases.solved = solved
+cases.encoded.cache_clear()
 assert ones() == other
 
 
@@ -280,6 +282,9 @@ def one_word():
             spoiled[(i + 1) * size - 1] |= 128
             each(s, spoiled, 0, 0)
         each(s, [0] * (s[1] * size), 0, 0)
+        # an erased page is a page like any other here
+        for spare in (0, 1):
+            each(s, cases.erased(s, [spare] * s[1]), 0, 0)
         if small:
             each(s, page, s[2] - 1, 1)
             each(s, page[:-1], 255, -1)
@@ -291,19 +296,21 @@ def one_word():
         each(s, [255], 255, 5)
 
 
+def verdict(k):
+    return le(k // 32 * 32, 1) + le(k % 32) if 32 <= k < cases.BLANK else le(k, 1)
+
+
+def judge_and_read(s, page, size):
+    record(JUDGE, s, verdict(cases.judged(s, page)[0]), page=page)
+    k, *blocks = cases.read_out(s, page, [165] * size)
+    record(READ_OUT, s, verdict(k) + bytes(blocks), page=page, size=size)
+
+
+def write(s, width, blocks, size):
+    record(WRITE, s, bytes(cases.write(s, width, blocks, [165] * size)), width=width, page=blocks, size=size)
+
+
 def pages():
-    def verdict(k):
-        return le(k, 1) if k < 32 else le(k // 32 * 32, 1) + le(k % 32)
-
-    def each(s, page, size):
-        record(JUDGE, s, verdict(cases.judged(s, page)[0]), page=page)
-        k, *blocks = cases.read_out(s, page, [165] * size)
-        record(READ_OUT, s, verdict(k) + bytes(blocks), page=page, size=size)
-
-    def write(s, width, blocks, page, size):
-        code = refusal(s, width=width, blocks=blocks, page=size)
-        record(WRITE, s, le(code, 1) + bytes([165] * size if code else page), width=width, page=blocks, size=size)
-
     # multiples of g_0, added to the first sub-words, that nested words below l do not show
     nests = ([[1]], [[1], [1]], [[0, 1], [1, 1], [1]])
     for s in SHEETS:
@@ -313,49 +320,74 @@ def pages():
         blocks = cases.some_blocks(s)
         page = cases.page_of_blocks(s, blocks)
         for width in WIDTHS + (0, 65, 255):
-            write(s, width, blocks, page, room)
+            write(s, width, blocks, room)
         for k in (room - 1, room + 1, 0):
-            write(s, 8, blocks, page, k)
+            write(s, 8, blocks, k)
         for x in (blocks[:-1], blocks + [0], [], [255] * size, [0] * (size - 1) + [128]):
-            write(s, 64, x, page, room)
-        write(s, 0, [255] * (size + 1), page, room + 1)
-        write(s, 1, [255] * (size + 1), page, room + 1)
-        write(s, 1, [255] * size, page, room + 1)
-        each(s, page, size)
-        each(s, [0] * room, size)
-        each(s, cases.some_page(s), size)
+            write(s, 64, x, room)
+        write(s, 0, [255] * (size + 1), room + 1)
+        write(s, 1, [255] * (size + 1), room + 1)
+        write(s, 1, [255] * size, room + 1)
+        judge_and_read(s, page, size)
+        judge_and_read(s, [0] * room, size)
+        judge_and_read(s, cases.some_page(s), size)
         for i in few:
-            each(s, cases.flipped(s, page, (i, below(n))), size)
-            each(s, cases.flipped(s, page, (i, n)), size)
+            judge_and_read(s, cases.flipped(s, page, (i, below(n))), size)
+            judge_and_read(s, cases.flipped(s, page, (i, n)), size)
         for nest in nests[:s[2]]:
             ws = cases.words(s, page)
             for i, f in enumerate(nest):
                 ws[i] = cases.added(ws[i], cases.multiplied(f, cases.gen(s, 0)))
-            each(s, cases.page_of_words(s, ws), size)
+            judge_and_read(s, cases.page_of_words(s, ws), size)
         for x, k in ((page[:-1], size), (page + [0], size), (page, size - 1), (page, size + 1), ([255] * room, size + 1), ([255] * (room + 1), size)):
-            each(s, x, k)
-    for s in SHEETS[:-1]:
-        ones = cases.all_ones(s)
-        write(s, 63, ones, cases.page_of_blocks(s, ones), cases.page_bytes(s))
+            judge_and_read(s, x, k)
     # a single bit in each block; each unused bit; every pair of a wrong length and a stray bit
     for s in (A, B, WIDE, DEEP, TIGHT, SMALL):
         size, room = cases.data_bytes(s), cases.page_bytes(s)
         ends = [sum(cases.block_bytes(s)[:i + 1]) for i in range(s[1])]
         for i, (b, end) in enumerate(zip(cases.block_bits(s), ends)):
-            blocks = cases.one_bit(s, i, 0 if i >= s[2] else b - 1)
-            write(s, WIDTHS[i % 5], blocks, cases.page_of_blocks(s, blocks), room)
+            write(s, WIDTHS[i % 5], cases.one_bit(s, i, 0 if i >= s[2] else b - 1), room)
             for k in range(b % 8 or 8, 8):
-                write(s, 8, [0] * (end - 1) + [1 << k] + [0] * (size - end), [], room)
+                write(s, 8, [0] * (end - 1) + [1 << k] + [0] * (size - end), room)
         for k in (size - 1, size, size + 1):
             for to in (room - 1, room, room + 1):
-                write(s, 8, [255] * k, [], to)
+                write(s, 8, [255] * k, to)
     # the all-ones word is a multiple of every g here; g_0 alone in sub-word 0
-    for s, page in ((B, [0xFF, 0x7F] * 3), (ALIKE, [0xFF, 0x7F, 0x00, 0x00]), (B, [0x13] + [0] * 5)):
-        each(s, page, cases.data_bytes(s))
+    for s, page in ((ALIKE, [0xFF, 0x7F, 0x00, 0x00]), (B, [0x13] + [0] * 5)):
+        judge_and_read(s, page, cases.data_bytes(s))
     for s in REFUSED:
-        write(s, 0, [255], [], 5)
-        each(s, [255], 5)
-    assert seen[JUDGE] == {0, 1, 2, 3, 4, 7, 8, 32, 64} and seen[READ_OUT] == seen[JUDGE] | {6} and seen[WRITE] == set(range(9))
+        write(s, 0, [255], 5)
+        judge_and_read(s, [255], 5)
+
+
+def blanks():
+    """Erased pages with spare bits clear, set and mixed, blocks of ones, and both with a 0 in them."""
+    for s in SHEETS[:-1] + (TWELVE,):
+        n, m = cases.length(s), s[1]
+        size, room = cases.data_bytes(s), cases.page_bytes(s)
+        clear, full, mixed = [cases.erased(s, [spare >> i & 1 for i in range(m)]) for spare in (0, 255, 0x55)]
+        for x in (clear, full, mixed):
+            judge_and_read(s, x, size)
+        for x, k in ((full[:-1], size), (full + [255], size), (full, size - 1), (full[:-1], size - 1)):
+            judge_and_read(s, x, k)
+        # a coefficient 0, at both ends of a sub-word and of a byte within; a whole sub-word
+        for i in range(m):
+            for k in (0, n // 2, n // 2 + 1, n - 1):
+                for x in (clear, mixed):
+                    judge_and_read(s, cases.flipped(s, x, (i, k)), size)
+        for i in (0, m - 1):
+            judge_and_read(s, cases.flipped(s, clear, *[(i, k) for k in range(n)]), size)
+        ones, unused = cases.all_ones(s), list(cases.all_ones(s))
+        unused[-1] |= 128
+        for width, blocks, k in ((1, ones, room), (64, ones, room), (65, ones, room), (8, ones[:-1], room), (8, ones, room - 1), (8, unused, room),
+                                 (8, cases.all_but_one(s, 0, 0), room), (8, cases.all_but_one(s, m - 1, cases.block_bits(s)[-1] - 1), room)):
+            write(s, width, blocks, k)
+    for s in cases.every() + [LARGE]:
+        judge_and_read(s, cases.erased(s, [1] * s[1]), cases.data_bytes(s))
+        write(s, 8, cases.all_ones(s), cases.page_bytes(s))
+    for s in REFUSED:
+        judge_and_read(s, [255] * 16, 5)
+    assert seen[JUDGE] == {0, 1, 2, 3, 4, 7, 8, 32, 64, 96} and seen[READ_OUT] == seen[JUDGE] | {6} and seen[WRITE] == {*range(9), 13}
 
 
 if __name__ == '__main__':
@@ -366,6 +398,7 @@ if __name__ == '__main__':
     registers()
     one_word()
     pages()
+    blanks()
     room = Path(sys.argv[1])
     (room / 'stdin').write_bytes(given)
     (room / 'stdout').write_bytes(expected)
