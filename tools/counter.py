@@ -14,7 +14,6 @@ from cases import added, bits, data_bytes, degree, multiplied, number, page_byte
 A, B, LARGE = trial.A, trial.B, trial.LARGE
 FIVE = (4, 5, 2, 1, 2, 2, 0)
 FOUR = (4, 4, 3, 1, 2, 2, 2)
-CLASH = (4, 4, 2, 1, 2, 3, 0)
 OLD = 0xAA
 
 
@@ -33,8 +32,9 @@ def outcome(code):
 
 
 def verdict(answer):
-    if answer == 0:
-        return ' member'
+    alone = {0: ' member', cases.BLANK: ' blank'}
+    if answer in alone:
+        return alone[answer]
     return (' refused %d', ' sub-word %d', ' nested word %d')[answer // 32] % (answer % 32)
 
 
@@ -74,6 +74,7 @@ def judge(sheet, page):
 def read_out(sheet, page, old):
     answer, *blocks = cases.read_out(sheet, page, old)
     line('read out', page, verdict(answer) + shown(blocks))
+    return blocks
 
 
 def nested_word(sheet, l, page):
@@ -157,6 +158,15 @@ def counter():
         read_out(A, [OLD] * size, blocks)
 
 
+def erased():
+    for page in ([0xFF, 0xFF, 0xFF, 0xFF], [0xFF, 0x7F, 0xFF, 0x7F]):
+        assert cases.judged(A, page) == [cases.BLANK]
+        judge(A, page)
+    blocks = read_out(A, [0xFF, 0xFF, 0xFF, 0xFF], [OLD] * 3)
+    assert blocks == [0x7F, 0xFF, 0x07] and refusal(A, width=8, blocks=blocks, page=4) == 13
+    write(A, 8, blocks, [OLD] * 4)
+
+
 def added_by_powers():
     shifted, highest = [], []
     for blocks in ([0x01, 0x01, 0x00], [0x40, 0x00, 0x04]):
@@ -197,11 +207,12 @@ def not_reduced():
 def cosets():
     assert degree(B, 2) == 10 != B[0] * B[5]
     measured(B)
-    measured(CLASH)
+    measured(cases.CLASH)
 
 
 if __name__ == '__main__':
     counter()
+    erased()
     added_by_powers()
     past_short()
     turned()
