@@ -11,12 +11,9 @@ import subprocess
 import sys
 import time
 
-import trial  # gives cases the generators of the large fields
-from cases import all_ones, block_bits, block_bytes, data_bytes, some_blocks, writer
+from cases import A, B, CLASH, SMALL, all_but_one, all_ones, block_bits, block_bytes, data_bytes, some_blocks, writer
+from trial import BYTE                     # it gives cases the generators of the large fields
 
-A = (4, 2, 1, 1, 2, 0, 0)
-B = (4, 3, 2, 1, 2, 3, 0)
-BYTE = (8, 4, 2, 3, 5, 9, 0)
 DEEP = (12, 4, 3, 1, 2, 2, 3)
 LARGEST = (12, 8, 1, 1, 2, 0, 0)
 LONGEST = 4092                             # bytes of the longest accepted input
@@ -28,9 +25,9 @@ def given(sheet, width, blocks):
     return [q, m, v, width] + t[:v + 1] + blocks
 
 
-def stray(sheet):
-    """Blocks that fit but for the first unused bit of the first block that has one."""
-    blocks, at = some_blocks(sheet), 0
+def stray(sheet, blocks):
+    """The blocks, with the first unused bit of the first block that has one."""
+    blocks, at = list(blocks), 0
     for bits, size in zip(block_bits(sheet), block_bytes(sheet)):
         at += size
         if bits % 8:
@@ -81,7 +78,7 @@ def cases_of():
         yield case('shape %d %d' % (m, v), [4, m, v, 8, 1, 2, 3, 4, 1, 1, 0], 2)
     for t in ((0, 1), (1, 1), (2, 1), (1, 8), (255, 255)):
         yield case('strengths %d %d' % t, [4, 2, 1, 8, *t, 1, 1, 0], 3)
-    yield case('clash', given((4, 4, 2, 1, 2, 3, 0), 8, [0] * 7), 4)
+    yield case('clash', given(CLASH, 8, [0] * 7), 4)
     for width in (0, 65, 255):
         yield case('width %d' % width, given(A, width, [1, 1, 0]), 5)
     for k in range(len(given(A, 8, [1, 1, 0])) + 2):
@@ -91,18 +88,26 @@ def cases_of():
         yield case('blocks short', given(sheet, 8, exact[:-1]), 6)
         yield case('blocks long', given(sheet, 8, exact + [0]), 6)
         yield case('no blocks', given(sheet, 8, []), 6)
-        yield case('stray', given(sheet, 8, stray(sheet)), 8)
+        yield case('stray', given(sheet, 8, stray(sheet, exact)), 8)
         page = writer(given(sheet, 1, exact))
         for width in (1, 7, 64):
             yield 'page, width %d' % width, [given(sheet, width, exact)], page
-    for sheet in (A, B, BYTE):
-        yield case('ones', given(sheet, 64, all_ones(sheet)))
         yield case('zeros', given(sheet, 1, [0] * data_bytes(sheet)))
+    for sheet in (A, B, SMALL, BYTE, DEEP):
+        ones = all_ones(sheet)
+        for width in (1, 64):
+            yield case('ones, width %d' % width, given(sheet, width, ones), 13)
+        yield case('ones, width 0', given(sheet, 0, ones), 5)
+        yield case('ones, short', given(sheet, 8, ones[:-1]), 6)
+        yield case('ones, stray', given(sheet, 8, stray(sheet, ones)), 8)
+        for i in (0, sheet[1] - 1):
+            yield case('ones but one of block %d' % i, given(sheet, 8, all_but_one(sheet, i, block_bits(sheet)[i] - 1)))
     longest = given(LARGEST, 64, some_blocks(LARGEST))
     page = writer(longest)
     assert len(longest) == LONGEST and len(page) == 4097
     yield 'longest', [longest], page
     yield 'longest in pieces', [longest[k:k + 97] for k in range(0, LONGEST, 97)], page
+    yield case('longest of ones', given(LARGEST, 64, all_ones(LARGEST)), 13)
     yield 'longest and one', [longest + [0]], [6]
     yield 'longest and more', [longest, [0] * 5000], [6]
     yield 'longest and no end', endless(longest, [0] * 4096), [6]
