@@ -6,20 +6,23 @@ use mathlib.Core.List.{List, [], _∷_}
 use Prim.Native.Nat.{ℕ, zero, suc, _+_, _≤_, _<_, zero-le}
 use native.Mathlib.Nat as Nat
 use native.Mathlib.Omega.{arith}
-use lib.Dec.{ltb, lit≤}
+use lib.Dec.{ltb, lit≤, lit<}
 use lib.ListN.{length}
+use borrow.Author.Tests.{ltb-true}
 use Rattle.code.specs.declared.Nesting.{Nesting}
 use Rattle.code.specs.declared.Outcome.{Outcome}
 use Rattle.code.specs.declared.Parameters.{Parameters}
 use Rattle.code.specs.declared.Tested.{Tested}
 use Rattle.code.specs.declared.Verdict.{Verdict}
 use Rattle.code.specs.Register.{Register}
+use Rattle.code.specs.Accepted.{accepted}
 use Rattle.code.specs.Calls.{Judged, Made, MadeC, Named, NestingMade, ReadOut, SizeC, Written, fedBy, judgeAnswer, judgeNumber, judgeValues}
 use Rattle.code.specs.Calls.{leaves, nesting, nestingBy, nestingNumber, nestingValues, outcome, outcomeNumber, outcomeValues}
+use Rattle.code.specs.Calls.{pageNumber, pageValues, pageVerdict}
 use Rattle.code.specs.Calls.{readAnswer, readLeaves, readNumber, readValues, sizeUnless, unlessRefused, verdictNumber, verdictValues}
 use Rattle.code.specs.Chains.{when-le}
 use Rattle.code.specs.Code.{N, failing, failingNested, failingNumber, failingValues, verdict}
-use Rattle.code.specs.Layout.{dataOf, pageOf, wordsOf}
+use Rattle.code.specs.Layout.{blank, dataOf, pageOf, wordsOf}
 use Rattle.code.specs.Lists.{_orElse_, lastRefusal, valuesBy}
 use Rattle.code.specs.Parameters.{Accepted, Tests, sheetRefusal, sheetValues, tested, testedNumber, testedOf, testedValues}
 use Rattle.code.specs.Refusals.{judgeRefusal, nestingRefusal, readRefusal, writeRefusal}
@@ -121,7 +124,19 @@ member-of true b i l e = absurd (Nat.suc-ne-zero (31 + i) (sym (Nat.suc-add 31 i
 member-of false true i l e = absurd (Nat.suc-ne-zero (63 + l) (sym (Nat.suc-add 63 l) ∙ e))
 member-of false false i l e = refl
 
+-- the number of a word that fails is below 96
+number-by : (b c : Bool) (f m g v : ℕ) → ltb f m ≡ b → ltb g v ≡ c → m ≤ 8 → v ≤ 3 → cond b (32 + f) (cond c (64 + g) 0) < 96
+number-by true c f m g v d e h k = omega (arith, ltb-true f m d)
+number-by false true f m g v d e h k = omega (arith, ltb-true g v e)
+number-by false false f m g v d e h k = lit< tt
+
 module _ (p : Parameters) (cs : List ℕ) where
+  pub number-low : Accepted p → failingNumber p cs < 96
+  unfolding failingNumber
+  number-low A =
+      number-by (ltb (failing p cs) (p .m)) (ltb (failingNested p cs) (p .v)) (failing p cs) (p .m) (failingNested p cs) (p .v)
+      refl refl (accepted p A .m-high) (accepted p A .v-high)
+
   pub verdict-number : verdictNumber (verdict p cs) ≡ failingNumber p cs
   unfolding verdict failingNumber
   verdict-number = number-of (ltb (failing p cs) (p .m)) (ltb (failingNested p cs) (p .v)) (failing p cs) (failingNested p cs)
@@ -137,67 +152,106 @@ module _ (p : Parameters) (cs : List ℕ) where
   pub named : (r : Verdict) → r ≡ verdict p cs → Named p cs r
   named r e = record { answers = e; number = ap verdictNumber e ∙ verdict-number; values = ap verdictValues e ∙ verdict-values }
 
+-- ---- pages: blank before all else
+blank-number : (b : Bool) (v : Verdict) (n : ℕ) → verdictNumber v ≡ n → verdictNumber (cond b Verdict.Blank v) ≡ cond b 96 n
+blank-number true v n e = refl
+blank-number false v n e = e
+
+blank-values : (b : Bool) (v : Verdict) (l : List ℕ) → verdictValues v ≡ l → verdictValues (cond b Verdict.Blank v) ≡ cond b [] l
+blank-values true v l e = refl
+blank-values false v l e = e
+
+blank-member : (b : Bool) (v : Verdict) (n : ℕ) → (n ≡ 0 → v ≡ Verdict.Member) → cond b 96 n ≡ 0 → cond b Verdict.Blank v ≡ Verdict.Member
+blank-member true v n f e = absurd (Nat.suc-ne-zero 95 e)
+blank-member false v n f e = f e
+
+blank-only : (b : Bool) (v : Verdict) (n : ℕ) → n < 96 → cond b 96 n ≡ 96 → cond b Verdict.Blank v ≡ Verdict.Blank
+blank-only true v n h e = refl
+blank-only false v n h e = absurd (Nat.lt-irrefl 96 (rw e at h))
+
+module _ (p : Parameters) (x : List ℕ) where
+  page-number : verdictNumber (pageVerdict p x) ≡ pageNumber p x
+  unfolding pageVerdict pageNumber
+  page-number = blank-number (blank p x) (verdict p (wordsOf p x)) (failingNumber p (wordsOf p x)) (verdict-number p (wordsOf p x))
+
+  page-values : verdictValues (pageVerdict p x) ≡ pageValues p x
+  unfolding pageVerdict pageValues
+  page-values = blank-values (blank p x) (verdict p (wordsOf p x)) (failingValues p (wordsOf p x)) (verdict-values p (wordsOf p x))
+
+  page-member : pageNumber p x ≡ 0 → pageVerdict p x ≡ Verdict.Member
+  unfolding pageVerdict pageNumber
+  page-member = blank-member (blank p x) (verdict p (wordsOf p x)) (failingNumber p (wordsOf p x)) (verdict-member p (wordsOf p x))
+
   -- ---- behind a refusal r
-  unless-number : (r : ℕ) → verdictNumber (unlessRefused r (verdict p cs)) ≡ (r orElse failingNumber p cs)
-  unless-number zero = verdict-number
+  unless-number : (r : ℕ) → verdictNumber (unlessRefused r (pageVerdict p x)) ≡ (r orElse pageNumber p x)
+  unless-number zero = page-number
   unless-number (suc r) = refl
 
-  unless-values : (r : ℕ) → verdictValues (unlessRefused r (verdict p cs)) ≡ valuesBy r (failingValues p cs)
-  unless-values zero = verdict-values
+  unless-values : (r : ℕ) → verdictValues (unlessRefused r (pageVerdict p x)) ≡ valuesBy r (pageValues p x)
+  unless-values zero = page-values
   unless-values (suc r) = refl
 
-  unless-member : (r : ℕ) → (r orElse failingNumber p cs) ≡ 0 → unlessRefused r (verdict p cs) ≡ Verdict.Member
-  unless-member zero e = verdict-member e
+  unless-member : (r : ℕ) → (r orElse pageNumber p x) ≡ 0 → unlessRefused r (pageVerdict p x) ≡ Verdict.Member
+  unless-member zero e = page-member e
   unless-member (suc r) e = absurd (Nat.suc-ne-zero r e)
 
-  unless-refused : (r k : ℕ) → k ≡ r → 0 < k → Verdict.Refused k ≡ unlessRefused r (verdict p cs)
-  unless-refused r zero e h = absurd (Nat.not-suc-le-zero h)
-  unless-refused r (suc k) e h = ap (λ (n : ℕ). unlessRefused n (verdict p cs)) e
+  unless-blank : Accepted p → (r : ℕ) → r ≤ lastRefusal → (r orElse pageNumber p x) ≡ 96 → unlessRefused r (pageVerdict p x) ≡ Verdict.Blank
+  unfolding pageVerdict pageNumber
+  unless-blank A zero h e =
+      blank-only (blank p x) (verdict p (wordsOf p x)) (failingNumber p (wordsOf p x)) (number-low p (wordsOf p x) A) e
+  unless-blank A (suc r) h e = absurd (Nat.not-suc-le-zero {n = 0} (omega arith))
 
--- ---- judge
-module _ (p : Parameters) (x : List ℕ) where
-  judge-eq : judgeAnswer p x ≡ unlessRefused (judgeRefusal p x) (verdict p (wordsOf p x))
+  unless-refused : (r k : ℕ) → k ≡ r → 0 < k → Verdict.Refused k ≡ unlessRefused r (pageVerdict p x)
+  unless-refused r zero e h = absurd (Nat.not-suc-le-zero h)
+  unless-refused r (suc k) e h = ap (λ (n : ℕ). unlessRefused n (pageVerdict p x)) e
+
+  -- ---- judge
+  judge-eq : judgeAnswer p x ≡ unlessRefused (judgeRefusal p x) (pageVerdict p x)
   unfolding judgeAnswer
   judge-eq = refl
 
-  number-eq : judgeNumber p x ≡ (judgeRefusal p x orElse failingNumber p (wordsOf p x))
+  number-eq : judgeNumber p x ≡ (judgeRefusal p x orElse pageNumber p x)
   unfolding judgeNumber
   number-eq = refl
 
-  values-eq : judgeValues p x ≡ valuesBy (judgeRefusal p x) (failingValues p (wordsOf p x))
+  values-eq : judgeValues p x ≡ valuesBy (judgeRefusal p x) (pageValues p x)
   unfolding judgeValues
   values-eq = refl
 
   pub judged : (r : Verdict) → r ≡ judgeAnswer p x → Judged p x r
   judged r e = record {
     answers = e;
-    number = ap verdictNumber (e ∙ judge-eq) ∙ unless-number p (wordsOf p x) (judgeRefusal p x) ∙ sym number-eq;
-    values = ap verdictValues (e ∙ judge-eq) ∙ unless-values p (wordsOf p x) (judgeRefusal p x) ∙ sym values-eq;
+    number = ap verdictNumber (e ∙ judge-eq) ∙ unless-number (judgeRefusal p x) ∙ sym number-eq;
+    values = ap verdictValues (e ∙ judge-eq) ∙ unless-values (judgeRefusal p x) ∙ sym values-eq;
     small = judge-le p x;
   }
 
   pub judged-refused : (k : ℕ) → k ≡ judgeRefusal p x → (k ≡ 0 → ⊥) → Judged p x (Verdict.Refused k)
   judged-refused k e h =
-      judged (Verdict.Refused k) (unless-refused p (wordsOf p x) (judgeRefusal p x) k e (Nat.pos-of-ne-zero h) ∙ sym judge-eq)
+      judged (Verdict.Refused k) (unless-refused (judgeRefusal p x) k e (Nat.pos-of-ne-zero h) ∙ sym judge-eq)
 
-  pub judged-done : (r : Verdict) → judgeRefusal p x ≡ 0 → r ≡ verdict p (wordsOf p x) → Judged p x r
-  judged-done r z e = judged r (e ∙ sym (judge-eq ∙ ap (λ (k : ℕ). unlessRefused k (verdict p (wordsOf p x))) z))
+  pub judged-done : (r : Verdict) → judgeRefusal p x ≡ 0 → r ≡ pageVerdict p x → Judged p x r
+  judged-done r z e = judged r (e ∙ sym (judge-eq ∙ ap (λ (k : ℕ). unlessRefused k (pageVerdict p x)) z))
 
   -- 0 is the number of members alone
   pub judged-zero : judgeNumber p x ≡ 0 → judgeAnswer p x ≡ Verdict.Member
-  judged-zero e = judge-eq ∙ unless-member p (wordsOf p x) (judgeRefusal p x) (sym number-eq ∙ e)
+  judged-zero e = judge-eq ∙ unless-member (judgeRefusal p x) (sym number-eq ∙ e)
+
+  -- and 96 of blank pages
+  pub judged-blanks : Accepted p → judgeNumber p x ≡ 96 → judgeAnswer p x ≡ Verdict.Blank
+  judged-blanks A e = judge-eq ∙ unless-blank A (judgeRefusal p x) (judge-le p x) (sym number-eq ∙ e)
 
   -- ---- read out
   module _ (b : List ℕ) where
-    read-eq : readAnswer p x b ≡ unlessRefused (readRefusal p x (length b)) (verdict p (wordsOf p x))
+    read-eq : readAnswer p x b ≡ unlessRefused (readRefusal p x (length b)) (pageVerdict p x)
     unfolding readAnswer
     read-eq = refl
 
-    read-number-eq : readNumber p x b ≡ (readRefusal p x (length b) orElse failingNumber p (wordsOf p x))
+    read-number-eq : readNumber p x b ≡ (readRefusal p x (length b) orElse pageNumber p x)
     unfolding readNumber
     read-number-eq = refl
 
-    read-values-eq : readValues p x b ≡ valuesBy (readRefusal p x (length b)) (failingValues p (wordsOf p x))
+    read-values-eq : readValues p x b ≡ valuesBy (readRefusal p x (length b)) (pageValues p x)
     unfolding readValues
     read-values-eq = refl
 
@@ -208,8 +262,8 @@ module _ (p : Parameters) (x : List ℕ) where
     pub read : (r : Verdict) (y : List ℕ) → r ≡ readAnswer p x b → y ≡ readLeaves p x b → ReadOut p x b y r
     read r y e f = record {
       answers = e;
-      number = ap verdictNumber (e ∙ read-eq) ∙ unless-number p (wordsOf p x) (readRefusal p x (length b)) ∙ sym read-number-eq;
-      values = ap verdictValues (e ∙ read-eq) ∙ unless-values p (wordsOf p x) (readRefusal p x (length b)) ∙ sym read-values-eq;
+      number = ap verdictNumber (e ∙ read-eq) ∙ unless-number (readRefusal p x (length b)) ∙ sym read-number-eq;
+      values = ap verdictValues (e ∙ read-eq) ∙ unless-values (readRefusal p x (length b)) ∙ sym read-values-eq;
       small = read-le p x (length b);
       buffer = f;
     }
@@ -217,21 +271,21 @@ module _ (p : Parameters) (x : List ℕ) where
     pub read-refused : (k : ℕ) → k ≡ readRefusal p x (length b) → (k ≡ 0 → ⊥) → ReadOut p x b b (Verdict.Refused k)
     read-refused k e h =
         let l = Nat.pos-of-ne-zero h in
-        read (Verdict.Refused k) b (unless-refused p (wordsOf p x) (readRefusal p x (length b)) k e l ∙ sym read-eq)
+        read (Verdict.Refused k) b (unless-refused (readRefusal p x (length b)) k e l ∙ sym read-eq)
         (sym (leaves-eq ∙ ap (λ (r : ℕ). leaves r (dataOf p x) b) (sym e) ∙ leaves-refused k (dataOf p x) b l))
 
-    pub read-done : (r : Verdict) (y : List ℕ) → readRefusal p x (length b) ≡ 0 → r ≡ verdict p (wordsOf p x) → y ≡ dataOf p x
+    pub read-done : (r : Verdict) (y : List ℕ) → readRefusal p x (length b) ≡ 0 → r ≡ pageVerdict p x → y ≡ dataOf p x
         → ReadOut p x b y r
     read-done r y z e f =
-        read r y (e ∙ sym (read-eq ∙ ap (λ (k : ℕ). unlessRefused k (verdict p (wordsOf p x))) z))
+        read r y (e ∙ sym (read-eq ∙ ap (λ (k : ℕ). unlessRefused k (pageVerdict p x)) z))
         (f ∙ sym (leaves-eq ∙ ap (λ (k : ℕ). leaves k (dataOf p x) b) z))
 
     pub read-zero : readNumber p x b ≡ 0 → readAnswer p x b ≡ Verdict.Member
-    read-zero e = read-eq ∙ unless-member p (wordsOf p x) (readRefusal p x (length b)) (sym read-number-eq ∙ e)
+    read-zero e = read-eq ∙ unless-member (readRefusal p x (length b)) (sym read-number-eq ∙ e)
 
     -- lent blocks of exact length, read out answers as judge does
     pub read-as-judge : BlocksBuffer p b → readAnswer p x b ≡ judgeAnswer p x
-    read-as-judge e = read-eq ∙ ap (λ (r : ℕ). unlessRefused r (verdict p (wordsOf p x))) (read-judge p x b e) ∙ sym judge-eq
+    read-as-judge e = read-eq ∙ ap (λ (r : ℕ). unlessRefused r (pageVerdict p x)) (read-judge p x b e) ∙ sym judge-eq
 
 -- ---- the C calls: the number of a promise met
 pub outcome-number : (r : ℕ) → outcomeNumber (outcome r) ≡ r

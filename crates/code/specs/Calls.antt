@@ -2,8 +2,9 @@
 --   outcomeNumber, verdictNumber, nestingNumber    the requirement's number of an answer, which C calls return
 --   outcomeValues, verdictValues, nestingValues    its values
 --   outcome r, unlessRefused r v, leaves r x old   the answer and the buffer by the refusal r, 0 for none
---   judgeNumber, judgeValues, readNumber, readValues    number and values of a page's verdict, apart from the enum: the refusal's,
---                                                       else those of the first word that fails
+--   pageVerdict, pageNumber, pageValues            what is said of a page that is not refused, with number and values apart from the
+--                                                  enum: blank or, else, the first word that fails
+--   judgeNumber, judgeValues, readNumber, readValues    the same behind the refusals of judge and of read out
 --   quote p                                        the 12 numbers of the quote
 --   sizeUnless r x                                 the size x or, under the refusal r, 0
 --   Made, Named, Judged, ReadOut, ..               what a call promises, of its answer and of the buffer after it;
@@ -26,7 +27,7 @@ use Rattle.code.specs.Register.{Register, Fed}
 use Rattle.code.specs.Lists.{range, _orElse_, valuesBy, lastRefusal}
 use Rattle.code.specs.Parameters.{nestedBytes, strength, sheetRefusal}
 use Rattle.code.specs.Code.{gen, degree, remainder, nested, N, shortRemainder, syndromes, verdict, failingNumber, failingValues}
-use Rattle.code.specs.Layout.{wordsOf, pageOf, dataBits, dataOf}
+use Rattle.code.specs.Layout.{wordsOf, blank, pageOf, dataBits, dataOf}
 use Rattle.code.specs.Refusals.{writeRefusal, readRefusal, judgeRefusal, remainderRefusal, shortRefusal, nestedRefusal}
 use Rattle.code.specs.Refusals.{syndromesRefusal, nestedSyndromesRefusal, openRefusal, feedRefusal, quoteRefusal, nestingRefusal}
 
@@ -41,12 +42,14 @@ outcomeValues (Outcome.Refused k) = []
 
 abbrev pub verdictNumber : Verdict → ℕ
 verdictNumber Verdict.Member = 0
+verdictNumber Verdict.Blank = 96
 verdictNumber (Verdict.SubWord i) = 32 + i
 verdictNumber (Verdict.NestedWord l) = 64 + l
 verdictNumber (Verdict.Refused k) = k
 
 abbrev pub verdictValues : Verdict → List ℕ
 verdictValues Verdict.Member = []
+verdictValues Verdict.Blank = []
 verdictValues (Verdict.SubWord i) = i ∷ []
 verdictValues (Verdict.NestedWord l) = l ∷ []
 verdictValues (Verdict.Refused k) = []
@@ -97,17 +100,30 @@ pub record Named (p : Parameters) (cs : List ℕ) (r : Verdict) : Type 0 where
   pub number : verdictNumber r ≡ failingNumber p cs
   pub values : verdictValues r ≡ failingValues p cs
 
+-- of a page that is not refused: blank before all else
+unfoldable pub pageVerdict : Parameters → List ℕ → Verdict
+unfolding blank verdict wordsOf
+pageVerdict p page = cond (blank p page) Verdict.Blank (verdict p (wordsOf p page))
+
+unfoldable pub pageNumber : Parameters → List ℕ → ℕ
+unfolding blank failingNumber wordsOf
+pageNumber p page = cond (blank p page) 96 (failingNumber p (wordsOf p page))
+
+unfoldable pub pageValues : Parameters → List ℕ → List ℕ
+unfolding blank failingValues wordsOf
+pageValues p page = cond (blank p page) [] (failingValues p (wordsOf p page))
+
 unfoldable pub judgeAnswer : Parameters → List ℕ → Verdict
-unfolding judgeRefusal verdict wordsOf
-judgeAnswer p page = unlessRefused (judgeRefusal p page) (verdict p (wordsOf p page))
+unfolding judgeRefusal pageVerdict
+judgeAnswer p page = unlessRefused (judgeRefusal p page) (pageVerdict p page)
 
 unfoldable pub judgeNumber : Parameters → List ℕ → ℕ
-unfolding judgeRefusal failingNumber wordsOf
-judgeNumber p page = judgeRefusal p page orElse failingNumber p (wordsOf p page)
+unfolding judgeRefusal pageNumber
+judgeNumber p page = judgeRefusal p page orElse pageNumber p page
 
 unfoldable pub judgeValues : Parameters → List ℕ → List ℕ
-unfolding judgeRefusal failingValues wordsOf
-judgeValues p page = valuesBy (judgeRefusal p page) (failingValues p (wordsOf p page))
+unfolding judgeRefusal pageValues
+judgeValues p page = valuesBy (judgeRefusal p page) (pageValues p page)
 
 pub record Judged (p : Parameters) (page : List ℕ) (r : Verdict) : Type 0 where
   pub answers : r ≡ judgeAnswer p page
@@ -116,16 +132,16 @@ pub record Judged (p : Parameters) (page : List ℕ) (r : Verdict) : Type 0 wher
   pub small : judgeRefusal p page ≤ lastRefusal
 
 unfoldable pub readAnswer : Parameters → List ℕ → List ℕ → Verdict
-unfolding readRefusal verdict wordsOf
-readAnswer p page blocks = unlessRefused (readRefusal p page (length blocks)) (verdict p (wordsOf p page))
+unfolding readRefusal pageVerdict
+readAnswer p page blocks = unlessRefused (readRefusal p page (length blocks)) (pageVerdict p page)
 
 unfoldable pub readNumber : Parameters → List ℕ → List ℕ → ℕ
-unfolding readRefusal failingNumber wordsOf
-readNumber p page blocks = readRefusal p page (length blocks) orElse failingNumber p (wordsOf p page)
+unfolding readRefusal pageNumber
+readNumber p page blocks = readRefusal p page (length blocks) orElse pageNumber p page
 
 unfoldable pub readValues : Parameters → List ℕ → List ℕ → List ℕ
-unfolding readRefusal failingValues wordsOf
-readValues p page blocks = valuesBy (readRefusal p page (length blocks)) (failingValues p (wordsOf p page))
+unfolding readRefusal pageValues
+readValues p page blocks = valuesBy (readRefusal p page (length blocks)) (pageValues p page)
 
 unfoldable pub readLeaves : Parameters → List ℕ → List ℕ → List ℕ
 unfolding readRefusal dataOf

@@ -22,9 +22,24 @@ pub either : (a b : Bool) → T (a || b) → T a ⊎ T b
 either true b t = inl tt
 either false b t = inr t
 
+pub left : (a b : Bool) → T a → T (a || b)
+left true b t = tt
+left false b t = absurd t
+
+pub right : (a b : Bool) → T b → T (a || b)
+right true b t = tt
+right false b t = t
+
 pub neither : (a b : Bool) → T (not (a || b)) → T (not a) × T (not b)
 neither true b t = absurd t
 neither false b t = (tt, t)
+
+-- tests that pass together are the same
+pub both-ways : (a b : Bool) → (T a → T b) → (T b → T a) → a ≡ b
+both-ways true true f g = refl
+both-ways true false f g = absurd (f tt)
+both-ways false true f g = absurd (g tt)
+both-ways false false f g = refl
 
 pub nonzero : (x : ℕ) → T (not (eqb x 0)) → 0 < x
 nonzero zero t = absurd t
@@ -50,6 +65,10 @@ off c false t = absurd t
 pub off′ : (c : ℕ) (b : Bool) → T (not b) → (c when b) ≡ 0
 off′ c true t = absurd t
 off′ c false t = refl
+
+pub on : (c : ℕ) (b : Bool) → T b → (c when b) ≡ c
+on c true t = refl
+on c false t = absurd t
 
 pub or-zero : (r s : ℕ) → r ≡ 0 → s ≡ 0 → (r orElse s) ≡ 0
 or-zero zero s e f = f

@@ -5,8 +5,10 @@
 --   Demand2 p            fields, generators, remainders, syndromes, registers, placement,
 --                        membership and written pages are those of the code
 --   Demand3 p            alike at every two widths; sums; members are what is written again; distance
+--   BlankReadLaws, BlankWriteLaws    what read out gives of a blank page, and write of blocks that would make one
 --   QuoteLaws p number   the numbers that the quote gives; QuotedPage p number blocks page: a written page has so many check and data bits
 --   Demand3C p           the same of the C calls: WrittenC, ReadOutC, JudgedC, whose answers are numbers, 0 for done and member
+--   BlankC p             blank pages in C: 96 of judge and of read out, 13 of write
 --   QuotedC p            the quote of C, whose numbers are bytes
 use mathlib.Core.Path.{_≡_}
 use mathlib.Core.Logic.{_≢_, _↔_}
@@ -31,7 +33,7 @@ use Rattle.code.specs.Calls.{Judged, JudgedC, QuoteMade, QuoteMadeC, Rea
 use Rattle.code.specs.Calls.{empty, generators, nestedOf, nestedSyndromeList, nestedWordBytes}
 use Rattle.code.specs.Calls.{opened, outcome, remainderBytes, shortBytes, subWordOf, syndromeList}
 use Rattle.code.specs.Code.{IsMember, N, carried, degree, distance, divisor, gen, nested, newton, remainder, shortRemainder}
-use Rattle.code.specs.Layout.{Bytes, Fits, IsPage, blockBit, blockSizes, blocksOf, coefficientOf, dataOf, differences, pageOf, wordsOf}
+use Rattle.code.specs.Layout.{Bytes, Fits, IsBlank, IsPage, blockBit, blockSizes, blocksOf, coefficientOf, dataOf, differences, pageOf, wordsOf}
 use Rattle.code.specs.Lists.{any, countBelow, join, range, sum}
 use Rattle.code.specs.Parameters.{Accepted, full, len, stored, strength}
 use Rattle.code.specs.Refused.{BlocksBuffer, PageBuffer, Width}
@@ -114,7 +116,7 @@ pub record PlacementLaws (p : Parameters) : Type 0 where
   -- bit r of block i is the coefficient of x^(w + r) of sub-word i, in the written page and in what read out gives
   pub written : (b : List ℕ) → Fits p b → (i r : ℕ) → i < p .m → r < stored p - degree p (p .v - i)
       → coefficientOf p (pageOf p b) i (degree p (p .v - i) + r) ≡ blockBit p b i r
-  pub read : (x : List ℕ) → IsPage p x → (i r : ℕ) → i < p .m → r < stored p - degree p (p .v - i)
+  pub read : (x : List ℕ) → Bytes x → (i r : ℕ) → i < p .m → r < stored p - degree p (p .v - i)
       → blockBit p (dataOf p x) i r ≡ coefficientOf p x i (degree p (p .v - i) + r)
   -- the check bits are the w lowest
   pub checks : (b : List ℕ) → Fits p b → (i : ℕ) → i < p .m
@@ -143,7 +145,14 @@ pub record QuotedPage (p : Parameters) (number : ℕ → ℕ) (blocks page : Lis
       → coefficientOf p x i (number (p .v - i) + r) ≡ coefficientOf p page i (number (p .v - i) + r))
       → x ≡ page
 
--- judge's answer r for a page x: member exactly when the words are; a failing word is named exactly when it is the lowest, sub-words first
+-- read out's answer r and the blocks that it gives of bytes x of a page's length: blank exactly when every coefficient is 1, whatever the
+-- spare bits; the blocks of a blank page are given too: every data bit is 1, and no unused bit
+pub record BlankReadLaws (p : Parameters) (x out : List ℕ) (r : Verdict) : Type 0 where
+  pub answers : (r ≡ Verdict.Blank) ↔ IsBlank p x
+  pub fits : IsBlank p x → Fits p out
+  pub ones : IsBlank p x → (i k : ℕ) → i < p .m → k < stored p - degree p (p .v - i) → blockBit p out i k ≡ 1
+
+-- judge's answer r for a page x other than blank: member exactly when the words are; a failing word is named exactly when it is the lowest, sub-words first
 pub record JudgeLaws (p : Parameters) (x : List ℕ) (r : Verdict) : Type 0 where
   pub member : (r ≡ Verdict.Member) ↔ IsMember p (wordsOf p x)
   pub sub-word : (i : ℕ) → (r ≡ Verdict.SubWord i)
@@ -153,13 +162,20 @@ pub record JudgeLaws (p : Parameters) (x : List ℕ) (r : Verdict) : Type 0 wher
       × (¬ Multiple (gen p (p .v - l)) (nestedOf p x l))
       × ((k : ℕ) → k < l → Multiple (gen p (p .v - k)) (nestedOf p x k)))
 
--- write's answer r and page for blocks that fit: a member, whose blocks read back as given
+-- write's answer r and page for blocks that fit, whose page is not blank: a member, whose blocks read back as given
 pub record WriteLaws (p : Parameters) (blocks after : List ℕ) (r : Outcome) : Type 0 where
   pub done : r ≡ Outcome.Done
   pub page : IsPage p after
   pub member : IsMember p (wordsOf p after)
   pub judged : (j : Verdict) → Judged p after j → j ≡ Verdict.Member
   pub read : (old out : List ℕ) (j : Verdict) → BlocksBuffer p old → ReadOut p after old out j → (j ≡ Verdict.Member) × (out ≡ blocks)
+
+-- write's answer r for blocks that fit: 13 exactly when their page would be blank, and then the lent page is as it was;
+-- that is so exactly when every data bit is 1
+pub record BlankWriteLaws (p : Parameters) (blocks old after : List ℕ) (r : Outcome) : Type 0 where
+  pub refused : (r ≡ Outcome.Refused 13) ↔ IsBlank p (pageOf p blocks)
+  pub kept : IsBlank p (pageOf p blocks) → after ≡ old
+  pub ones : IsBlank p (pageOf p blocks) ↔ ((i k : ℕ) → i < p .m → k < stored p - degree p (p .v - i) → blockBit p blocks i k ≡ 1)
 
 -- the equal form is equal as a whole
 pub record EqualFormLaws (p : Parameters) : Type 0 where
@@ -177,14 +193,20 @@ pub record Demand2 (p : Parameters) : Type 0 where
   pub register-laws : (a : ℕ) → a ≤ p .v → (c : ℕ) (Ls : List ℕ) → All Width Ls → sum Ls ≤ full p → c < 2 ^ sum Ls → RegisterLaws p a c Ls
   pub buffer-laws : (x : List ℕ) → BufferLaws p x
   pub placement-laws : PlacementLaws p
-  pub judge-laws : (x : List ℕ) (r : Verdict) → IsPage p x → Judged p x r → JudgeLaws p x r
+  -- bytes of a page's length are judged blank exactly when every coefficient is 1, whatever the spare bits
+  pub blank-laws : (x : List ℕ) (r : Verdict) → Bytes x → PageBuffer p x → Judged p x r → (r ≡ Verdict.Blank) ↔ IsBlank p x
+  pub blank-read-laws : (x old out : List ℕ) (r : Verdict) → Bytes x → PageBuffer p x → BlocksBuffer p old → ReadOut p x old out r
+      → BlankReadLaws p x out r
+  pub blank-write-laws : (L : ℕ) (blocks old after : List ℕ) (r : Outcome) → Width L → Fits p blocks → PageBuffer p old
+      → Written p L blocks old after r → BlankWriteLaws p blocks old after r
+  pub judge-laws : (x : List ℕ) (r : Verdict) → IsPage p x → (¬ IsBlank p x) → Judged p x r → JudgeLaws p x r
   pub write-laws : (L : ℕ) (blocks old after : List ℕ) (r : Outcome) → Width L → Fits p blocks → PageBuffer p old
-      → Written p L blocks old after r → WriteLaws p blocks after r
+      → (¬ IsBlank p (pageOf p blocks)) → Written p L blocks old after r → WriteLaws p blocks after r
   -- the quote is done in a list of 12 numbers, and every page that write makes of blocks that fit has the bits quoted
   pub quote-laws : (list after : List ℕ) (k : Outcome) → length list ≡ 12 → QuoteMade p list after k
       → (k ≡ Outcome.Done) × (length after ≡ 12) × QuoteLaws p (λ j. getD after j 0)
   pub quoted-pages : (number : ℕ → ℕ) (L : ℕ) (blocks old after : List ℕ) (r : Outcome) → QuoteLaws p number → Width L → Fits p blocks
-      → PageBuffer p old → Written p L blocks old after r → QuotedPage p number blocks after
+      → PageBuffer p old → (¬ IsBlank p (pageOf p blocks)) → Written p L blocks old after r → QuotedPage p number blocks after
   -- read out's answer is judge's, on every page that is lent with a buffer of the blocks' exact length
   pub read-laws : (x old out : List ℕ) (j r : Verdict) → BlocksBuffer p old → Judged p x j → ReadOut p x old out r → r ≡ j
   pub equal-form-laws : EqualFormLaws p
@@ -195,7 +217,7 @@ pub record Alike (after after′ : List ℕ) (r r′ : Outcome) : Type 0 where
   pub answers : r ≡ r′
   pub pages : r ≡ Outcome.Done → after ≡ after′
 
--- the page of the sum is the sum of the pages
+-- the page of the sum is the sum of the pages, where none of the three is blank
 pub record Sums (p : Parameters) (a b page-a page-b page-sum : List ℕ) (r-a r-b r-sum : Outcome) : Type 0 where
   pub fits : Fits p (add a b)
   pub done-a : r-a ≡ Outcome.Done
@@ -203,11 +225,11 @@ pub record Sums (p : Parameters) (a b page-a page-b page-sum : List ℕ) (r-a r-
   pub done : r-sum ≡ Outcome.Done
   pub page : page-sum ≡ add page-a page-b
 
--- a page x, judged j, read out with the answer r, and its blocks written again
-pub record Rewrites (x after : List ℕ) (j r : Verdict) (w : Outcome) : Type 0 where
-  pub done : w ≡ Outcome.Done
-  pub by-judge : (j ≡ Verdict.Member) ↔ (after ≡ x)
-  pub by-read-out : (r ≡ Verdict.Member) ↔ (after ≡ x)
+-- a page x, blank or not, judged j, read out with the answer r, and its blocks, which fit, written again with the answer w
+pub record Rewrites (p : Parameters) (x blocks after : List ℕ) (j r : Verdict) (w : Outcome) : Type 0 where
+  pub fits : Fits p blocks
+  pub by-judge : (j ≡ Verdict.Member) ↔ ((w ≡ Outcome.Done) × (after ≡ x))
+  pub by-read-out : (r ≡ Verdict.Member) ↔ ((w ≡ Outcome.Done) × (after ≡ x))
 
 -- the distance is the smallest of (v + 1)(2 t_0 + 1) and b (2 t_(v-b+1) + 1), b from 1 to v
 abbrev pub Smallest : Parameters → Type 0
@@ -220,11 +242,12 @@ pub record Demand3 (p : Parameters) : Type 0 where
       → Written p L blocks old after r → Written p M blocks old′ after′ r′ → Alike after after′ r r′
   pub sums : (K L M : ℕ) (a b old-a old-b old-sum page-a page-b page-sum : List ℕ) (r-a r-b r-sum : Outcome) → Width K → Width L → Width M
       → Fits p a → Fits p b → PageBuffer p old-a → PageBuffer p old-b → PageBuffer p old-sum
+      → (¬ IsBlank p (pageOf p a)) → (¬ IsBlank p (pageOf p b)) → (¬ IsBlank p (pageOf p (add a b)))
       → Written p K a old-a page-a r-a → Written p L b old-b page-b r-b → Written p M (add a b) old-sum page-sum r-sum
       → Sums p a b page-a page-b page-sum r-a r-b r-sum
   pub rewrites : (L : ℕ) (x old-blocks blocks old-page after : List ℕ) (j r : Verdict) (w : Outcome) → Width L → IsPage p x
       → BlocksBuffer p old-blocks → PageBuffer p old-page
-      → Judged p x j → ReadOut p x old-blocks blocks r → Written p L blocks old-page after w → Rewrites x after j r w
+      → Judged p x j → ReadOut p x old-blocks blocks r → Written p L blocks old-page after w → Rewrites p x blocks after j r w
   pub apart : (x y : List ℕ) → Bytes x → Bytes y → Judged p x Verdict.Member → Judged p y Verdict.Member → x ≢ y
       → distance p ≤ differences p x y
   pub smallest : Smallest p
@@ -242,22 +265,35 @@ pub record SumsC (p : Parameters) (a b page-a page-b page-sum : List ℕ) (r-a r
   pub done : r-sum ≡ 0
   pub page : page-sum ≡ add page-a page-b
 
-pub record RewritesC (x after : List ℕ) (j r w : ℕ) : Type 0 where
-  pub done : w ≡ 0
-  pub by-judge : (j ≡ 0) ↔ (after ≡ x)
-  pub by-read-out : (r ≡ 0) ↔ (after ≡ x)
+pub record RewritesC (p : Parameters) (x blocks after : List ℕ) (j r w : ℕ) : Type 0 where
+  pub fits : Fits p blocks
+  pub by-judge : (j ≡ 0) ↔ ((w ≡ 0) × (after ≡ x))
+  pub by-read-out : (r ≡ 0) ↔ ((w ≡ 0) × (after ≡ x))
 
 pub record Demand3C (p : Parameters) : Type 0 where
   pub alike : (L M : ℕ) (blocks old old′ after after′ : List ℕ) (r r′ : ℕ) → Width L → Width M → length old ≡ length old′
       → WrittenC p L blocks old after r → WrittenC p M blocks old′ after′ r′ → AlikeC after after′ r r′
   pub sums : (K L M : ℕ) (a b old-a old-b old-sum page-a page-b page-sum : List ℕ) (r-a r-b r-sum : ℕ)
       → Width K → Width L → Width M → Fits p a → Fits p b → PageBuffer p old-a → PageBuffer p old-b → PageBuffer p old-sum
+      → (¬ IsBlank p (pageOf p a)) → (¬ IsBlank p (pageOf p b)) → (¬ IsBlank p (pageOf p (add a b)))
       → WrittenC p K a old-a page-a r-a → WrittenC p L b old-b page-b r-b → WrittenC p M (add a b) old-sum page-sum r-sum
       → SumsC p a b page-a page-b page-sum r-a r-b r-sum
   pub rewrites : (L : ℕ) (x old-blocks blocks old-page after : List ℕ) (j r w : ℕ) → Width L → IsPage p x → BlocksBuffer p old-blocks
       → PageBuffer p old-page
-      → JudgedC p x j → ReadOutC p x old-blocks blocks r → WrittenC p L blocks old-page after w → RewritesC x after j r w
+      → JudgedC p x j → ReadOutC p x old-blocks blocks r → WrittenC p L blocks old-page after w → RewritesC p x blocks after j r w
   pub apart : (x y : List ℕ) → Bytes x → Bytes y → JudgedC p x 0 → JudgedC p y 0 → x ≢ y → distance p ≤ differences p x y
+
+-- ---- blank pages in C
+pub record BlankC (p : Parameters) : Type 0 where
+  pub judged : (x : List ℕ) (r : ℕ) → Bytes x → PageBuffer p x → JudgedC p x r → (r ≡ 96) ↔ IsBlank p x
+  pub read-out : (x old out : List ℕ) (r : ℕ) → Bytes x → PageBuffer p x → BlocksBuffer p old → ReadOutC p x old out r
+      → (r ≡ 96) ↔ IsBlank p x
+  pub read-ones : (x old out : List ℕ) (r : ℕ) → Bytes x → PageBuffer p x → BlocksBuffer p old → ReadOutC p x old out r → IsBlank p x
+      → Fits p out × ((i k : ℕ) → i < p .m → k < stored p - degree p (p .v - i) → blockBit p out i k ≡ 1)
+  pub written : (L : ℕ) (blocks old after : List ℕ) (r : ℕ) → Width L → Fits p blocks → PageBuffer p old → WrittenC p L blocks old after r
+      → (r ≡ 13) ↔ IsBlank p (pageOf p blocks)
+  pub kept : (L : ℕ) (blocks old after : List ℕ) (r : ℕ) → Width L → Fits p blocks → PageBuffer p old → WrittenC p L blocks old after r
+      → IsBlank p (pageOf p blocks) → after ≡ old
 
 -- ---- the quote of C: number k stands at bytes 2k and 2k + 1 of 24, low byte first
 abbrev pub numberAt : List ℕ → ℕ → ℕ
@@ -266,12 +302,12 @@ numberAt list k = value 8 (take 2 (drop (2 * k) list))
 pub record QuotedC (p : Parameters) : Type 0 where
   pub quote-laws : (list after : List ℕ) (k : ℕ) → length list ≡ 24 → QuoteMadeC p list after k → (k ≡ 0) × QuoteLaws p (numberAt after)
   pub quoted-pages : (number : ℕ → ℕ) (L : ℕ) (blocks old after : List ℕ) (r : ℕ) → QuoteLaws p number → Width L → Fits p blocks
-      → PageBuffer p old → WrittenC p L blocks old after r → QuotedPage p number blocks after
+      → PageBuffer p old → (¬ IsBlank p (pageOf p blocks)) → WrittenC p L blocks old after r → QuotedPage p number blocks after
 
 -- ---- both, for every accepted sheet
 abbrev pub Demands : Type 0
 Demands = (p : Parameters) → Accepted p → Demand2 p × Demand3 p
 
--- ---- and, of the C calls, demand 3 and the quote
+-- ---- and, of the C calls, demand 3, blank pages and the quote
 abbrev pub DemandsC : Type 0
-DemandsC = (p : Parameters) → Accepted p → Demand3C p × QuotedC p
+DemandsC = (p : Parameters) → Accepted p → Demand3C p × BlankC p × QuotedC p

@@ -1,4 +1,4 @@
--- Demand 3 and the quote of the C calls, from demands 2 and 3: a C call's promise is that of the call behind it, with the number of its answer.
+-- Demand 3, blank pages and the quote of the C calls, from demands 2 and 3: a C call's promise is that of the call behind it, with the number of its answer.
 use mathlib.Core.Path.{_≡_, refl, sym, ap, _∙_}
 use mathlib.Core.Logic.{_↔_}
 use mathlib.Core.List.{List}
@@ -9,12 +9,12 @@ use Rattle.code.specs.declared.Outcome.{Outcome}
 use Rattle.code.specs.declared.Parameters.{Parameters}
 use Rattle.code.specs.declared.Verdict.{Verdict}
 use Rattle.code.specs.Accepted.{accepted}
-use Rattle.code.specs.Answers.{judged, judged-zero, made-of, outcome-number, read, read-zero}
+use Rattle.code.specs.Answers.{judged, judged-blanks, judged-zero, made-of, outcome-number, read, read-as-judge, read-zero}
 use Rattle.code.specs.Buffers.{bytes-at}
-use Rattle.code.specs.Calls.{Judged, JudgedC, QuoteMadeC, ReadOutC, Written, WrittenC, asBytes, judgeAnswer}
+use Rattle.code.specs.Calls.{Judged, JudgedC, QuoteMadeC, ReadOut, ReadOutC, Written, WrittenC, asBytes, judgeAnswer}
 use Rattle.code.specs.Calls.{leaves, outcome, outcomeNumber, quote, readAnswer, verdictNumber}
-use Rattle.code.specs.Demands.{AlikeC, Demand3C, DemandsC, QuoteLaws, QuotedC, RewritesC, SumsC, numberAt}
-use Rattle.code.specs.Layout.{Fits, IsPage, pageOf}
+use Rattle.code.specs.Demands.{AlikeC, BlankC, BlankWriteLaws, Demand3C, DemandsC, QuoteLaws, QuotedC, RewritesC, SumsC, numberAt}
+use Rattle.code.specs.Layout.{Bytes, Fits, IsBlank, IsPage, pageOf}
 use Rattle.code.specs.Parameters.{Accepted}
 use Rattle.code.specs.Quote.{quote-length, quote-none, quote-small}
 use Rattle.code.specs.Refusals.{quoteRefusal, writeRefusal}
@@ -46,12 +46,13 @@ module _ (p : Parameters) (A : Accepted p) where
 
   sums-c : (K L M : ℕ) (a b old-a old-b old-sum page-a page-b page-sum : List ℕ) (r-a r-b r-sum : ℕ)
       → Width K → Width L → Width M → Fits p a → Fits p b → PageBuffer p old-a → PageBuffer p old-b → PageBuffer p old-sum
+      → (¬ IsBlank p (pageOf p a)) → (¬ IsBlank p (pageOf p b)) → (¬ IsBlank p (pageOf p (add a b)))
       → WrittenC p K a old-a page-a r-a → WrittenC p L b old-b page-b r-b → WrittenC p M (add a b) old-sum page-sum r-sum
       → SumsC p a b page-a page-b page-sum r-a r-b r-sum
-  sums-c K L M a b oa ob os pa pb ps ra rb rs wk wl wm h j ea eb es Wa Wb Ws =
+  sums-c K L M a b oa ob os pa pb ps ra rb rs wk wl wm h j ea eb es na nb ns Wa Wb Ws =
       let s =
       demand3 p A .sums K L M a b oa ob os pa pb ps (outcome (refusal K a oa)) (outcome (refusal L b ob)) (outcome (refusal M (add a b) os))
-      wk wl wm h j ea eb es (written K a oa pa ra Wa) (written L b ob pb rb Wb) (written M (add a b) os ps rs Ws) in
+      wk wl wm h j ea eb es na nb ns (written K a oa pa ra Wa) (written L b ob pb rb Wb) (written M (add a b) os ps rs Ws) in
       record {
         fits = s .fits;
         done-a = zero-of ra (refusal K a oa) (Wa .answers) (s .done-a);
@@ -66,10 +67,13 @@ module _ (p : Parameters) (A : Accepted p) where
     (λ e. J .answers ∙ sym (judged p x (judgeAnswer p x) refl .number) ∙ ap verdictNumber e),
   )
 
+  as-read : (x old out : List ℕ) (r : ℕ) → ReadOutC p x old out r → ReadOut p x old out (readAnswer p x old)
+  as-read x old out r O = read p x old (readAnswer p x old) out refl (O .buffer)
+
   read-iff : (x old out : List ℕ) (r : ℕ) → ReadOutC p x old out r → (r ≡ 0) ↔ (readAnswer p x old ≡ Verdict.Member)
   read-iff x old out r O = (
     (λ e. read-zero p x old (sym (O .answers) ∙ e)),
-    (λ e. O .answers ∙ sym (read p x old (readAnswer p x old) out refl (O .buffer) .number) ∙ ap verdictNumber e),
+    (λ e. O .answers ∙ sym (as-read x old out r O .number) ∙ ap verdictNumber e),
   )
 
   through : {X Y Z : Type 0} → X ↔ Y → Y ↔ Z → X ↔ Z
@@ -77,15 +81,19 @@ module _ (p : Parameters) (A : Accepted p) where
 
   rewrites-c : (L : ℕ) (x old-blocks blocks old-page after : List ℕ) (j r w : ℕ) → Width L → IsPage p x → BlocksBuffer p old-blocks
       → PageBuffer p old-page
-      → JudgedC p x j → ReadOutC p x old-blocks blocks r → WrittenC p L blocks old-page after w → RewritesC x after j r w
+      → JudgedC p x j → ReadOutC p x old-blocks blocks r → WrittenC p L blocks old-page after w → RewritesC p x blocks after j r w
   rewrites-c L x ob blocks op after j r o w h eb ep J O W =
       let k = refusal L blocks op in
       let s = demand3 p A .rewrites L x ob blocks op after (judgeAnswer p x) (readAnswer p x ob) (outcome k) w h eb ep
-      (judged p x (judgeAnswer p x) refl) (read p x ob (readAnswer p x ob) blocks refl (O .buffer)) (written L blocks op after o W) in
+      (judged p x (judgeAnswer p x) refl) (as-read x ob blocks r O) (written L blocks op after o W) in
+      let d : ((outcome k ≡ Outcome.Done) × (after ≡ x)) ↔ ((o ≡ 0) × (after ≡ x)) = (
+        (λ b. (zero-of o k (W .answers) (b .0), b .1)),
+        (λ b. (ap outcome (sym (W .answers) ∙ b .0), b .1)),
+      ) in
       record {
-        done = zero-of o k (W .answers) (s .done);
-        by-judge = through (judge-iff x j J) (s .by-judge);
-        by-read-out = through (read-iff x ob blocks r O) (s .by-read-out);
+        fits = s .fits;
+        by-judge = through (judge-iff x j J) (through (s .by-judge) d);
+        by-read-out = through (read-iff x ob blocks r O) (through (s .by-read-out) d);
       }
 
   member-c : (x : List ℕ) → JudgedC p x 0 → Judged p x Verdict.Member
@@ -98,6 +106,40 @@ module _ (p : Parameters) (A : Accepted p) where
     rewrites = rewrites-c;
     apart = λ x y b c J K n. demand3 p A .apart x y b c (member-c x J) (member-c y K) n;
   }
+
+  -- ---- blank pages
+  blank-judged-c : (x : List ℕ) (r : ℕ) → Bytes x → PageBuffer p x → JudgedC p x r → (r ≡ 96) ↔ IsBlank p x
+  blank-judged-c x r b e J =
+      let i = demand2 p A .blank-laws x (judgeAnswer p x) b e (judged p x (judgeAnswer p x) refl) in (
+        (λ z. i .0 (judged-blanks p x A (sym (J .answers) ∙ z))),
+        (λ h. J .answers ∙ sym (judged p x (judgeAnswer p x) refl .number) ∙ ap verdictNumber (i .1 h)),
+      )
+
+  -- lent blocks of exact length, read out's number is judge's
+  read-judged : (x old out : List ℕ) (r : ℕ) → BlocksBuffer p old → ReadOutC p x old out r → JudgedC p x r
+  read-judged x old out r e O =
+      let J = judged p x (judgeAnswer p x) refl in
+      record {
+        answers = O .answers ∙ sym (as-read x old out r O .number) ∙ ap verdictNumber (read-as-judge p x old e) ∙ J .number;
+        small = J .small;
+      }
+
+  pub blank-c : BlankC p
+  blank-c = record {
+    judged = blank-judged-c;
+    read-out = λ x old out r b e f O. blank-judged-c x r b e (read-judged x old out r f O);
+    read-ones = λ x old out r b e f O h.
+        (let d = demand2 p A .blank-read-laws x old out (readAnswer p x old) b e f (as-read x old out r O) in (d .fits h, d .ones h));
+    written = λ L b old after r w h e W. (
+      (λ z. made L b old after r w h e W .refused .0 (ap outcome (sym (W .answers) ∙ z))),
+      (λ i. W .answers ∙ sym (outcome-number (refusal L b old)) ∙ ap outcomeNumber (made L b old after r w h e W .refused .1 i)),
+    );
+    kept = λ L b old after r w h e W. made L b old after r w h e W .kept;
+  }
+    where
+      made : (L : ℕ) (b old after : List ℕ) (r : ℕ) → Width L → Fits p b → PageBuffer p old → WrittenC p L b old after r
+          → BlankWriteLaws p b old after (outcome (refusal L b old))
+      made L b old after r w h e W = demand2 p A .blank-write-laws L b old after (outcome (refusal L b old)) w h e (written L b old after r W)
 
   -- ---- the quote
   quoted-c : (list after : List ℕ) (k : ℕ) → length list ≡ 24 → QuoteMadeC p list after k → (k ≡ 0) × QuoteLaws p (numberAt after)
@@ -112,9 +154,9 @@ module _ (p : Parameters) (A : Accepted p) where
   pub quote-c : QuotedC p
   quote-c = record {
     quote-laws = quoted-c;
-    quoted-pages = λ number L b old after r q w h e W.
-        demand2 p A .quoted-pages number L b old after (outcome (refusal L b old)) q w h e (written L b old after r W);
+    quoted-pages = λ number L b old after r q w h e n W.
+        demand2 p A .quoted-pages number L b old after (outcome (refusal L b old)) q w h e n (written L b old after r W);
   }
 
 pub demands-c : DemandsC
-demands-c p A = (demand3-c p A, quote-c p A)
+demands-c p A = (demand3-c p A, blank-c p A, quote-c p A)

@@ -1,25 +1,27 @@
 -- Pages and blocks as bytes. The little-endian number of a sub-word's bytes is the word: x^k is bit k mod 8 of byte k div 8.
 -- Block i (the requirement's word for the data of sub-word i) is the number of its bytes likewise: bit r is the coefficient of x^(w + r).
 --   wordsOf p page        the sub-words of a page; pageClear p page: no spare bit is 1
+--   storedOf p page       the sub-words without their spare bits; blank p page: every stored coefficient is 1, the spare bits set or not
 --   blockBits p           the data bits of each block; blockSizes p its bytes; blockOffset p i where block i begins
---   blocksOf p blocks     the numbers of the blocks; blocksClear p blocks: no unused bit is 1
+--   blocksOf p blocks     the numbers of the blocks; blocksClear p blocks: no unused bit is 1; blocksFull p blocks: every data bit is 1
 --   pageOf p blocks       the page of some blocks; dataOf p page the blocks of a page
 --   bitFrom bs at k       bit k mod 8 of byte at + k div 8
 --   Bytes l               every element is a byte
 --   Fits p blocks         blocks that fit: their length is exact and their unused bits are 0
 --   IsPage p page         a page of the sheet's length with clear spare bits
+--   IsBlank p page        every coefficient of every sub-word is 1: blank, literally over the bytes
 --   coefficientOf p x i k the coefficient of x^k of sub-word i, blockBit p b i r bit r of block i: both literally, as bits of bytes
 --   differences p x y     the number of pairs of a sub-word i and a place k at which the coefficients of two pages differ
 use mathlib.Core.Path.{_≡_}
 use mathlib.Core.Bool.{Bool, not}
 use mathlib.Core.List.{List, map}
-use Prim.Native.Nat.{ℕ, _+_, _-_, _*_, _/_, _%_, _<_}
+use Prim.Native.Nat.{ℕ, _+_, _-_, _*_, _/_, _%_, _^_, _<_}
 use lib.Dec.{T, eqb}
 use lib.ListN.{length, getD, replicate, take}
 use Rattle.polynomial.specs.Bits.{coefficient}
 use Rattle.polynomial.specs.Sums.{All}
 use Rattle.code.specs.declared.Parameters.{Parameters}
-use Rattle.code.specs.Lists.{range, sum, split, join, within, addBelow, countBelow}
+use Rattle.code.specs.Lists.{range, sum, split, join, each, fitsIn, onesIn, addBelow, countBelow}
 use Rattle.code.specs.Parameters.{stored, subWordBytes}
 use Rattle.code.specs.Code.{degree, checkBits, encode, dataWords}
 
@@ -35,8 +37,18 @@ unfolding split
 wordsOf p page = split (wordSizes p) page
 
 unfoldable pub pageClear : Parameters → List ℕ → Bool
-unfolding within wordsOf
-pageClear p page = within (replicate (p .m) (stored p)) (wordsOf p page)
+unfolding each wordsOf
+pageClear p page = each fitsIn (replicate (p .m) (stored p)) (wordsOf p page)
+
+-- the stored coefficients alone
+unfoldable pub storedOf : Parameters → List ℕ → List ℕ
+unfolding wordsOf
+storedOf p page = map (λ c. c % 2 ^ stored p) (wordsOf p page)
+
+-- an erased chip reads as ones
+unfoldable pub blank : Parameters → List ℕ → Bool
+unfolding each wordsOf
+blank p page = each onesIn (replicate (p .m) (stored p)) (wordsOf p page)
 
 -- ---- blocks: block i has the stored coefficients less sub-word i's check bits, on whole bytes
 abbrev pub dataBits : Parameters → ℕ → ℕ
@@ -63,8 +75,12 @@ unfolding split blockSizes
 blocksOf p blocks = split (blockSizes p) blocks
 
 unfoldable pub blocksClear : Parameters → List ℕ → Bool
-unfolding within blockBits blocksOf
-blocksClear p blocks = within (blockBits p) (blocksOf p blocks)
+unfolding each blockBits blocksOf
+blocksClear p blocks = each fitsIn (blockBits p) (blocksOf p blocks)
+
+unfoldable pub blocksFull : Parameters → List ℕ → Bool
+unfolding each blockBits blocksOf
+blocksFull p blocks = each onesIn (blockBits p) (blocksOf p blocks)
 
 -- ---- from one to the other
 unfoldable pub pageOf : Parameters → List ℕ → List ℕ
@@ -72,8 +88,8 @@ unfolding join encode blocksOf
 pageOf p blocks = join (wordSizes p) (encode p (blocksOf p blocks))
 
 unfoldable pub dataOf : Parameters → List ℕ → List ℕ
-unfolding join blockSizes dataWords wordsOf
-dataOf p page = join (blockSizes p) (dataWords p (wordsOf p page))
+unfolding join blockSizes dataWords storedOf
+dataOf p page = join (blockSizes p) (dataWords p (storedOf p page))
 
 -- ---- what the theorems say of lists of bytes
 abbrev pub bitFrom : List ℕ → ℕ → ℕ → ℕ
@@ -95,6 +111,9 @@ pub record IsPage (p : Parameters) (page : List ℕ) : Type 0 where
 -- the coefficient of x^k of sub-word i of a page
 abbrev pub coefficientOf : Parameters → List ℕ → ℕ → ℕ → ℕ
 coefficientOf p page i k = bitFrom page (i * subWordBytes p) k
+
+abbrev pub IsBlank : Parameters → List ℕ → Type 0
+IsBlank p page = (i k : ℕ) → i < p .m → k < stored p → coefficientOf p page i k ≡ 1
 
 -- bit r of block i, at its byte offset among the blocks
 abbrev pub blockBit : Parameters → List ℕ → ℕ → ℕ → ℕ

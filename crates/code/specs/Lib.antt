@@ -24,6 +24,7 @@ pub mod Judge
 pub mod Refused
 pub mod Answers
 pub mod Placement
+pub mod Blank
 pub mod Registers
 pub mod Buffers
 pub mod Degrees

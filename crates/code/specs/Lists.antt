@@ -4,7 +4,8 @@
 --   first P l o       the first element that passes, or o
 --   sum l             the sum of the elements
 --   split ks bs       bytes cut into runs of ks bytes, each read as a number, low byte first; join is the way back
---   within bs xs      each number of xs has at most as many bits as bs says
+--   each P bs xs      each number x of xs passes the test P b x with its partner b of bs; the tests:
+--                     fitsIn b x, x has at most b bits; onesIn b x, its b lowest bits are 1, whatever stands above
 --   countBelow n P    how many k < n pass the test P; addBelow n f is f 0 + .. + f (n - 1)
 --   k when b          the number k under the condition b, else 0, which is no refusal
 --   r orElse s        the refusal r or, if there is none, s
@@ -12,8 +13,8 @@
 --   lastRefusal       the greatest number of a refusal
 use mathlib.Core.Bool.{Bool, true, false, _&&_, _||_, cond}
 use mathlib.Core.List.{List, [], _∷_, _++_}
-use Prim.Native.Nat.{ℕ, zero, suc, _+_, _^_}
-use lib.Dec.{ltb}
+use Prim.Native.Nat.{ℕ, zero, suc, _+_, _-_, _%_, _^_}
+use lib.Dec.{eqb, ltb}
 use lib.ListN.{take, drop}
 use Rattle.polynomial.specs.Digits.{value, digits}
 
@@ -44,10 +45,16 @@ join [] xs = []
 join (k ∷ ks) [] = []
 join (k ∷ ks) (x ∷ xs) = digits 8 k x ++ join ks xs
 
-unfoldable pub within : List ℕ → List ℕ → Bool
-within [] xs = true
-within (b ∷ bs) [] = true
-within (b ∷ bs) (x ∷ xs) = ltb x (2 ^ b) && within bs xs
+abbrev pub fitsIn : ℕ → ℕ → Bool
+fitsIn b x = ltb x (2 ^ b)
+
+abbrev pub onesIn : ℕ → ℕ → Bool
+onesIn b x = eqb (x % 2 ^ b) (2 ^ b - 1)
+
+unfoldable pub each : (ℕ → ℕ → Bool) → List ℕ → List ℕ → Bool
+each P [] xs = true
+each P (b ∷ bs) [] = true
+each P (b ∷ bs) (x ∷ xs) = P b x && each P bs xs
 
 unfoldable pub addBelow : ℕ → (ℕ → ℕ) → ℕ
 addBelow zero f = 0
@@ -72,4 +79,4 @@ valuesBy zero l = l
 valuesBy (suc r) l = []
 
 abbrev pub lastRefusal : ℕ
-lastRefusal = 12
+lastRefusal = 13

@@ -4,12 +4,12 @@
 use mathlib.Core.Path.{_≡_, refl, sym, ap, ap₂, _∙_}
 use mathlib.Core.Bool.{Bool, true, false, _&&_}
 use mathlib.Core.List.{List, [], _∷_, map}
-use Prim.Native.Nat.{ℕ, zero, suc, _+_, _-_, _*_, _/_, _^_, _≤_, _<_}
+use Prim.Native.Nat.{ℕ, zero, suc, _+_, _-_, _*_, _/_, _%_, _^_, _≤_, _<_}
 use native.Mathlib.Nat as Nat
 use native.Mathlib.Omega.{arith}
 use lib.Dec.{T, ltb, ltb→lt, lt→ltb, lit≤}
 use lib.ListN.{length, replicate, length-replicate, length-map}
-use lib.Pow.{pow-mono}
+use lib.Pow.{pow-mono, pow-pos}
 use Rattle.polynomial.specs.Division.{xor-lt}
 use Rattle.polynomial.specs.Sums.{All, add, length-add}
 use Rattle.field.specs.Field.{zero-mul}
@@ -23,9 +23,9 @@ use Rattle.code.specs.Bytes.{Small, bytes-join, join-add, join-split, le
 use Rattle.code.specs.Code.{dataFrom, dataWords, degree, encode}
 use Rattle.code.specs.Encode.{Sized, data-encode, data-fits, encode-add, encode-length, encode-lt}
 use Rattle.code.specs.Layout.{Fits, IsPage, blockBits, blockSizes, blocksClear, blocksOf}
-use Rattle.code.specs.Layout.{dataBits, dataBytes, dataOf, pageClear, pageOf, wordSizes, wordsOf}
-use Rattle.code.specs.Lists.{join, range, split, sum, within}
-use Rattle.code.specs.Parameters.{len, subWordBytes}
+use Rattle.code.specs.Layout.{dataBits, dataBytes, dataOf, pageClear, pageOf, storedOf, wordSizes, wordsOf}
+use Rattle.code.specs.Lists.{each, fitsIn, join, range, split, sum}
+use Rattle.code.specs.Parameters.{len, stored, subWordBytes}
 
 pub and-both : (a b : Bool) → T a → T b → T (a && b)
 and-both true b h t = t
@@ -44,15 +44,19 @@ pub pageOf-eq : (p : Parameters) (x : List ℕ) → pageOf p x ≡ join (wordSiz
 unfolding pageOf
 pageOf-eq p x = refl
 
-pub dataOf-eq : (p : Parameters) (x : List ℕ) → dataOf p x ≡ join (blockSizes p) (dataWords p (wordsOf p x))
+pub storedOf-eq : (p : Parameters) (x : List ℕ) → storedOf p x ≡ map (λ c. c % 2 ^ stored p) (wordsOf p x)
+unfolding storedOf
+storedOf-eq p x = refl
+
+pub dataOf-eq : (p : Parameters) (x : List ℕ) → dataOf p x ≡ join (blockSizes p) (dataWords p (storedOf p x))
 unfolding dataOf
 dataOf-eq p x = refl
 
-pageClear-eq : (p : Parameters) (x : List ℕ) → pageClear p x ≡ within (replicate (p .m) (len p)) (wordsOf p x)
+pageClear-eq : (p : Parameters) (x : List ℕ) → pageClear p x ≡ each fitsIn (replicate (p .m) (len p)) (wordsOf p x)
 unfolding pageClear
 pageClear-eq p x = refl
 
-blocksClear-eq : (p : Parameters) (x : List ℕ) → blocksClear p x ≡ within (blockBits p) (blocksOf p x)
+blocksClear-eq : (p : Parameters) (x : List ℕ) → blocksClear p x ≡ each fitsIn (blockBits p) (blocksOf p x)
 unfolding blocksClear
 blocksClear-eq p x = refl
 
@@ -71,19 +75,28 @@ sum-replicate zero k = sym (Nat.zero-mul k)
 sum-replicate (suc m) k = ap (λ (y : ℕ). k + y) (sum-replicate m k) ∙ omega arith
 
 -- ---- words of n bits
-all-within : (n m : ℕ) (cs : List ℕ) → All (λ c. c < 2 ^ n) cs → T (within (replicate m n) cs)
-unfolding within
+all-within : (n m : ℕ) (cs : List ℕ) → All (λ c. c < 2 ^ n) cs → T (each fitsIn (replicate m n) cs)
+unfolding each
 all-within n zero cs h = tt
 all-within n (suc m) [] h = tt
-all-within n (suc m) (c ∷ cs) h = and-both (ltb c (2 ^ n)) (within (replicate m n) cs) (lt→ltb c (2 ^ n) (h .0)) (all-within n m cs (h .1))
+all-within n (suc m) (c ∷ cs) h = and-both (fitsIn n c) (each fitsIn (replicate m n) cs) (lt→ltb c (2 ^ n) (h .0)) (all-within n m cs (h .1))
 
-within-all : (n m : ℕ) (cs : List ℕ) → length cs ≡ m → T (within (replicate m n) cs) → All (λ c. c < 2 ^ n) cs
-unfolding within
+within-all : (n m : ℕ) (cs : List ℕ) → length cs ≡ m → T (each fitsIn (replicate m n) cs) → All (λ c. c < 2 ^ n) cs
+unfolding each
 within-all n m [] e t = tt
 within-all n zero (c ∷ cs) e t = absurd (Nat.suc-ne-zero (length cs) e)
 within-all n (suc m) (c ∷ cs) e t =
-    let b = both (ltb c (2 ^ n)) (within (replicate m n) cs) t in
+    let b = both (fitsIn n c) (each fitsIn (replicate m n) cs) t in
     (ltb→lt c (2 ^ n) (b .0), within-all n m cs (Nat.suc-inj e) (b .1))
+
+-- words cut to n bits
+all-low : (n : ℕ) (cs : List ℕ) → All (λ c. c < 2 ^ n) (map (λ c. c % 2 ^ n) cs)
+all-low n [] = tt
+all-low n (c ∷ cs) = (Nat.mod-lt c (pow-pos n), all-low n cs)
+
+low-all : (n : ℕ) (cs : List ℕ) → All (λ c. c < 2 ^ n) cs → map (λ c. c % 2 ^ n) cs ≡ cs
+low-all n [] h = refl
+low-all n (c ∷ cs) h = ap₂ _∷_ (Nat.mod-eq-of-lt (h .0)) (low-all n cs (h .1))
 
 all-small : (n k m : ℕ) (cs : List ℕ) → n ≤ 8 * k → length cs ≡ m → All (λ c. c < 2 ^ n) cs → Small (replicate m k) cs
 all-small n k zero [] l e h = tt
@@ -113,20 +126,20 @@ length-bits p = rw (blockBits-eq p, length-map) (length-range 0 (p .m))
 pub length-blocks : (p : Parameters) → length (blockSizes p) ≡ p .m
 length-blocks p = rw (blockSizes-eq p, length-map) (length-bits p)
 
-within-fits : (p : Parameters) (i k : ℕ) (ds : List ℕ) → length ds ≡ k → T (within (map (dataBits p) (range i k)) ds) → Sized p i ds
-unfolding within range
+within-fits : (p : Parameters) (i k : ℕ) (ds : List ℕ) → length ds ≡ k → T (each fitsIn (map (dataBits p) (range i k)) ds) → Sized p i ds
+unfolding each range
 within-fits p i k [] e t = tt
 within-fits p i zero (d ∷ ds) e t = absurd (Nat.suc-ne-zero (length ds) e)
 within-fits p i (suc k) (d ∷ ds) e t =
-    let b = both (ltb d (2 ^ dataBits p i)) (within (map (dataBits p) (range (suc i) k)) ds) t in
+    let b = both (fitsIn (dataBits p i) d) (each fitsIn (map (dataBits p) (range (suc i) k)) ds) t in
     (ltb→lt d (2 ^ dataBits p i) (b .0), within-fits p (suc i) k ds (Nat.suc-inj e) (b .1))
 
-fits-within : (p : Parameters) (i k : ℕ) (ds : List ℕ) → Sized p i ds → T (within (map (dataBits p) (range i k)) ds)
-unfolding within range
+fits-within : (p : Parameters) (i k : ℕ) (ds : List ℕ) → Sized p i ds → T (each fitsIn (map (dataBits p) (range i k)) ds)
+unfolding each range
 fits-within p i zero ds h = tt
 fits-within p i (suc k) [] h = tt
 fits-within p i (suc k) (d ∷ ds) h =
-    and-both (ltb d (2 ^ dataBits p i)) (within (map (dataBits p) (range (suc i) k)) ds) (lt→ltb d (2 ^ dataBits p i) (h .0))
+    and-both (fitsIn (dataBits p i) d) (each fitsIn (map (dataBits p) (range (suc i) k)) ds) (lt→ltb d (2 ^ dataBits p i) (h .0))
     (fits-within p (suc i) k ds (h .1))
 
 pub whole : (b : ℕ) → b ≤ 8 * ((b + 7) / 8)
@@ -163,18 +176,34 @@ pub blocks-add : (p : Parameters) (ds es : List ℕ) → IsBlocks p ds → IsBlo
 blocks-add p ds es h j =
     record { many = length-add ds es (h .many ∙ sym (j .many)) ∙ h .many; fits = fits-add p 0 ds es (h .fits) (j .fits) }
 
+pub length-sizes : (p : Parameters) → length (wordSizes p) ≡ p .m
+length-sizes p = length-replicate (p .m) (subWordBytes p)
+
+pub words-many : (p : Parameters) (x : List ℕ) → length (wordsOf p x) ≡ p .m
+words-many p x = rw (wordsOf-eq p x) (length-split (wordSizes p) x ∙ length-sizes p)
+
+pub blocks-many : (p : Parameters) (x : List ℕ) → length (blocksOf p x) ≡ p .m
+blocks-many p x = rw (blocksOf-eq p x) (length-split (blockSizes p) x ∙ length-blocks p)
+
+-- the stored coefficients of whatever bytes
+pub stored-words : (p : Parameters) (x : List ℕ) → IsWords p (storedOf p x)
+stored-words p x =
+    rw (storedOf-eq p x)
+    (record { many = length-map (wordsOf p x) (λ c. c % 2 ^ stored p) ∙ words-many p x; below = all-low (stored p) (wordsOf p x) })
+
 module _ (p : Parameters) (R : Rules p) where
   -- ---- pages
   small-words : (cs : List ℕ) → IsWords p cs → Small (wordSizes p) cs
   small-words cs h = all-small (len p) (subWordBytes p) (p .m) cs (room (p .q) (R .known)) (h .many) (h .below)
 
-  length-sizes : length (wordSizes p) ≡ p .m
-  length-sizes = length-replicate (p .m) (subWordBytes p)
-
   pub page-words : (x : List ℕ) → IsPage p x → IsWords p (wordsOf p x)
   page-words x h =
-      let e : length (wordsOf p x) ≡ p .m = rw (wordsOf-eq p x) (length-split (wordSizes p) x ∙ length-sizes) in
+      let e : length (wordsOf p x) ≡ p .m = words-many p x in
       record { many = e; below = within-all (len p) (p .m) (wordsOf p x) e (rw (pageClear-eq p x) at (h .clear)) }
+
+  -- with clear spare bits a page has no other coefficients
+  pub stored-page : (x : List ℕ) → IsPage p x → storedOf p x ≡ wordsOf p x
+  stored-page x h = storedOf-eq p x ∙ low-all (stored p) (wordsOf p x) (page-words x h .below)
 
   pub words-join : (cs : List ℕ) → IsWords p cs → wordsOf p (join (wordSizes p) cs) ≡ cs
   words-join cs h = wordsOf-eq p (join (wordSizes p) cs) ∙ split-join (wordSizes p) cs (small-words cs h)
@@ -185,7 +214,7 @@ module _ (p : Parameters) (R : Rules p) where
   pub words-page : (cs : List ℕ) → IsWords p cs → IsPage p (join (wordSizes p) cs)
   words-page cs h = record {
     bytes = bytes-join (wordSizes p) cs;
-    exact = length-join (wordSizes p) cs (h .many ∙ sym length-sizes) ∙ sum-replicate (p .m) (subWordBytes p);
+    exact = length-join (wordSizes p) cs (h .many ∙ sym (length-sizes p)) ∙ sum-replicate (p .m) (subWordBytes p);
     clear = rw (pageClear-eq p (join (wordSizes p) cs), words-join cs h) (all-within (len p) (p .m) cs (h .below));
   }
 
@@ -195,7 +224,7 @@ module _ (p : Parameters) (R : Rules p) where
 
   pub blocks-blocks : (x : List ℕ) → Fits p x → IsBlocks p (blocksOf p x)
   blocks-blocks x h =
-      let e : length (blocksOf p x) ≡ p .m = rw (blocksOf-eq p x) (length-split (blockSizes p) x ∙ length-blocks p) in
+      let e : length (blocksOf p x) ≡ p .m = blocks-many p x in
       record { many = e; fits = within-fits p 0 (p .m) (blocksOf p x) e (rw (blocksClear-eq p x, blockBits-eq p) at (h .clear)) }
 
   pub blocks-join : (ds : List ℕ) → IsBlocks p ds → blocksOf p (join (blockSizes p) ds) ≡ ds
@@ -237,20 +266,21 @@ module _ (p : Parameters) (R : Rules p) where
     pub page-back : dataOf p (pageOf p x) ≡ x
     page-back =
         dataOf-eq p (pageOf p x)
-        ∙ rw (page-has, data-encode p (lawful p R .degrees) (blocksOf p x)) (join-blocks x h)
+        ∙ rw (stored-page (pageOf p x) page-is, page-has, data-encode p (lawful p R .degrees) (blocksOf p x)) (join-blocks x h)
+
+  -- ---- the blocks of whatever bytes
+  pub data-fit : (x : List ℕ) → Fits p (dataOf p x)
+  data-fit x = rw (dataOf-eq p x) (blocks-fit (dataWords p (storedOf p x)) (data-blocks (storedOf p x) (stored-words p x)))
 
   -- ---- the blocks of a page
   module _ (x : List ℕ) (h : IsPage p x) where
     taken : IsBlocks p (dataWords p (wordsOf p x))
     taken = data-blocks (wordsOf p x) (page-words x h)
 
-    pub data-fit : Fits p (dataOf p x)
-    data-fit = rw (dataOf-eq p x) (blocks-fit (dataWords p (wordsOf p x)) taken)
+    data-has : blocksOf p (dataOf p x) ≡ dataWords p (wordsOf p x)
+    data-has = rw (dataOf-eq p x, stored-page x h) (blocks-join (dataWords p (wordsOf p x)) taken)
 
-    pub data-has : blocksOf p (dataOf p x) ≡ dataWords p (wordsOf p x)
-    data-has = rw (dataOf-eq p x) (blocks-join (dataWords p (wordsOf p x)) taken)
-
-    pub again : pageOf p (dataOf p x) ≡ join (wordSizes p) (encode p (dataWords p (wordsOf p x)))
+    again : pageOf p (dataOf p x) ≡ join (wordSizes p) (encode p (dataWords p (wordsOf p x)))
     again = rw (pageOf-eq p (dataOf p x), data-has) refl
 
     -- the page is written again exactly when its words are

@@ -12,7 +12,7 @@ use lib.ListN.{length, getD, set, take, drop, replicate, List·getD-append, getD
 use lib.Pow.{shr-shr}
 use lib.Seq.{ext-getD, getD-take, getD-drop, getD-append-add, getD-set-same, getD-set-other}
 use Rattle.polynomial.specs.Bits.{coefficient, half-lt}
-use Rattle.polynomial.specs.Digits.{digits, digits-coefficient, length-digits, value-coefficient}
+use Rattle.polynomial.specs.Digits.{digits, digits-coefficient, length-digits, low-coefficient, value-coefficient}
 use Rattle.polynomial.specs.Division.{shr-half}
 use Rattle.polynomial.specs.Sums.{all-drop, all-take}
 use Rattle.polynomial.specs.Xor.{xor}
@@ -21,11 +21,12 @@ use Rattle.code.specs.declared.Parameters.{Parameters}
 use Rattle.code.specs.Accepted.{Rules, lawful, width-below}
 use Rattle.code.specs.Code.{carried, checkBits, checked, dataFrom, dataWords, encode, encodeFrom, level, remainder}
 use Rattle.code.specs.Encode.{Sized, checked-data, checked-low}
-use Rattle.code.specs.Layout.{Bytes, Fits, IsPage, bitFrom, blockBit, blockBits, blockOffset, blockSizes}
-use Rattle.code.specs.Layout.{blocksOf, coefficientOf, dataBits, dataOf, pageOf, wordSizes, wordsOf}
+use Rattle.code.specs.Layout.{Bytes, Fits, bitFrom, blockBit, blockBits, blockOffset, blockSizes}
+use Rattle.code.specs.Layout.{blocksOf, coefficientOf, dataBits, dataOf, pageOf, storedOf, wordSizes, wordsOf}
 use Rattle.code.specs.Lists.{join, range, split, sum}
 use Rattle.code.specs.Pages.{IsBlocks, blockBits-eq, blockSizes-eq, blocks-blocks, blocks-fit, blocks-join, blocksOf-eq, dataOf-eq}
-use Rattle.code.specs.Pages.{join-blocks, length-bits, length-blocks, length-data, page-has, page-is, page-words, room, whole, wordsOf-eq}
+use Rattle.code.specs.Pages.{join-blocks, length-bits, length-blocks, length-data, page-has, page-is, room}
+use Rattle.code.specs.Pages.{stored-words, storedOf-eq, whole, words-many, wordsOf-eq}
 use Rattle.code.specs.Parameters.{stored, subWordBytes}
 use Rattle.code.specs.Steps.{data-cons, data-nil, encode-cons}
 
@@ -123,10 +124,17 @@ module _ (p : Parameters) where
   pub page-size : (i : ℕ) → i < p .m → getD (wordSizes p) i 0 ≡ subWordBytes p
   page-size i h = getD-replicate (p .m) i (subWordBytes p) 0 h
 
+  pub bits-at : (i : ℕ) → i < p .m → getD (blockBits p) i 0 ≡ dataBits p i
+  bits-at i h = rw (blockBits-eq p) (getD-map-range (dataBits p) 0 (p .m) i h) ∙ ap (dataBits p) (Nat.zero-add i)
+
   pub block-size : (i : ℕ) → i < p .m → getD (blockSizes p) i 0 ≡ (dataBits p i + 7) / 8
   block-size i h =
       rw (blockSizes-eq p) (getD-map (λ b. (b + 7) / 8) (blockBits p) i (rw (length-bits p) h)
-      ∙ ap (λ (b : ℕ). (b + 7) / 8) (rw (blockBits-eq p) (getD-map-range (dataBits p) 0 (p .m) i h) ∙ ap (dataBits p) (Nat.zero-add i)))
+      ∙ ap (λ (b : ℕ). (b + 7) / 8) (bits-at i h))
+
+  -- the stored coefficients of sub-word i
+  pub stored-at : (x : List ℕ) (i : ℕ) → i < p .m → getD (storedOf p x) i 0 ≡ getD (wordsOf p x) i 0 % 2 ^ stored p
+  stored-at x i l = rw (storedOf-eq p x) (getD-map (λ c. c % 2 ^ stored p) (wordsOf p x) i (rw (words-many p x) l))
 
   pub offset-eq : (i : ℕ) → blockOffset p i ≡ sum (take i (blockSizes p))
   unfolding blockOffset
@@ -159,7 +167,7 @@ module _ (p : Parameters) (R : Rules p) where
   level-low i = Nat.sub-le (p .v) i
 
   -- check and data bits lie within the stored places
-  data-room : (i r : ℕ) → r < dataBits p i → checkBits p i + r < stored p
+  pub data-room : (i r : ℕ) → r < dataBits p i → checkBits p i + r < stored p
   data-room i r h = omega (arith, width-below p R (level p i) (level-low i))
 
   module _ (x : List ℕ) (h : Fits p x) where
@@ -192,18 +200,22 @@ module _ (p : Parameters) (R : Rules p) where
         ∙ checked-low p (lawful p R .degrees) (level p i) (level-low i) (getD (blocksOf p x) i 0)
         (carried (level p i) i (drop (suc i) (encode p (blocksOf p x)))))
 
-  -- in what read out gives, bit r of block i is the coefficient of x^(w + r) of sub-word i
-  pub read-bit : (x : List ℕ) → IsPage p x → (i r : ℕ) → i < p .m → r < dataBits p i
+  stored-bit : (x : List ℕ) → Bytes x → (i k : ℕ) → i < p .m → k < stored p → coefficient (getD (storedOf p x) i 0) k ≡ coefficientOf p x i k
+  stored-bit x h i k l b =
+      ap (λ (c : ℕ). coefficient c k) (stored-at p x i l) ∙ low-coefficient (stored p) (getD (wordsOf p x) i 0) k b ∙ sub-word-bit x h i k l b
+
+  -- in what read out gives, bit r of block i is the coefficient of x^(w + r) of sub-word i, whatever the spare bits
+  pub read-bit : (x : List ℕ) → Bytes x → (i r : ℕ) → i < p .m → r < dataBits p i
       → blockBit p (dataOf p x) i r ≡ coefficientOf p x i (checkBits p i + r)
   unfolding dataWords
   read-bit x h i r l b =
       ap (λ (o : ℕ). bitFrom (dataOf p x) o r) (offset-eq p i)
-      ∙ rw (dataOf-eq p x) (join-bit (blockSizes p) (dataWords p (wordsOf p x))
-      (length-data p (wordsOf p x) ∙ page-words p R x h .many ∙ sym (length-blocks p)) i r (block-room i r l b))
+      ∙ rw (dataOf-eq p x) (join-bit (blockSizes p) (dataWords p (storedOf p x))
+      (length-data p (storedOf p x) ∙ stored-words p x .many ∙ sym (length-blocks p)) i r (block-room i r l b))
       ∙ ap (λ (d : ℕ). coefficient d r)
-      (data-at p 0 i (wordsOf p x) ∙ ap (λ (k : ℕ). getD (wordsOf p x) i 0 / 2 ^ checkBits p k) (Nat.zero-add i))
-      ∙ sym (high-coefficient (getD (wordsOf p x) i 0) (checkBits p i) r)
-      ∙ sub-word-bit x (h .bytes) i (checkBits p i + r) l (data-room i r b)
+      (data-at p 0 i (storedOf p x) ∙ ap (λ (k : ℕ). getD (storedOf p x) i 0 / 2 ^ checkBits p k) (Nat.zero-add i))
+      ∙ sym (high-coefficient (getD (storedOf p x) i 0) (checkBits p i) r)
+      ∙ stored-bit x h i (checkBits p i + r) l (data-room i r b)
 
 -- ---- numbers are their bits
 same-bits : (d a b : ℕ) → a < 2 ^ d → b < 2 ^ d → ((r : ℕ) → r < d → coefficient a r ≡ coefficient b r) → a ≡ b

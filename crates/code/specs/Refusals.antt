@@ -11,7 +11,7 @@ use Rattle.code.specs.Register.{Register}
 use Rattle.code.specs.Lists.{_when_, _orElse_}
 use Rattle.code.specs.Parameters.{full, nestedBytes, strength, sheetRefusal}
 use Rattle.code.specs.Code.{degree}
-use Rattle.code.specs.Layout.{pageBytes, dataBytes, pageClear, blocksClear}
+use Rattle.code.specs.Layout.{pageBytes, dataBytes, pageClear, blank, blocksClear, pageOf}
 
 -- 5: the width L is not 1 to 64
 abbrev pub badWidth : ℕ → Bool
@@ -20,6 +20,10 @@ badWidth L = eqb L 0 || ltb 64 L
 -- 6, 7, 10: a length is not exact
 abbrev pub notExact : ℕ → ℕ → Bool
 notExact k exact = not (eqb k exact)
+
+-- 8 of judge and of read out: a spare bit is 1 and the page is not blank
+abbrev pub stray : Parameters → List ℕ → Bool
+stray p page = not (pageClear p page || blank p page)
 
 -- ---- write: the page's old bytes count for their number alone
 unfoldable pub writeLengths : Parameters → ℕ → ℕ → ℕ → ℕ
@@ -31,8 +35,11 @@ writeLengths p L blocks page =
     orElse 7 when notExact page (pageBytes p)
 
 unfoldable pub writeRefusal : Parameters → ℕ → List ℕ → ℕ → ℕ
-unfolding writeLengths blocksClear
-writeRefusal p L blocks page = writeLengths p L (length blocks) page orElse 8 when not (blocksClear p blocks)
+unfolding writeLengths blocksClear blank pageOf
+writeRefusal p L blocks page =
+    writeLengths p L (length blocks) page
+    orElse 8 when not (blocksClear p blocks)
+    orElse 13 when blank p (pageOf p blocks)
 
 -- ---- read out
 unfoldable pub readLengths : Parameters → ℕ → ℕ → ℕ
@@ -43,8 +50,8 @@ readLengths p page blocks =
     orElse 7 when notExact page (pageBytes p)
 
 unfoldable pub readRefusal : Parameters → List ℕ → ℕ → ℕ
-unfolding readLengths pageClear
-readRefusal p page blocks = readLengths p (length page) blocks orElse 8 when not (pageClear p page)
+unfolding readLengths pageClear blank
+readRefusal p page blocks = readLengths p (length page) blocks orElse 8 when stray p page
 
 -- ---- judge
 unfoldable pub judgeLengths : Parameters → ℕ → ℕ
@@ -52,14 +59,19 @@ unfolding sheetRefusal
 judgeLengths p page = sheetRefusal p orElse 7 when notExact page (pageBytes p)
 
 unfoldable pub judgeRefusal : Parameters → List ℕ → ℕ
+unfolding judgeLengths pageClear blank
+judgeRefusal p page = judgeLengths p (length page) orElse 8 when stray p page
+
+-- ---- the other calls that read a page: to them a blank page's spare bits are stray too
+unfoldable pub pageRefusal : Parameters → List ℕ → ℕ
 unfolding judgeLengths pageClear
-judgeRefusal p page = judgeLengths p (length page) orElse 8 when not (pageClear p page)
+pageRefusal p page = judgeLengths p (length page) orElse 8 when not (pageClear p page)
 
 -- ---- a call on word i of `many`, whose result takes `exact` places of a lent list of `out`
 unfoldable pub wordRefusal : Parameters → List ℕ → ℕ → ℕ → ℕ → ℕ → ℕ
-unfolding judgeRefusal
+unfolding pageRefusal
 wordRefusal p page i many out exact =
-    judgeRefusal p page
+    pageRefusal p page
     orElse 9 when leb many i
     orElse 10 when notExact out exact
 

@@ -1,12 +1,12 @@
 -- THE THEOREM: demands 2 and 3 hold for all accepted parameters.
 use mathlib.Core.Path.{_≡_, refl, sym, ap, ap₂, _∙_}
 use mathlib.Core.Logic.{_≢_, _↔_}
-use mathlib.Core.Bool.{not}
+use mathlib.Core.Bool.{Bool, true, false, not}
 use mathlib.Core.List.{List}
 use Prim.Native.Nat.{ℕ, zero, suc, _+_, _-_, _*_, _^_, _≤_, _<_, zero-le, suc-le-suc}
 use native.Mathlib.Nat as Nat
 use native.Mathlib.Omega.{arith}
-use lib.Dec.{eqb, lit≤}
+use lib.Dec.{T, eqb, lit≤, not-T}
 use lib.ListN.{length, getD, take, drop}
 use lib.Pow.{pow-mono}
 use Rattle.polynomial.specs.Bits.{coefficient}
@@ -25,29 +25,32 @@ use Rattle.code.specs.Register.{Register}
 use Rattle.generator.specs.Generator as G
 use Rattle.code.specs.Answers.{read-as-judge}
 use Rattle.code.specs.Accepted.{Rules, accepted, degree-le, lawful, n-is, q-high, width-below, degree-of}
+use Rattle.code.specs.Blank.{blank-iff, page-ones}
 use Rattle.code.specs.Buffers.{bytes-at, divides-up, divisor-deg, divisor-degree, divisor-times, length-syndromes}
 use Rattle.code.specs.Buffers.{nested-back, remainder-back, row-back, short-back, short-differ, short-lt, syndromes-at}
 use Rattle.code.specs.Calls.{Judged, QuoteMade, ReadOut, Written, asBytes, empty, judgeAnswer, leaves}
 use Rattle.code.specs.Calls.{nestedOf, nestedSyndromeList, outcome, quote, subWordOf, syndromeList}
-use Rattle.code.specs.Code.{IsMember, checkBits, degree, distance, gen, least, level, nested, newton, remainder, syndromes, verdict}
+use Rattle.code.specs.Code.{IsMember, checkBits, degree, distance, gen, least, nested, newton, remainder, syndromes, verdict}
 use Rattle.code.specs.Degrees.{degree-exact}
-use Rattle.code.specs.Demands.{Alike, BufferLaws, Demand2, Demand3, Demands, GeneratorLaws, GeneratorOf}
+use Rattle.code.specs.Demands.{Alike, BlankReadLaws, BlankWriteLaws, BufferLaws, Demand2, Demand3, Demands, GeneratorLaws, GeneratorOf}
 use Rattle.code.specs.Demands.{JudgeLaws, QuoteLaws, QuotedPage, RegisterLaws, Rewrites, ShortLaws, Smallest, Sums, Vanishes, WriteLaws}
 use Rattle.code.specs.Distance.{Passing, least-few, least-many}
 use Rattle.code.specs.Encode.{N-above, encode-member, member-encode}
 use Rattle.code.specs.Judge.{member-passing, multiple-iff, passing-member, verdict-member, verdict-nested, verdict-sub}
-use Rattle.code.specs.Layout.{Bytes, Fits, IsPage, blocksOf, coefficientOf, dataBits, dataOf, differences, pageOf, wordSizes, wordsOf}
+use Rattle.code.specs.Layout.{Bytes, Fits, IsBlank, IsPage, blank, blocksOf, coefficientOf, dataBits, dataOf, differences}
+use Rattle.code.specs.Layout.{pageOf, wordSizes, wordsOf}
 use Rattle.code.specs.Lists.{addBelow, countBelow, join, sum}
 use Rattle.code.specs.Newton.{nesteds-of, newtons-of}
 use Rattle.code.specs.Pages.{IsWords, again-from, again-to, data-fit, join-words}
 use Rattle.code.specs.Pages.{page-back, page-has, page-is, page-words, sum-fits, sum-page}
 use Rattle.code.specs.Parameters.{Accepted, full, len, stored, strength}
-use Rattle.code.specs.Placement.{all-places, any-fit, any-has, blocks-same, check-bits, read-bit, sub-word-bit, written-bit}
+use Rattle.code.specs.Placement.{all-places, any-fit, any-has, blocks-same, check-bits, data-room, read-bit, sub-word-bit, written-bit}
 use Rattle.code.specs.Places.{addBelow-ext, countBelow-ext, distance-places}
 use Rattle.code.specs.Quote.{quote-bits, quote-degree, quote-length, quote-none, quote-past-m, quote-past-v}
 use Rattle.code.specs.Refusals.{quoteRefusal, writeRefusal}
-use Rattle.code.specs.Refused.{BlocksBuffer, PageBuffer, Width, judge-is, judged-page}
-use Rattle.code.specs.Refused.{read-is, read-leaves, write-alike, write-done, write-leaves}
+use Rattle.code.specs.Refused.{BlocksBuffer, PageBuffer, Width, blank-judgeable, judge-is, judged-blank, judged-else, judged-page}
+use Rattle.code.specs.Refused.{page-judgeable, read-leaves, verdict-blank, verdict-else, write-alike, write-done, write-keeps}
+use Rattle.code.specs.Refused.{write-leaves, write-refused}
 use Rattle.code.specs.Registers.{cut, fed-done, fed-holds, feedings, holding, opened-empty, register-back}
 use Rattle.code.specs.Steps.{Divides, degree-eq, gen-eq}
 
@@ -163,56 +166,109 @@ module _ (p : Parameters) (A : Accepted p) where
       in-bytes : (k c j : ℕ) → j < k → value 8 (take 2 (drop (2 * j) (asBytes (syndromes p k c)))) ≡ syndrome (p .q) c (suc j)
       in-bytes k c j h = bytes-at (syndromes p k c) (all-small k c) j (rw (length-syndromes p k c) h) ∙ syndromes-at p k c j h
 
+  -- ---- blank pages
+  unblank : (x : List ℕ) → Bytes x → (¬ IsBlank p x) → T (not (blank p x))
+  unblank x b n = not-T (blank p x) (λ t. n (blank-iff p R x b .0 t))
+
+  blank-judged : (x : List ℕ) → Bytes x → PageBuffer p x → (judgeAnswer p x ≡ Verdict.Blank) ↔ IsBlank p x
+  blank-judged x b e = (
+    (λ j. blank-iff p R x b .0 (judged-blank p x j)),
+    (λ h. (let t : T (blank p x) = blank-iff p R x b .1 h in judge-is p A x (blank-judgeable p x e t) ∙ verdict-blank p x t)),
+  )
+
+  blanks-read : (x old out : List ℕ) (r : Verdict) → Bytes x → PageBuffer p x → BlocksBuffer p old → ReadOut p x old out r
+      → BlankReadLaws p x out r
+  blanks-read x old out r b e f O = record {
+    answers = rw (O .answers ∙ read-as-judge p x old f) (blank-judged x b e);
+    fits = λ h. rw (given h) (data-fit p R x);
+    ones = λ h i k l c. rw (given h) (read-bit p R x b i k l c) ∙ h i (checkBits p i + k) l (data-room p R i k c);
+  }
+    where
+      given : IsBlank p x → out ≡ dataOf p x
+      given h = O .buffer ∙ read-leaves p A x old (blank-judgeable p x e (blank-iff p R x b .1 h)) f
+
   -- ---- members
-  judged-laws : (x : List ℕ) (r : Verdict) → IsPage p x → Judged p x r → JudgeLaws p x r
-  judged-laws x r h J =
-      let e : r ≡ verdict p (wordsOf p x) = J .answers ∙ judge-is p A x h in
+  unblanked : (x : List ℕ) → IsPage p x → T (not (blank p x)) → judgeAnswer p x ≡ verdict p (wordsOf p x)
+  unblanked x h t = judge-is p A x (page-judgeable p x h) ∙ verdict-else p x t
+
+  judged-laws : (x : List ℕ) (r : Verdict) → IsPage p x → (¬ IsBlank p x) → Judged p x r → JudgeLaws p x r
+  judged-laws x r h n J =
+      let e : r ≡ verdict p (wordsOf p x) = J .answers ∙ unblanked x h (unblank x (h .bytes) n) in
       record {
         member = rw e (verdict-member p R (wordsOf p x));
         sub-word = λ i. rw e (verdict-sub p R (wordsOf p x) i);
         nested-word = λ l. rw e (verdict-nested p R (wordsOf p x) l);
       }
 
-  member-iff : (x : List ℕ) → IsPage p x → (judgeAnswer p x ≡ Verdict.Member) ↔ IsMember p (wordsOf p x)
-  member-iff x h = rw (judge-is p A x h) (verdict-member p R (wordsOf p x))
-
   judged-passing : (x : List ℕ) → IsPage p x → judgeAnswer p x ≡ Verdict.Member → Passing p (wordsOf p x)
-  judged-passing x h e = member-passing p R (wordsOf p x) (member-iff x h .0 e) (page-words p R x h .many)
+  judged-passing x h e =
+      member-passing p R (wordsOf p x) (verdict-member p R (wordsOf p x) .0 (sym (unblanked x h (judged-else p x e)) ∙ e))
+      (page-words p R x h .many)
 
-  passing-judged : (x : List ℕ) → IsPage p x → Passing p (wordsOf p x) → judgeAnswer p x ≡ Verdict.Member
-  passing-judged x h M = member-iff x h .1 (passing-member p R (wordsOf p x) M (page-words p R x h .many))
+  passing-judged : (x : List ℕ) → IsPage p x → T (not (blank p x)) → Passing p (wordsOf p x) → judgeAnswer p x ≡ Verdict.Member
+  passing-judged x h n M =
+      unblanked x h n ∙ verdict-member p R (wordsOf p x) .1 (passing-member p R (wordsOf p x) M (page-words p R x h .many))
+
+  -- a page's words pass exactly when they are written again
+  again-iff : (x : List ℕ) → IsPage p x → Passing p (wordsOf p x) ↔ (pageOf p (dataOf p x) ≡ x)
+  again-iff x h = (
+    (λ M. again-to p R x h (member-encode (B .field) (B .α) p (lawful p R) (wordsOf p x) .0 M)),
+    (λ e. member-encode (B .field) (B .α) p (lawful p R) (wordsOf p x) .1 (again-from p R x h e)),
+  )
 
   -- ---- what write makes
   page-passing : (a : List ℕ) → Fits p a → Passing p (wordsOf p (pageOf p a))
   page-passing a h = rw (page-has p R a h) (encode-member (B .field) (B .α) p (lawful p R) (blocksOf p a))
 
-  after-is : (L : ℕ) (a old after : List ℕ) (r : Outcome) → Width L → Fits p a → PageBuffer p old → Written p L a old after r
-      → (r ≡ Outcome.Done) × (after ≡ pageOf p a)
-  after-is L a old after r w h e W = (W .answers ∙ write-done p A L a old w h e, W .buffer ∙ write-leaves p A L a old w h e)
+  page-unblank : (a : List ℕ) → Fits p a → (¬ IsBlank p (pageOf p a)) → T (not (blank p (pageOf p a)))
+  page-unblank a h = unblank (pageOf p a) (page-is p R a h .bytes)
 
-  written-laws : (L : ℕ) (a old after : List ℕ) (r : Outcome) → Width L → Fits p a → PageBuffer p old → Written p L a old after r
-      → WriteLaws p a after r
-  written-laws L a old after r w h e W =
-      let x : IsPage p (pageOf p a) = page-is p R a h in
-      let j : judgeAnswer p (pageOf p a) ≡ Verdict.Member = passing-judged (pageOf p a) x (page-passing a h) in
-      let s : after ≡ pageOf p a = after-is L a old after r w h e W .1 in
-      record {
-        done = after-is L a old after r w h e W .0;
-        page = rw s x;
-        member = rw s (member-iff (pageOf p a) x .0 j);
-        judged = λ v J. J .answers ∙ rw s j;
-        read = λ other out v b O. (
-          O .answers ∙ rw s (read-is p A (pageOf p a) other x b ∙ sym (judge-is p A (pageOf p a) x) ∙ j),
-          O .buffer ∙ rw s (read-leaves p A (pageOf p a) other x b ∙ page-back p R a h),
-        );
-      }
+  refused-done : (r : Outcome) (k : ℕ) → r ≡ Outcome.Refused k → r ≡ Outcome.Done → ⊥
+  refused-done r k e d = let z : _≡_ {A = ℕ} 0 1 = cc in Nat.suc-ne-zero 0 (sym z)
 
-  -- a page is a member exactly when its words are written again
-  rewritten : (x : List ℕ) → IsPage p x → (judgeAnswer p x ≡ Verdict.Member) ↔ (pageOf p (dataOf p x) ≡ x)
-  rewritten x h = (
-    (λ e. again-to p R x h (member-encode (B .field) (B .α) p (lawful p R) (wordsOf p x) .0 (judged-passing x h e))),
-    (λ e. passing-judged x h (member-encode (B .field) (B .α) p (lawful p R) (wordsOf p x) .1 (again-from p R x h e))),
-  )
+  module _ (L : ℕ) (a old after : List ℕ) (r : Outcome) (w : Width L) (h : Fits p a) (e : PageBuffer p old) (W : Written p L a old after r) where
+    after-is : T (not (blank p (pageOf p a))) → (r ≡ Outcome.Done) × (after ≡ pageOf p a)
+    after-is n = (W .answers ∙ write-done p A L a old w h e n, W .buffer ∙ write-leaves p A L a old w h e n)
+
+    after-blank : T (blank p (pageOf p a)) → (r ≡ Outcome.Refused 13) × (after ≡ old)
+    after-blank t = (W .answers ∙ write-refused p A L a old w h e t, W .buffer ∙ write-keeps p A L a old w h e t)
+
+    -- a write that is done has made a page other than blank
+    done-unblank : r ≡ Outcome.Done → T (not (blank p (pageOf p a)))
+    done-unblank d = not-T (blank p (pageOf p a)) (λ t. refused-done r 13 (after-blank t .0) d)
+
+    blanks-written : BlankWriteLaws p a old after r
+    blanks-written =
+        let i = blank-iff p R (pageOf p a) (page-is p R a h .bytes) in
+        record {
+          refused = (
+            (λ k. i .0 (by-test (blank p (pageOf p a)) (λ n. refused-done r 13 k (after-is n .0)))),
+            (λ b. after-blank (i .1 b) .0),
+          );
+          kept = λ b. after-blank (i .1 b) .1;
+          ones = page-ones p R a h;
+        }
+      where
+        by-test : (b : Bool) → (T (not b) → ⊥) → T b
+        by-test true f = tt
+        by-test false f = absurd (f tt)
+
+    written-laws : (¬ IsBlank p (pageOf p a)) → WriteLaws p a after r
+    written-laws m =
+        let x : IsPage p (pageOf p a) = page-is p R a h in
+        let n : T (not (blank p (pageOf p a))) = page-unblank a h m in
+        let j : judgeAnswer p (pageOf p a) ≡ Verdict.Member = passing-judged (pageOf p a) x n (page-passing a h) in
+        let s : after ≡ pageOf p a = after-is n .1 in
+        record {
+          done = after-is n .0;
+          page = rw s x;
+          member = rw s (passing-member p R (wordsOf p (pageOf p a)) (page-passing a h) (page-words p R (pageOf p a) x .many));
+          judged = λ v J. J .answers ∙ rw s j;
+          read = λ other out v b O. (
+            O .answers ∙ rw s (read-as-judge p (pageOf p a) other b ∙ j),
+            O .buffer ∙ rw s (read-leaves p A (pageOf p a) other (page-judgeable p (pageOf p a) x) b ∙ page-back p R a h),
+          );
+        }
 
   -- ---- the quote
   level-place : (a : ℕ) → a ≤ p .v → a < 4
@@ -244,8 +300,9 @@ module _ (p : Parameters) (A : Accepted p) where
         let c : (i : ℕ) → i < p .m → getD ds i 0 < 2 ^ dataBits p i = λ i l. rw (d i l) at (b i l) in
         (any-fit p R ds e c, any-has p R ds e c);
     follow = λ x k M c.
-        sym (rewritten x k .0 (member-iff x k .1 M)) ∙ ap (pageOf p) (blocks-same p R (dataOf p x) a (data-fit p R x k) h
-        (λ i r l u. read-bit p R x k i r l u ∙ sym (from x i r) ∙ c i r l (rw (d i l) u) ∙ from (pageOf p a) i r ∙ written-bit p R a h i r l u));
+        sym (again-iff x k .0 (member-passing p R (wordsOf p x) M (page-words p R x k .many)))
+        ∙ ap (pageOf p) (blocks-same p R (dataOf p x) a (data-fit p R x) h
+        (λ i r l u. read-bit p R x (k .bytes) i r l u ∙ sym (from x i r) ∙ c i r l (rw (d i l) u) ∙ from (pageOf p a) i r ∙ written-bit p R a h i r l u));
   }
     where
       w : (i : ℕ) → number (p .v - i) ≡ checkBits p i
@@ -294,10 +351,14 @@ module _ (p : Parameters) (A : Accepted p) where
       read = read-bit p R;
       checks = check-bits p R;
     };
+    blank-laws = λ x r b e J. rw (J .answers) (blank-judged x b e);
+    blank-read-laws = blanks-read;
+    blank-write-laws = blanks-written;
     judge-laws = judged-laws;
-    write-laws = written-laws;
+    write-laws = λ L a old after r w h e n W. written-laws L a old after r w h e W n;
     quote-laws = quoted;
-    quoted-pages = λ number L a old after r q w h b W. rw (after-is L a old after r w h b W .1) (page-quoted number q a h);
+    quoted-pages = λ number L a old after r q w h b n W.
+        rw (after-is L a old after r w h b W (page-unblank a h n) .1) (page-quoted number q a h);
     read-laws = λ x old out j r e J O. O .answers ∙ read-as-judge p x old e ∙ sym (J .answers);
     equal-form-laws = record { as-whole = λ cs e. equal-form cs; from-l = N-above };
   }
@@ -316,12 +377,13 @@ module _ (p : Parameters) (A : Accepted p) where
 
   sums : (K L M : ℕ) (a b old-a old-b old-sum page-a page-b page-sum : List ℕ) (r-a r-b r-sum : Outcome) → Width K → Width L → Width M
       → Fits p a → Fits p b → PageBuffer p old-a → PageBuffer p old-b → PageBuffer p old-sum
+      → (¬ IsBlank p (pageOf p a)) → (¬ IsBlank p (pageOf p b)) → (¬ IsBlank p (pageOf p (add a b)))
       → Written p K a old-a page-a r-a → Written p L b old-b page-b r-b → Written p M (add a b) old-sum page-sum r-sum
       → Sums p a b page-a page-b page-sum r-a r-b r-sum
-  sums K L M a b oa ob os pa pb ps ra rb rs wk wl wm h j ea eb es Wa Wb Ws =
-      let A-is = after-is K a oa pa ra wk h ea Wa in
-      let B-is = after-is L b ob pb rb wl j eb Wb in
-      let S-is = after-is M (add a b) os ps rs wm (sum-fits p R a b h j) es Ws in
+  sums K L M a b oa ob os pa pb ps ra rb rs wk wl wm h j ea eb es na nb ns Wa Wb Ws =
+      let A-is = after-is K a oa pa ra wk h ea Wa (page-unblank a h na) in
+      let B-is = after-is L b ob pb rb wl j eb Wb (page-unblank b j nb) in
+      let S-is = after-is M (add a b) os ps rs wm (sum-fits p R a b h j) es Ws (page-unblank (add a b) (sum-fits p R a b h j) ns) in
       record {
         fits = sum-fits p R a b h j;
         done-a = A-is .0;
@@ -330,15 +392,31 @@ module _ (p : Parameters) (A : Accepted p) where
         page = S-is .1 ∙ sum-page p R a b h j ∙ sym (ap₂ add (A-is .1) (B-is .1));
       }
 
+  -- a page is a member exactly when the writing of its blocks is done and makes it
+  rewritten : (L : ℕ) (x old after : List ℕ) (w : Outcome) → Width L → IsPage p x → PageBuffer p old → Written p L (dataOf p x) old after w
+      → (judgeAnswer p x ≡ Verdict.Member) ↔ ((w ≡ Outcome.Done) × (after ≡ x))
+  rewritten L x old after w l h e W = (to, back)
+    where
+      to : judgeAnswer p x ≡ Verdict.Member → (w ≡ Outcome.Done) × (after ≡ x)
+      to m =
+          let s : pageOf p (dataOf p x) ≡ x = again-iff x h .0 (judged-passing x h m) in
+          let d = after-is L (dataOf p x) old after w l (data-fit p R x) e W (rw s (judged-else p x m)) in
+          (d .0, d .1 ∙ s)
+
+      back : (w ≡ Outcome.Done) × (after ≡ x) → judgeAnswer p x ≡ Verdict.Member
+      back d =
+          let n = done-unblank L (dataOf p x) old after w l (data-fit p R x) e W (d .0) in
+          let s : pageOf p (dataOf p x) ≡ x = sym (after-is L (dataOf p x) old after w l (data-fit p R x) e W n .1) ∙ d .1 in
+          passing-judged x h (rw s at n) (again-iff x h .1 s)
+
   rewrites : (L : ℕ) (x old-blocks blocks old-page after : List ℕ) (j r : Verdict) (w : Outcome) → Width L → IsPage p x
       → BlocksBuffer p old-blocks → PageBuffer p old-page
-      → Judged p x j → ReadOut p x old-blocks blocks r → Written p L blocks old-page after w → Rewrites x after j r w
+      → Judged p x j → ReadOut p x old-blocks blocks r → Written p L blocks old-page after w → Rewrites p x blocks after j r w
   rewrites L x ob blocks op after j r o w h eb ep J O W =
-      let b : blocks ≡ dataOf p x = O .buffer ∙ read-leaves p A x ob h eb in
-      let s = after-is L (dataOf p x) op after o w (data-fit p R x h) ep (rw b at W) in
-      let i : (judgeAnswer p x ≡ Verdict.Member) ↔ (after ≡ x) = rw (s .1) (rewritten x h) in
-      let v : r ≡ judgeAnswer p x = O .answers ∙ read-is p A x ob h eb ∙ sym (judge-is p A x h) in
-      record { done = s .0; by-judge = rw (J .answers) i; by-read-out = rw v i }
+      let b : blocks ≡ dataOf p x = O .buffer ∙ read-leaves p A x ob (page-judgeable p x h) eb in
+      let i : (judgeAnswer p x ≡ Verdict.Member) ↔ ((o ≡ Outcome.Done) × (after ≡ x)) = rewritten L x op after o w h ep (rw b at W) in
+      let v : r ≡ judgeAnswer p x = O .answers ∙ read-as-judge p x ob eb in
+      record { fits = rw b (data-fit p R x); by-judge = rw (J .answers) i; by-read-out = rw v i }
 
   -- the places that the definition counts are those of the words
   differences-are : (x y : List ℕ) → IsPage p x → IsPage p y
@@ -357,8 +435,8 @@ module _ (p : Parameters) (A : Accepted p) where
   apart x y b c J K n =
       let e : judgeAnswer p x ≡ Verdict.Member = sym (J .answers) in
       let f : judgeAnswer p y ≡ Verdict.Member = sym (K .answers) in
-      let h : IsPage p x = judged-page p x b e in
-      let k : IsPage p y = judged-page p y c f in
+      let h : IsPage p x = judged-page p x e b in
+      let k : IsPage p y = judged-page p y f c in
       let u : IsWords p (wordsOf p x) = page-words p R x h in
       let w : IsWords p (wordsOf p y) = page-words p R y k in
       rw (differences-are x y h k) (distance-places (B .field) (B .α) p (lawful p R) (wordsOf p x) (wordsOf p y) (u .many) (w .many)

@@ -31,9 +31,10 @@ pub enum Outcome {
     Refused(u8),
 }
 
-// The answer of judge and of read out: member, or the first word that fails.
+// The answer of judge and of read out: member, blank, or the first word that fails.
 pub enum Verdict {
     Member,
+    Blank,
     SubWord(usize),
     NestedWord(usize),
     Refused(u8),

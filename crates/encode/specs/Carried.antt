@@ -13,8 +13,9 @@ use Rattle.code.specs.declared.Parameters.{Parameters}
 use Rattle.code.specs.Accepted.{Rules, accepted}
 use Rattle.code.specs.Code.{N, combine}
 use Rattle.code.specs.Layout.{pageBytes, wordsOf}
+use Rattle.code.specs.Pages.{words-many}
 use Rattle.code.specs.Parameters.{Accepted, len, subWordBytes}
-use Rattle.layout.specs.Parts.{word-at, words-many}
+use Rattle.layout.specs.Parts.{word-at}
 use Rattle.layout.specs.Sizes.{bits-all}
 use Rattle.layout.specs.SubWords.{word-lt}
 use Rattle.sheet.specs.Nesting.{N-lt}

@@ -15,10 +15,10 @@ use Rattle.code.specs.declared.Parameters.{Parameters}
 use Rattle.code.specs.Accepted.{Rules, accepted}
 use Rattle.code.specs.Code.{carried, checkBits, checked, encode, encodeFrom, level}
 use Rattle.code.specs.Layout.{Fits, blocksOf, pageBytes, pageOf, wordsOf}
-use Rattle.code.specs.Pages.{IsWords, blocks-blocks, encode-words, pageOf-eq}
+use Rattle.code.specs.Pages.{IsWords, blocks-blocks, encode-words, pageOf-eq, words-many}
 use Rattle.code.specs.Parameters.{Accepted, len, subWordBytes}
 use Rattle.code.specs.Placement.{encode-at}
-use Rattle.layout.specs.Parts.{page-parts, word-at, word-room, words-many}
+use Rattle.layout.specs.Parts.{page-parts, word-at, word-room}
 use Rattle.layout.specs.Replaced.{replaced, replaced-after, replaced-length, replaced-part}
 use Rattle.layout.specs.Sizes.{bits-all}
 use Rattle.encode.specs.Encoding.{wordOf, written}

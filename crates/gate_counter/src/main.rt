@@ -87,6 +87,7 @@ fn verdict(r: Verdict) {
             text(b" nested word");
             number(l as u64);
         }
+        Verdict::Blank => text(b" blank"),
         Verdict::Refused(k) => refused(k),
     }
 }
@@ -254,6 +255,16 @@ fn lengths() {
     read_out(A, &long, &mut blocks);
 }
 
+// An erased page is blank, its spare bits set or clear; the blocks that it reads out are not written.
+fn erased() {
+    let mut blocks = [0xAAu8; 3];
+    let mut page = [0xAAu8; 4];
+    judge(A, &[0xFF, 0xFF, 0xFF, 0xFF]);
+    judge(A, &[0xFF, 0x7F, 0xFF, 0x7F]);
+    read_out(A, &[0xFF, 0xFF, 0xFF, 0xFF], &mut blocks);
+    write(A, 8, &blocks, &mut page);
+}
+
 // ---- the misreadings
 
 // Words are added power by power. Bit 0 of block 0 is x^8, of block 1 x^4; their top bits 6 and 10 are both x^14.
@@ -335,6 +346,7 @@ fn main() {
     large();
     widths();
     lengths();
+    erased();
     powers();
     past_short();
     turned();

@@ -2,7 +2,7 @@
 //   record   32 bytes: call, q, m, v, t0 to t3, index, second index, width, 0, page length, buffer length (two bytes each, low first), u,
 //            count (eight bytes each); then the page's bytes, for a writing the blocks', for a feeding the register's 96
 //   answer   the refusal's number or 0, then what the call gives, and the lent buffer whole;
-//            of a verdict 0, 32 or 64, then the word's index
+//            of a verdict 0, 32 or 64, then the word's index; 96 for blank
 use code::Nesting;
 use code::Outcome;
 use code::Parameters;
@@ -224,6 +224,10 @@ fn put_verdict(r: Verdict) {
     if let Verdict::NestedWord(l) = r {
         put(64);
         put_number(l as u64);
+        return;
+    }
+    if let Verdict::Blank = r {
+        put(96);
         return;
     }
     put(0);

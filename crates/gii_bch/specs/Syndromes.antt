@@ -19,10 +19,10 @@ use Rattle.code.specs.Accepted.{Rules, accepted, rising}
 use Rattle.code.specs.Calls.{Made, MadeC, asBytes, leaves, nestedSyndromeList, outcomeNumber, syndromeList}
 use Rattle.code.specs.Lists.{_when_, _orElse_}
 use Rattle.code.specs.Parameters.{Accepted, strength}
-use Rattle.code.specs.Refusals.{judgeRefusal, wordRefusal}
+use Rattle.code.specs.Refusals.{pageRefusal, wordRefusal}
 use Rattle.code.specs.Refused.{word-le}
 use Rattle.refusal.specs.Indexed.{word-page, word-zero}
-use Rattle.refusal.specs.Judging.{judge-zero}
+use Rattle.refusal.specs.Judging.{page-zero}
 use Rattle.gii_bch.specs.List.{numbersIn, numbers-bytes, numbers-exact}
 
 abbrev pub wordCount : Bool → Parameters → ℕ
@@ -67,18 +67,18 @@ level-le false p i = zero-le
 module _ (p : Parameters) (x : List ℕ) (i words e : ℕ) (E : Accepted p → Many e) where
   list-alike : (k : ℕ) → wordRefusal p x i words (numbersIn k) (1 * e) ≡ wordRefusal p x i words k (2 * e)
   unfolding wordRefusal
-  list-alike k = go (Nat.eq-zero-or-pos (judgeRefusal p x))
+  list-alike k = go (Nat.eq-zero-or-pos (pageRefusal p x))
     where
-      go : (judgeRefusal p x ≡ 0) ⊎ (0 < judgeRefusal p x)
+      go : (pageRefusal p x ≡ 0) ⊎ (0 < pageRefusal p x)
           → wordRefusal p x i words (numbersIn k) (1 * e) ≡ wordRefusal p x i words k (2 * e)
       go (inl z) =
-          let m = E (judge-zero p x z .accepted) in
+          let m = E (page-zero p x z .accepted) in
           ap (λ (n : ℕ). wordRefusal p x i words (numbersIn k) n) (Nat.one-mul e)
-          ∙ ap (λ (b : Bool). judgeRefusal p x orElse 9 when leb words i orElse 10 when not b) (numbers-exact k e (m .low) (m .high))
+          ∙ ap (λ (b : Bool). pageRefusal p x orElse 9 when leb words i orElse 10 when not b) (numbers-exact k e (m .low) (m .high))
       go (inr h) =
-          let f : judgeRefusal p x ≡ 0 → ⊥ = λ z. Nat.lt-irrefl 0 (rw z at h) in
-          sym (word-page p x i words (numbersIn k) (1 * e) (judgeRefusal p x) refl f)
-          ∙ word-page p x i words k (2 * e) (judgeRefusal p x) refl f
+          let f : pageRefusal p x ≡ 0 → ⊥ = λ z. Nat.lt-irrefl 0 (rw z at h) in
+          sym (word-page p x i words (numbersIn k) (1 * e) (pageRefusal p x) refl f)
+          ∙ word-page p x i words k (2 * e) (pageRefusal p x) refl f
 
 leaves-alike : (r : ℕ) (xs ys zs old : List ℕ) → xs ≡ leaves r ys zs → leaves r (asBytes xs) old ≡ leaves r (asBytes ys) old
 leaves-alike zero xs ys zs old e = ap asBytes e

@@ -2,6 +2,6 @@
 pub mod Sizes
 pub mod Runs
 pub mod Parts
-pub mod Clear
+pub mod Tested
 pub mod Replaced
 pub mod SubWords

@@ -6,16 +6,15 @@ use Prim.Native.Nat.{ℕ, zero, suc, _+_, _*_, _/_, _≤_, _<_, zero-le}
 use native.Mathlib.Nat as Nat
 use native.Mathlib.Numerals.{add-one}
 use native.Mathlib.Omega.{arith}
-use lib.ListN.{length, getD, take, drop, length-replicate}
+use lib.ListN.{length, getD, take, drop}
 use Rattle.polynomial.specs.Digits.{digits, value}
 use Rattle.code.specs.declared.Parameters.{Parameters}
 use Rattle.code.specs.Accepted.{accepted}
-use Rattle.code.specs.Bytes.{length-split}
-use Rattle.code.specs.Layout.{blockBits, blockOffset, blockSizes, blocksOf, dataBits, dataBytes, pageBytes, wordSizes, wordsOf}
+use Rattle.code.specs.Layout.{blockOffset, blockSizes, blocksOf, dataBits, dataBytes, pageBytes, wordSizes, wordsOf}
 use Rattle.code.specs.Lists.{join, sum}
-use Rattle.code.specs.Pages.{blockBits-eq, blocksOf-eq, length-blocks, wordsOf-eq}
+use Rattle.code.specs.Pages.{blocksOf-eq, length-blocks, length-sizes, wordsOf-eq}
 use Rattle.code.specs.Parameters.{Accepted, subWordBytes}
-use Rattle.code.specs.Placement.{getD-map-range, block-size, offset-eq, offset-replicate, page-size}
+use Rattle.code.specs.Placement.{block-size, offset-eq, offset-replicate, page-size}
 use Rattle.layout.specs.Runs.{join-parts, split-at, sum-all, sum-le, sum-next, sum-none}
 use Rattle.layout.specs.Sizes.{data-high}
 
@@ -25,14 +24,8 @@ pub record Summed (p : Parameters) (i at j : ℕ) : Type 0 where
 
 module _ (p : Parameters) where
   -- ---- sub-words
-  pub length-words : length (wordSizes p) ≡ p .m
-  length-words = length-replicate (p .m) (subWordBytes p)
-
   word-begin : (i : ℕ) → i ≤ p .m → sum (take i (wordSizes p)) ≡ i * subWordBytes p
   word-begin i h = offset-replicate (p .m) (subWordBytes p) i h
-
-  pub words-many : (x : List ℕ) → length (wordsOf p x) ≡ p .m
-  words-many x = rw (wordsOf-eq p x) (length-split (wordSizes p) x ∙ length-words)
 
   -- sub-word i ends before the page does
   pub word-room : (i : ℕ) → i < p .m → i * subWordBytes p + subWordBytes p ≤ pageBytes p
@@ -41,7 +34,7 @@ module _ (p : Parameters) where
   -- the number of sub-word i
   pub word-at : (x : List ℕ) (i : ℕ) → i < p .m → getD (wordsOf p x) i 0 ≡ value 8 (take (subWordBytes p) (drop (i * subWordBytes p) x))
   word-at x i h =
-      rw (wordsOf-eq p x) (split-at (wordSizes p) x i (rw length-words h)
+      rw (wordsOf-eq p x) (split-at (wordSizes p) x i (rw (length-sizes p) h)
       ∙ ap₂ (λ (k o : ℕ). value 8 (take k (drop o x))) (page-size p i h) (word-begin i (Nat.le-of-suc-le h)))
 
   -- a page whose sub-words are the bytes of cs
@@ -49,15 +42,12 @@ module _ (p : Parameters) where
       → ((i : ℕ) → i < p .m → take (subWordBytes p) (drop (i * subWordBytes p) x) ≡ digits 8 (subWordBytes p) (getD cs i 0))
       → x ≡ join (wordSizes p) cs
   page-parts x cs e l h =
-      join-parts (wordSizes p) cs x (l ∙ sym length-words)
-      (e ∙ sym (word-begin (p .m) (Nat.le-refl (p .m))) ∙ sum-all (wordSizes p) (p .m) length-words)
-      (λ i b. let k : i < p .m = rw length-words at b in
+      join-parts (wordSizes p) cs x (l ∙ sym (length-sizes p))
+      (e ∙ sym (word-begin (p .m) (Nat.le-refl (p .m))) ∙ sum-all (wordSizes p) (p .m) (length-sizes p))
+      (λ i b. let k : i < p .m = rw (length-sizes p) at b in
       rw (page-size p i k, word-begin i (Nat.le-of-suc-le k)) (h i k))
 
   -- ---- blocks
-  pub bits-at : (i : ℕ) → i < p .m → getD (blockBits p) i 0 ≡ dataBits p i
-  bits-at i h = rw (blockBits-eq p) (getD-map-range (dataBits p) 0 (p .m) i h ∙ ap (dataBits p) (Nat.zero-add i))
-
   bytes-eq : dataBytes p ≡ sum (blockSizes p)
   unfolding dataBytes
   bytes-eq = refl

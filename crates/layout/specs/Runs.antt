@@ -1,20 +1,26 @@
 -- Bytes in runs of sizes ks, one run after the other: run i begins at sum (take i ks).
---   runClear l at k b    the k bytes of l from `at` on are, as a number, below 2^b
+--   runPasses P l at k b   the k bytes of l from `at` on pass, as a number, the test P of b bits
+--   testOf ones            the test: the bits are 1, or the number fits in them
+--   OnesFound l at end r   r says whether the bytes of l from `at` on, up to `end`, are all 255
 use mathlib.Core.Path.{_≡_, refl, sym, ap, ap₂, _∙_}
-use mathlib.Core.Bool.{Bool, true, false}
+use mathlib.Core.Bool.{Bool, true, false, cond}
 use mathlib.Core.List.{List, [], _∷_, _++_}
-use Prim.Native.Nat.{ℕ, zero, suc, _+_, _-_, _*_, _/_, _^_, _≤_, _<_, zero-le, suc-le-suc}
+use mathlib.Core.Logic.{_⊎_, inl, inr}
+use Prim.Native.Nat.{ℕ, zero, suc, _+_, _-_, _*_, _/_, _%_, _^_, _≤_, _<_, zero-le, suc-le-suc}
 use native.Mathlib.Nat as Nat
 use native.Mathlib.Omega.{arith}
-use lib.Dec.{ltb}
-use lib.ListN.{length, getD, take, drop, length-drop, take-append-drop}
-use lib.Pow.{pow-add}
+use lib.Dec.{eqb, eqb→eq, eqb-refl, ltb, ltb→lt, lt→ltb, lit<}
+use lib.ListN.{length, getD, set, take, drop, length-drop, take-append-drop}
+use lib.Pow.{high, low, mod-pow-add, pow-add}
 use lib.Seq.{drop-drop, getD-drop, getD-take, length-take-le, take-length}
-use borrow.Author.Tests.{ltb-true, ltb-false}
-use Rattle.polynomial.specs.Digits.{digits, value}
+use borrow.Author.Tests.{ne-eqb}
+use Rattle.polynomial.specs.Bits.{coefficient}
+use Rattle.polynomial.specs.Digits.{digits, value, value-coefficient}
 use Rattle.polynomial.specs.Sums.{all-drop, all-take, at-all}
+use Rattle.code.specs.Blank.{low-ones, ones-low}
+use Rattle.code.specs.Chains.{both-ways}
 use Rattle.code.specs.Layout.{Bytes}
-use Rattle.code.specs.Lists.{join, split, sum}
+use Rattle.code.specs.Lists.{fitsIn, join, onesIn, split, sum}
 
 -- ---- offsets
 pub sum-none : (ks : List ℕ) → sum (take 0 ks) ≡ 0
@@ -64,13 +70,11 @@ join-parts (k ∷ ks) (c ∷ cs) x e l h =
 
 -- ---- a number is below 2^b exactly when the last byte of its run is below the bits that are left for it
 same-test : (a b c d : ℕ) → (a < b → c < d) → (c < d → a < b) → ltb a b ≡ ltb c d
-same-test a b c d f g = by (ltb a b) (ltb c d) refl refl
-  where
-    by : (s t : Bool) → ltb a b ≡ s → ltb c d ≡ t → s ≡ t
-    by true true i j = refl
-    by true false i j = absurd (omega (arith, f (ltb-true a b i), ltb-false c d j))
-    by false true i j = absurd (omega (arith, g (ltb-true c d j), ltb-false a b i))
-    by false false i j = refl
+same-test a b c d f g = both-ways (ltb a b) (ltb c d) (λ t. lt→ltb c d (f (ltb→lt a b t))) (λ t. lt→ltb a b (g (ltb→lt c d t)))
+
+same-numbers : (a b c d : ℕ) → (a ≡ b → c ≡ d) → (c ≡ d → a ≡ b) → eqb a b ≡ eqb c d
+same-numbers a b c d f g =
+    both-ways (eqb a b) (eqb c d) (λ t. rw (f (eqb→eq a b t)) (eqb-refl d)) (λ t. rw (g (eqb→eq c d t)) (eqb-refl b))
 
 lower-byte : (a x b : ℕ) → x < 256 → ltb (a * 2 ^ 8 + x) (2 ^ (b + 8)) ≡ ltb a (2 ^ b)
 lower-byte a x b h = rw (pow-add 2 b 8) (same-test (a * 2 ^ 8 + x) (2 ^ b * 2 ^ 8) a (2 ^ b) (λ l. omega arith) (λ l. omega arith))
@@ -92,13 +96,16 @@ last-byte (x ∷ y ∷ l) (suc k) b h e r =
     ∙ last-byte (y ∷ l) k (b - 8) (h .1) (Nat.suc-inj e) (omega arith)
     ∙ ap (λ (n : ℕ). ltb (getD (y ∷ l) k 0) (2 ^ n)) u
 
-abbrev pub runClear : List ℕ → ℕ → ℕ → ℕ → Bool
-runClear l at k b = ltb (value 8 (take k (drop at l))) (2 ^ b)
+abbrev pub runPasses : (ℕ → ℕ → Bool) → List ℕ → ℕ → ℕ → ℕ → Bool
+runPasses P l at k b = P b (value 8 (take k (drop at l)))
+
+abbrev pub testOf : Bool → ℕ → ℕ → Bool
+testOf ones b x = cond ones (onesIn b x) (fitsIn b x)
 
 -- the test of a run of as many bytes as b bits take
 pub run-test : (l : List ℕ) (at k b u : ℕ) → ((i : ℕ) → getD l i 0 < 256) → 1 ≤ b → k ≡ (b + 7) / 8 → at + k ≤ length l
     → u ≡ 2 ^ (8 - (8 * k - b))
-    → ltb (getD l (at + k - 1) 0) u ≡ runClear l at k b
+    → ltb (getD l (at + k - 1) 0) u ≡ runPasses fitsIn l at k b
 run-test l at k b u h low f room e =
     let i : at + k - 1 ≡ at + (k - 1) = omega arith in
     let j : 8 - (8 * k - b) ≡ b - 8 * (k - 1) = omega arith in
@@ -109,3 +116,113 @@ run-test l at k b u h low f room e =
     sym (last-byte (take k (drop at l)) (k - 1) b run size (omega arith)
     ∙ ap₂ ltb (getD-take k (drop at l) (k - 1) 0 (omega arith) ∙ getD-drop at l (k - 1) 0 ∙ ap (λ (n : ℕ). getD l n 0) (sym i))
     (sym (e ∙ ap (λ (n : ℕ). 2 ^ n) j)))
+
+-- ---- a run has its b lowest bits 1 exactly when its bytes below the last are 255 and the last has its bits 1
+pub record OnesFound (l : List ℕ) (at end : ℕ) (r : Bool) : Type 0 where
+  pub all : r ≡ true → (i : ℕ) → at ≤ i → i < end → getD l i 0 ≡ 255
+  pub none : ((i : ℕ) → at ≤ i → i < end → getD l i 0 ≡ 255) → r ≡ true
+
+-- bytes that are 255 so far, from `at` to k
+abbrev pub OnesSo : List ℕ → ℕ → ℕ → Type 0
+OnesSo l at k = (at ≤ k) × ((i : ℕ) → at ≤ i → i < k → getD l i 0 ≡ 255)
+
+pub ones-start : (l : List ℕ) (at : ℕ) → OnesSo l at at
+ones-start l at = (Nat.le-refl at, λ i h j. absurd (Nat.lt-irrefl i (Nat.lt-of-lt-of-le j h)))
+
+pub ones-turn : (l : List ℕ) (at k : ℕ) → OnesSo l at k → getD l k 0 ≡ 255 → OnesSo l at (k + 1)
+ones-turn l at k s e = (omega (arith, s .0), λ i h j. go i h (Nat.eq-or-lt-of-le (Nat.le-of-suc-le-suc (omega arith))))
+  where
+    go : (i : ℕ) → at ≤ i → (i ≡ k) ⊎ (i < k) → getD l i 0 ≡ 255
+    go i h (inl f) = rw f e
+    go i h (inr f) = s .1 i h f
+
+true-false : true ≡ false → ⊥
+true-false e = let z : _≡_ {A = ℕ} 0 1 = cc in Nat.suc-ne-zero 0 (sym z)
+
+pub ones-found : (l : List ℕ) (at k end : ℕ) → OnesSo l at k → k < end → (getD l k 0 ≡ 255 → ⊥) → OnesFound l at end false
+ones-found l at k end s h n = record { all = λ e. absurd (true-false (sym e)); none = λ f. absurd (n (f k (s .0) h)) }
+
+pub ones-done : (l : List ℕ) (at k end : ℕ) → OnesSo l at k → end ≤ k → OnesFound l at end true
+ones-done l at k end s h = record { all = λ e i u j. s .1 i u (Nat.lt-of-lt-of-le j h); none = λ f. refl }
+
+module _ (l : List ℕ) (at k b : ℕ) (h : (i : ℕ) → getD l i 0 < 256) (low : 1 ≤ b) (f : k ≡ (b + 7) / 8) where
+  abbrev number : ℕ
+  number = value 8 (take k (drop at l))
+
+  -- bit j of the run
+  run-bit : (j : ℕ) → j < 8 * k → coefficient number j ≡ coefficient (getD l (at + j / 8) 0) (j % 8)
+  run-bit j c =
+      value-coefficient 8 (lit< tt) (take k (drop at l))
+      (all-take (λ d. d < 256) k (drop at l) (all-drop (λ d. d < 256) at l (at-all (λ d. d < 256) l (λ n _. h n)))) j
+      ∙ ap (λ (d : ℕ). coefficient d (j % 8)) (getD-take k (drop at l) (j / 8) 0 (omega arith) ∙ getD-drop at l (j / 8) 0)
+
+  abbrev lastBits : ℕ
+  lastBits = 8 - (8 * k - b)
+
+  -- bit s of byte i of the run
+  bit-of : (i s : ℕ) → s < 8 → i * 8 + s < 8 * k → coefficient number (i * 8 + s) ≡ coefficient (getD l (at + i) 0) s
+  bit-of i s c d =
+      let e : (i * 8 + s) / 8 ≡ i = omega arith in
+      let m : (i * 8 + s) % 8 ≡ s = omega arith in
+      run-bit (i * 8 + s) d ∙ ap₂ (λ (x y : ℕ). coefficient (getD l (at + x) 0) y) e m
+
+  module _ (t : number % 2 ^ b ≡ 2 ^ b - 1) where
+    whole-byte : (i : ℕ) → i + 1 < k → getD l (at + i) 0 ≡ 255
+    whole-byte i c =
+        sym (Nat.mod-eq-of-lt (h (at + i)))
+        ∙ ones-low 8 (getD l (at + i) 0) (λ s d. sym (bit-of i s d (omega arith)) ∙ low-ones b number t (i * 8 + s) (omega arith))
+
+    last-ones : getD l (at + (k - 1)) 0 % 2 ^ lastBits ≡ 2 ^ lastBits - 1
+    last-ones =
+        ones-low lastBits (getD l (at + (k - 1)) 0)
+        (λ s d. sym (bit-of (k - 1) s (omega arith) (omega arith)) ∙ low-ones b number t ((k - 1) * 8 + s) (omega arith))
+
+  ones-of : ((i : ℕ) → i + 1 < k → getD l (at + i) 0 ≡ 255) → getD l (at + (k - 1)) 0 % 2 ^ lastBits ≡ 2 ^ lastBits - 1
+      → number % 2 ^ b ≡ 2 ^ b - 1
+  ones-of u t = ones-low b number (λ j c. run-bit j (omega arith) ∙ go j c (Nat.eq-or-lt-of-le (high j c)))
+    where
+      high : (j : ℕ) → j < b → j / 8 ≤ k - 1
+      high j c = omega arith
+
+      go : (j : ℕ) → j < b → (j / 8 ≡ k - 1) ⊎ (j / 8 < k - 1) → coefficient (getD l (at + j / 8) 0) (j % 8) ≡ 1
+      go j c (inl e) =
+          ap (λ (i : ℕ). coefficient (getD l (at + i) 0) (j % 8)) e ∙ low-ones lastBits (getD l (at + (k - 1)) 0) t (j % 8) (omega arith)
+      go j c (inr d) = ap (λ (x : ℕ). coefficient x (j % 8)) (u (j / 8) (omega arith)) ∙ low-ones 8 255 refl (j % 8) (omega arith)
+
+  -- the test, where the program has looked at the bytes below the last
+  module _ (r : Bool) (o : OnesFound l at (at + k - 1) r) where
+    pub run-not : r ≡ false → false ≡ runPasses onesIn l at k b
+    run-not e =
+        sym (ne-eqb (number % 2 ^ b) (2 ^ b - 1)
+        (λ t. true-false (sym (o .none (λ i x y. (let j : at + (i - at) ≡ i = omega arith in rw j at (whole-byte t (i - at) (omega arith))))) ∙ e)))
+
+    pub run-top : r ≡ true → (u : ℕ) → u ≡ 2 ^ lastBits → eqb (getD l (at + k - 1) 0 % u) (u - 1) ≡ runPasses onesIn l at k b
+    run-top e u v =
+        rw v (same-numbers (getD l (at + k - 1) 0 % 2 ^ lastBits) (2 ^ lastBits - 1) (number % 2 ^ b) (2 ^ b - 1)
+        (λ t. ones-of (λ i c. o .all e (at + i) (omega arith) (omega arith)) (rw last at t)) (λ t. rw last (last-ones t)))
+      where
+        last : at + k - 1 ≡ at + (k - 1)
+        last = omega arith
+
+-- ---- the bits of a run above its b lowest, cleared in its last byte
+cut-byte : (a x b : ℕ) → x < 256 → a % 2 ^ b * 2 ^ 8 + x ≡ (a * 2 ^ 8 + x) % 2 ^ (b + 8)
+cut-byte a x b h =
+    sym (mod-pow-add (a * 2 ^ 8 + x) b 8
+    ∙ ap₂ (λ (s t : ℕ). s % 2 ^ b * 2 ^ 8 + t) (high a 8 h) (low a 8 h))
+
+pub cut-last : (l : List ℕ) (k b : ℕ) → Bytes l → length l ≡ suc k → 8 * k ≤ b
+    → value 8 (set l k (getD l k 0 % 2 ^ (b - 8 * k))) ≡ value 8 l % 2 ^ b
+unfolding value
+cut-last [] k b h e r = absurd (Nat.suc-ne-zero k (sym e))
+cut-last (x ∷ []) zero b h e r =
+    let z : b - 8 * 0 ≡ b = omega arith in
+    Nat.zero-add (x % 2 ^ (b - 8 * 0)) ∙ ap₂ (λ (y n : ℕ). y % 2 ^ n) (sym (Nat.zero-add x)) z
+cut-last (x ∷ []) (suc k) b h e r = absurd (Nat.suc-ne-zero k (sym (Nat.suc-inj e)))
+cut-last (x ∷ y ∷ l) zero b h e r = absurd (Nat.suc-ne-zero (length l) (Nat.suc-inj e))
+cut-last (x ∷ y ∷ l) (suc k) b h e r =
+    let z : b - 8 + 8 ≡ b = omega arith in
+    let u : b - 8 * suc k ≡ b - 8 - 8 * k = omega arith in
+    ap (λ (n : ℕ). value 8 (set (y ∷ l) k (getD (y ∷ l) k 0 % 2 ^ n)) * 2 ^ 8 + x) u
+    ∙ ap (λ (n : ℕ). n * 2 ^ 8 + x) (cut-last (y ∷ l) k (b - 8) (h .1) (Nat.suc-inj e) (omega arith))
+    ∙ cut-byte (value 8 (y ∷ l)) x (b - 8) (h .0)
+    ∙ ap (λ (n : ℕ). (value 8 (y ∷ l) * 2 ^ 8 + x) % 2 ^ n) z

@@ -1,12 +1,15 @@
-// Lengths of pages and blocks, a page's sub-words, and the tests for stray bits.
+// Lengths of pages and blocks, a page's sub-words, and the tests of their bits: none stray, or all 1.
 ghost use mathlib.Core.Path.{_≡_};
-ghost use Prim.Native.Nat.{_+_, _*_, _/_, _^_, _≤_, _<_};
+ghost use Prim.Native.Nat.{_+_, _*_, _/_, _%_, _^_, _≤_, _<_};
 ghost use lib.ListN.{length, take, drop};
+ghost use Rattle.polynomial.specs.Digits.{value};
 ghost use Rattle.code.specs.Parameters.{Accepted, len, stored, subWordBytes, nestedBytes, full};
 ghost use Rattle.code.specs.Code.{level, checkBits};
-ghost use Rattle.code.specs.Layout.{pageBytes, dataBits, dataBytes, blockOffset, pageClear, blocksClear};
+ghost use Rattle.code.specs.Layout.{pageBytes, dataBits, dataBytes, blockOffset, blockBits, blocksOf, blocksClear, blocksFull, wordsOf, pageClear, blank};
+ghost use Rattle.code.specs.Lists.{each, fitsIn, onesIn};
 ghost use Rattle.layout.specs.Sizes.{Degrees};
-ghost use Rattle.layout.specs.Runs.{runClear};
+ghost use Rattle.layout.specs.Runs.{OnesFound, runPasses, testOf};
+ghost use Rattle.layout.specs.Tested.{wordBits};
 use code::Parameters;
 use element::Field;
 
@@ -137,7 +140,7 @@ pub fn sub_word(p: Parameters, page: &[u8], i: usize) -> &[u8]
     &page[at..end]
 }
 
-// ---- stray bits
+// ---- bits of runs: a run is as many bytes as b bits take
 
 // 2^k.
 fn two_to(k: usize) -> usize
@@ -147,10 +150,10 @@ fn two_to(k: usize) -> usize
     1 << k
 }
 
-// The run of bytes at `at`, as many as b bits take, is below 2^b as a number: of its last byte no unused bit is 1.
+// The run of bytes at `at` is below 2^b as a number: of its last byte no unused bit is 1.
 fn run_clear(bytes: &[u8], at: usize, size: usize, b: usize) -> bool
     requires { ⌜ (1 ≤ b) × (b < 4096) × (size ≡ (b + 7) / 8) × (at + size ≤ length (now bytes)) ⌝ }
-    ensures { λ r. ⌜ r ≡ runClear (now (bytes .entry)) at size b ⌝ }
+    ensures { λ r. ⌜ r ≡ runPasses fitsIn (now (bytes .entry)) at size b ⌝ }
 {
     let unused = 8 * size - b;
     let bound = two_to(8 - unused);
@@ -159,16 +162,57 @@ fn run_clear(bytes: &[u8], at: usize, size: usize, b: usize) -> bool
     top < bound
 }
 
-// No spare bit of the page is 1.
-pub fn page_clear(p: Parameters, page: &[u8]) -> bool
+// The bytes from `at` on, up to `end`, are all 255.
+fn bytes_ones(bytes: &[u8], at: usize, end: usize) -> bool
+    requires { ⌜ end ≤ length (now bytes) ⌝ }
+    ensures { λ r. ⌜ OnesFound (now (bytes .entry)) at end r ⌝ }
+{
+    let mut k = at;
+    while k < end {
+        if bytes[k] != 255 {
+            return false;
+        }
+        k += 1;
+    }
+    true
+}
+
+// The b lowest bits of the run of bytes at `at` are all 1, whatever its unused bits.
+fn run_ones(bytes: &[u8], at: usize, size: usize, b: usize) -> bool
+    requires { ⌜ (1 ≤ b) × (b < 4096) × (size ≡ (b + 7) / 8) × (at + size ≤ length (now bytes)) ⌝ }
+    ensures { λ r. ⌜ r ≡ runPasses onesIn (now (bytes .entry)) at size b ⌝ }
+{
+    let last = at + size - 1;
+    if !bytes_ones(bytes, at, last) {
+        return false;
+    }
+    let unused = 8 * size - b;
+    let bound = two_to(8 - unused);
+    let top = bytes[last] as usize;
+    top % bound == bound - 1
+}
+
+// Which of the two tests is asked: all ones, or clear.
+fn run_passes(bytes: &[u8], at: usize, size: usize, b: usize, ones: bool) -> bool
+    requires { ⌜ (1 ≤ b) × (b < 4096) × (size ≡ (b + 7) / 8) × (at + size ≤ length (now bytes)) ⌝ }
+    ensures { λ r. ⌜ r ≡ runPasses (testOf ones) (now (bytes .entry)) at size b ⌝ }
+{
+    if ones {
+        return run_ones(bytes, at, size, b);
+    }
+    run_clear(bytes, at, size, b)
+}
+
+// Every sub-word of the page passes.
+fn words_pass(p: Parameters, page: &[u8], ones: bool) -> bool
     requires { ⌜ Accepted p × (length (now page) ≡ pageBytes p) ⌝ }
-    ensures { λ r. ⌜ r ≡ pageClear p (now (page .entry)) ⌝ }
+    ensures { λ r. ⌜ r ≡ each (testOf ones) (wordBits p) (wordsOf p (now (page .entry))) ⌝ }
 {
     let n = stored_of(p);
     let b = sub_word_bytes(p);
     let mut i: usize = 0;
     while i < p.m as usize {
-        if !run_clear(page, i * b, b, n) {
+        if !run_passes(page, i * b, b, n, ones) {
             return false;
         }
         i += 1;
@@ -176,21 +220,66 @@ pub fn page_clear(p: Parameters, page: &[u8]) -> bool
     true
 }
 
-// No unused bit of the blocks is 1.
-pub fn blocks_clear(p: Parameters, w: &[u32], blocks: &[u8]) -> bool
+// Every block passes.
+fn blocks_pass(p: Parameters, w: &[u32], blocks: &[u8], ones: bool) -> bool
     requires { ⌜ Accepted p × Degrees p (now w) × (length (now blocks) ≡ dataBytes p) ⌝ }
-    ensures { λ r. ⌜ r ≡ blocksClear p (now (blocks .entry)) ⌝ }
+    ensures { λ r. ⌜ r ≡ each (testOf ones) (blockBits p) (blocksOf p (now (blocks .entry))) ⌝ }
 {
     let mut at: usize = 0;
     let mut i: usize = 0;
     while i < p.m as usize {
         let b = data_bits(p, w, i);
         let size = block_size(p, w, i);
-        if !run_clear(blocks, at, size, b) {
+        if !run_passes(blocks, at, size, b, ones) {
             return false;
         }
         at += size;
         i += 1;
     }
     true
+}
+
+// No spare bit of the page is 1.
+pub fn page_clear(p: Parameters, page: &[u8]) -> bool
+    requires { ⌜ Accepted p × (length (now page) ≡ pageBytes p) ⌝ }
+    ensures { λ r. ⌜ r ≡ pageClear p (now (page .entry)) ⌝ }
+{
+    words_pass(p, page, false)
+}
+
+// Every stored coefficient of the page is 1, whatever its spare bits.
+pub fn page_blank(p: Parameters, page: &[u8]) -> bool
+    requires { ⌜ Accepted p × (length (now page) ≡ pageBytes p) ⌝ }
+    ensures { λ r. ⌜ r ≡ blank p (now (page .entry)) ⌝ }
+{
+    words_pass(p, page, true)
+}
+
+// No unused bit of the blocks is 1.
+pub fn blocks_clear(p: Parameters, w: &[u32], blocks: &[u8]) -> bool
+    requires { ⌜ Accepted p × Degrees p (now w) × (length (now blocks) ≡ dataBytes p) ⌝ }
+    ensures { λ r. ⌜ r ≡ blocksClear p (now (blocks .entry)) ⌝ }
+{
+    blocks_pass(p, w, blocks, false)
+}
+
+// Every data bit of the blocks is 1.
+pub fn blocks_full(p: Parameters, w: &[u32], blocks: &[u8]) -> bool
+    requires { ⌜ Accepted p × Degrees p (now w) × (length (now blocks) ≡ dataBytes p) ⌝ }
+    ensures { λ r. ⌜ r ≡ blocksFull p (now (blocks .entry)) ⌝ }
+{
+    blocks_pass(p, w, blocks, true)
+}
+
+// The bits of a run above its b lowest are cleared.
+pub fn clear_above(run: &mut [u8], b: usize)
+    requires { ⌜ (1 ≤ b) × (b < 4096) × (length (now run) ≡ (b + 7) / 8) ⌝ }
+    ensures { λ x. ⌜ value 8 (now (run .exit)) ≡ value 8 (now (run .entry)) % 2 ^ b ⌝ }
+{
+    let size = run.len();
+    let unused = 8 * size - b;
+    let bound = two_to(8 - unused);
+    let last = size - 1;
+    let top = run[last] as usize % bound;
+    run[last] = top as u8;
 }

@@ -18,9 +18,10 @@ use Rattle.code.specs.Accepted.{accepted}
 use Rattle.code.specs.Buffers.{nested-lt}
 use Rattle.code.specs.Code.{combine, nested, place}
 use Rattle.code.specs.Layout.{pageBytes, wordsOf}
+use Rattle.code.specs.Pages.{words-many}
 use Rattle.code.specs.Parameters.{Accepted, len, nestedBytes, subWordBytes}
 use Rattle.code.specs.Steps.{nested-eq}
-use Rattle.layout.specs.Parts.{word-at, words-many}
+use Rattle.layout.specs.Parts.{word-at}
 use Rattle.layout.specs.Sizes.{bits-all, length-high, length-low}
 use Rattle.layout.specs.SubWords.{word-lt}
 use Rattle.kernels.specs.Value.{Bounded, bounded-all, bounded-take, take-mod}

@@ -17,9 +17,9 @@ use Rattle.code.specs.Chains.{exact-of, or-first, or-none, or-second, when-none
 use Rattle.code.specs.Layout.{IsPage}
 use Rattle.code.specs.Lists.{_when_, _orElse_}
 use Rattle.code.specs.Parameters.{Accepted, sheetRefusal}
-use Rattle.code.specs.Refusals.{judgeRefusal, wordRefusal, notExact}
+use Rattle.code.specs.Refusals.{notExact, pageRefusal, wordRefusal}
 use Rattle.code.specs.Refused.{word-le}
-use Rattle.refusal.specs.Judging.{judge-sheet, judge-zero}
+use Rattle.refusal.specs.Judging.{page-sheet, page-zero}
 
 pub record Unrefused (p : Parameters) (x : List ℕ) (i many out exact : ℕ) : Type 0 where
   pub accepted : Accepted p
@@ -34,20 +34,20 @@ module _ (p : Parameters) (x : List ℕ) (i many out exact : ℕ) where
   abbrev list-10 : ℕ
   list-10 = 10 when notExact out exact
 
-  word-eq : wordRefusal p x i many out exact ≡ (judgeRefusal p x orElse index-9 orElse list-10)
+  word-eq : wordRefusal p x i many out exact ≡ (pageRefusal p x orElse index-9 orElse list-10)
   unfolding wordRefusal
   word-eq = refl
 
   -- ---- the links
-  pub word-page : (r : ℕ) → r ≡ judgeRefusal p x → (r ≡ 0 → ⊥) → r ≡ wordRefusal p x i many out exact
-  word-page r e h = e ∙ sym (word-eq ∙ or-first (judgeRefusal p x) (index-9 orElse list-10) (Nat.pos-of-ne-zero (λ z. h (e ∙ z))))
+  pub word-page : (r : ℕ) → r ≡ pageRefusal p x → (r ≡ 0 → ⊥) → r ≡ wordRefusal p x i many out exact
+  word-page r e h = e ∙ sym (word-eq ∙ or-first (pageRefusal p x) (index-9 orElse list-10) (Nat.pos-of-ne-zero (λ z. h (e ∙ z))))
 
   pub word-sheet : (k : ℕ) → k ≡ sheetRefusal p → (k ≡ 0 → ⊥) → k ≡ wordRefusal p x i many out exact
-  word-sheet k e h = word-page k (judge-sheet p x k e h) h
+  word-sheet k e h = word-page k (page-sheet p x k e h) h
 
-  module _ (e : judgeRefusal p x ≡ 0) where
+  module _ (e : pageRefusal p x ≡ 0) where
     behind : wordRefusal p x i many out exact ≡ (index-9 orElse list-10)
-    behind = word-eq ∙ or-second (judgeRefusal p x) (index-9 orElse list-10) e
+    behind = word-eq ∙ or-second (pageRefusal p x) (index-9 orElse list-10) e
 
     pub word-index : many ≤ i → 9 ≡ wordRefusal p x i many out exact
     word-index h = sym (behind ∙ simp (le-leb many i h))
@@ -61,9 +61,9 @@ module _ (p : Parameters) (x : List ℕ) (i many out exact : ℕ) where
   -- ---- a chain that ends in 0
   pub word-zero : ((k : ℕ) → getD x k 0 < 2 ^ 8) → wordRefusal p x i many out exact ≡ 0 → Unrefused p x i many out exact
   word-zero b e =
-      let j = or-none (judgeRefusal p x) (index-9 orElse list-10) (sym word-eq ∙ e) in
+      let j = or-none (pageRefusal p x) (index-9 orElse list-10) (sym word-eq ∙ e) in
       let k = or-none index-9 list-10 (j .1) in
-      let c = judge-zero p x (j .0) in
+      let c = page-zero p x (j .0) in
       record {
         accepted = c .accepted;
         page = record { bytes = at-all (λ d. d < 256) x (λ k h. b k); exact = c .exact; clear = c .clear };
@@ -84,11 +84,11 @@ module _ (p : Parameters) (x : List ℕ) (i many out exact : ℕ) where
 -- only accepted parameters have an exact length
 pub word-alike : (p : Parameters) (x : List ℕ) (i many out exact exact′ : ℕ) → (Accepted p → exact ≡ exact′)
     → wordRefusal p x i many out exact ≡ wordRefusal p x i many out exact′
-word-alike p x i many out exact exact′ h = go (Nat.eq-zero-or-pos (judgeRefusal p x))
+word-alike p x i many out exact exact′ h = go (Nat.eq-zero-or-pos (pageRefusal p x))
   where
-    go : (judgeRefusal p x ≡ 0) ⊎ (0 < judgeRefusal p x) → wordRefusal p x i many out exact ≡ wordRefusal p x i many out exact′
-    go (inl z) = ap (wordRefusal p x i many out) (h (judge-zero p x z .accepted))
+    go : (pageRefusal p x ≡ 0) ⊎ (0 < pageRefusal p x) → wordRefusal p x i many out exact ≡ wordRefusal p x i many out exact′
+    go (inl z) = ap (wordRefusal p x i many out) (h (page-zero p x z .accepted))
     go (inr l) =
-        word-eq p x i many out exact ∙ or-first (judgeRefusal p x) (index-9 p x i many out exact orElse list-10 p x i many out exact) l
+        word-eq p x i many out exact ∙ or-first (pageRefusal p x) (index-9 p x i many out exact orElse list-10 p x i many out exact) l
         ∙ sym (word-eq p x i many out exact′
-        ∙ or-first (judgeRefusal p x) (index-9 p x i many out exact′ orElse list-10 p x i many out exact′) l)
+        ∙ or-first (pageRefusal p x) (index-9 p x i many out exact′ orElse list-10 p x i many out exact′) l)

@@ -1,46 +1,68 @@
 -- Read out's chain: what its tests show, and what its end shows. The lent buffer has k bytes.
-use mathlib.Core.Path.{_≡_, sym, ap, _∙_}
-use mathlib.Core.Bool.{not}
+use mathlib.Core.Path.{_≡_, refl, sym, _∙_}
 use mathlib.Core.List.{List}
 use Prim.Native.Nat.{ℕ}
 use lib.ListN.{length}
-use borrow.Author.Tests.{eq-eqb, ne-eqb}
+use borrow.Author.Tests.{ne-eqb, eq-eqb}
 use Rattle.code.specs.declared.Parameters.{Parameters}
 use Rattle.code.specs.Chains.{exact-of, first-of, or-none, or-second}
-use Rattle.code.specs.Layout.{dataBytes, pageBytes, pageClear}
+use Rattle.code.specs.Layout.{dataBytes, pageBytes}
 use Rattle.code.specs.Lists.{_when_, _orElse_}
 use Rattle.code.specs.Parameters.{Accepted, sheetRefusal}
-use Rattle.code.specs.Refusals.{judgeRefusal, notExact, readRefusal}
-use Rattle.code.specs.Refused.{read-links}
-use Rattle.refusal.specs.Judging.{Clear, judge-accepted, judge-zero}
+use Rattle.code.specs.Refusals.{notExact, readLengths, readRefusal, stray}
 
-module _ (p : Parameters) (x : List ℕ) (k : ℕ) where
+-- ---- the lengths, of a page of n bytes
+module _ (p : Parameters) (n k : ℕ) where
   abbrev blocks-6 : ℕ
   blocks-6 = 6 when notExact k (dataBytes p)
 
-  abbrev rest : ℕ
-  rest = 7 when notExact (length x) (pageBytes p) orElse 8 when not (pageClear p x)
+  abbrev page-7 : ℕ
+  page-7 = 7 when notExact n (pageBytes p)
 
-  pub read-sheet : (r : ℕ) → r ≡ sheetRefusal p → (r ≡ 0 → ⊥) → r ≡ readRefusal p x k
-  read-sheet r e h = first-of r (sheetRefusal p) (blocks-6 orElse rest) e h ∙ sym (read-links p x k)
+  lengths-eq : readLengths p n k ≡ (sheetRefusal p orElse blocks-6 orElse page-7)
+  unfolding readLengths
+  lengths-eq = refl
+
+  sheet-first : (r : ℕ) → r ≡ sheetRefusal p → (r ≡ 0 → ⊥) → r ≡ readLengths p n k
+  sheet-first r e h = first-of r (sheetRefusal p) (blocks-6 orElse page-7) e h ∙ sym lengths-eq
+
+  pub lengths-accepted : readLengths p n k ≡ 0 → Accepted p
+  lengths-accepted z = or-none (sheetRefusal p) (blocks-6 orElse page-7) (sym lengths-eq ∙ z) .0
 
   module _ (A : Accepted p) where
-    -- behind 6 stands judge's chain
-    read-accepted : readRefusal p x k ≡ (blocks-6 orElse judgeRefusal p x)
-    read-accepted =
-        read-links p x k ∙ or-second (sheetRefusal p) (blocks-6 orElse rest) A
-        ∙ ap (λ (r : ℕ). blocks-6 orElse r) (sym (judge-accepted p x A))
+    accepted : readLengths p n k ≡ (blocks-6 orElse page-7)
+    accepted = lengths-eq ∙ or-second (sheetRefusal p) (blocks-6 orElse page-7) A
 
-    pub read-length : (k ≡ dataBytes p → ⊥) → 6 ≡ readRefusal p x k
-    read-length h = sym (read-accepted ∙ simp (ne-eqb k (dataBytes p) h))
+    pub lengths-blocks : (k ≡ dataBytes p → ⊥) → 6 ≡ readLengths p n k
+    lengths-blocks h = sym (accepted ∙ simp (ne-eqb k (dataBytes p) h))
 
-    pub read-rest : k ≡ dataBytes p → judgeRefusal p x ≡ readRefusal p x k
-    read-rest e = sym (read-accepted ∙ simp (eq-eqb k (dataBytes p) e))
+    module _ (e : k ≡ dataBytes p) where
+      measured : readLengths p n k ≡ page-7
+      measured = accepted ∙ simp (eq-eqb k (dataBytes p) e)
 
-    -- a chain that ends in 0
-    module _ (z : readRefusal p x k ≡ 0) where
-      pub read-blocks : k ≡ dataBytes p
-      read-blocks = exact-of 5 k (dataBytes p) (or-none blocks-6 (judgeRefusal p x) (sym read-accepted ∙ z) .0)
+      pub lengths-page : (n ≡ pageBytes p → ⊥) → 7 ≡ readLengths p n k
+      lengths-page h = sym (measured ∙ simp (ne-eqb n (pageBytes p) h))
 
-      pub read-clear : Clear p x
-      read-clear = judge-zero p x (or-none blocks-6 (judgeRefusal p x) (sym read-accepted ∙ z) .1)
+      pub lengths-none : n ≡ pageBytes p → 0 ≡ readLengths p n k
+      lengths-none h = sym (measured ∙ simp (eq-eqb n (pageBytes p) h))
+
+    -- lengths that pass are exact
+    pub lengths-zero : readLengths p n k ≡ 0 → (k ≡ dataBytes p) × (n ≡ pageBytes p)
+    lengths-zero z =
+        let s = or-none blocks-6 page-7 (sym accepted ∙ z) in
+        (exact-of 5 k (dataBytes p) (s .0), exact-of 6 n (pageBytes p) (s .1))
+
+-- ---- the chain
+module _ (p : Parameters) (x : List ℕ) (k : ℕ) where
+  read-eq : readRefusal p x k ≡ (readLengths p (length x) k orElse 8 when stray p x)
+  unfolding readRefusal
+  read-eq = refl
+
+  pub read-lengths : (r : ℕ) → r ≡ readLengths p (length x) k → (r ≡ 0 → ⊥) → r ≡ readRefusal p x k
+  read-lengths r e h = first-of r (readLengths p (length x) k) (8 when stray p x) e h ∙ sym read-eq
+
+  pub read-sheet : (r : ℕ) → r ≡ sheetRefusal p → (r ≡ 0 → ⊥) → r ≡ readRefusal p x k
+  read-sheet r e h = read-lengths r (sheet-first p (length x) k r e h) h
+
+  pub read-accepted : readRefusal p x k ≡ 0 → Accepted p
+  read-accepted z = lengths-accepted p (length x) k (or-none (readLengths p (length x) k) (8 when stray p x) (sym read-eq ∙ z) .0)

@@ -5,7 +5,7 @@ ghost use Prim.Native.Nat.{_+_, _^_, _≤_};
 ghost use lib.Dec.{leb, ltb};
 ghost use Rattle.polynomial.specs.Digits.{value};
 ghost use Rattle.code.specs.Parameters.{Accepted, sheetRefusal};
-ghost use Rattle.code.specs.Refusals.{badWidth, judgeRefusal, openRefusal, quoteRefusal, readRefusal, wordRefusal, writeRefusal};
+ghost use Rattle.code.specs.Refusals.{badWidth, judgeLengths, openRefusal, pageRefusal, quoteRefusal, readLengths, wordRefusal, writeRefusal};
 ghost use Rattle.layout.specs.Sizes.{Degrees};
 ghost use Rattle.refusal.specs.Feeding.{numbersRefusal};
 use code::Parameters;
@@ -27,7 +27,7 @@ pub fn sheet_refusal(p: Parameters) -> u8
 // For accepted parameters: 7 for the length, 8 for a spare bit.
 pub fn page_refusal(p: Parameters, page: &[u8]) -> u8
     requires { ⌜ Accepted p ⌝ }
-    ensures { λ r. ⌜ r ≡ judgeRefusal p (now (page .entry)) ⌝ }
+    ensures { λ r. ⌜ r ≡ pageRefusal p (now (page .entry)) ⌝ }
 {
     let exact = layout::page_bytes(p);
     if page.len() != exact {
@@ -39,27 +39,34 @@ pub fn page_refusal(p: Parameters, page: &[u8]) -> u8
     8
 }
 
-// For any numbers: 1 to 4, 7, 8, or 0.
-pub fn judge_refusal(p: Parameters, page: &[u8]) -> u8
-    ensures { λ r. ⌜ r ≡ judgeRefusal p (now (page .entry)) ⌝ }
+// Judge and read out look for a blank page between 7 and 8, so their chains stop at the lengths.
+
+// For any numbers, and a page of `page` bytes: 1 to 4, 7, or 0.
+pub fn judge_lengths(p: Parameters, page: usize) -> u8
+    ensures { λ r. ⌜ r ≡ judgeLengths p page ⌝ }
 {
     let k = sheet_refusal(p);
     if k != 0 {
         return k;
     }
-    page_refusal(p, page)
+    if page == layout::page_bytes(p) {
+        return 0;
+    }
+    7
 }
 
-// For accepted parameters, whose degrees are w, and a buffer of `blocks` bytes: 6, 7, 8, or 0.
-pub fn read_refusal(p: Parameters, w: &[u32], page: &[u8], blocks: usize) -> u8
+// For accepted parameters, whose degrees are w, a page of `page` bytes and a buffer of `blocks`: 6, 7, or 0.
+pub fn read_lengths(p: Parameters, w: &[u32], page: usize, blocks: usize) -> u8
     requires { ⌜ Accepted p × Degrees p (now w) ⌝ }
-    ensures { λ r. ⌜ r ≡ readRefusal p (now (page .entry)) blocks ⌝ }
+    ensures { λ r. ⌜ r ≡ readLengths p page blocks ⌝ }
 {
-    let exact = layout::data_bytes(p, w);
-    if blocks != exact {
+    if blocks != layout::data_bytes(p, w) {
         return 6;
     }
-    page_refusal(p, page)
+    if page != layout::page_bytes(p) {
+        return 7;
+    }
+    0
 }
 
 // The width is 1 to 64.
@@ -72,7 +79,7 @@ fn width_good(width: u32) -> bool
     width <= 64
 }
 
-// For accepted parameters, whose degrees are w, and a buffer of `page` bytes: 5, 6, 7, 8 for an unused bit, or 0.
+// For accepted parameters, whose degrees are w, and a buffer of `page` bytes: 5, 6, 7, 8 for an unused bit, 13 where every data bit is 1, or 0.
 pub fn write_refusal(p: Parameters, w: &[u32], width: u32, blocks: &[u8], page: usize) -> u8
     requires { ⌜ Accepted p × Degrees p (now w) ⌝ }
     ensures { λ r. ⌜ r ≡ writeRefusal p width (now (blocks .entry)) page ⌝ }
@@ -86,15 +93,18 @@ pub fn write_refusal(p: Parameters, w: &[u32], width: u32, blocks: &[u8], page: 
     if page != layout::page_bytes(p) {
         return 7;
     }
-    if layout::blocks_clear(p, w, blocks) {
-        return 0;
+    if !layout::blocks_clear(p, w, blocks) {
+        return 8;
     }
-    8
+    if layout::blocks_full(p, w, blocks) {
+        return 13;
+    }
+    0
 }
 
 // ---- calls on one word
 
-// For accepted parameters: 7 and 8 as for judge, 9 where the word i is none of `many`,
+// For accepted parameters: 7, 8, 9 where the word i is none of `many`,
 // 10 where the lent list's length `out` is not exact, or 0.
 pub fn index_refusal(
     p: Parameters,
