@@ -123,27 +123,29 @@ pub record OnesFound (l : List ℕ) (at end : ℕ) (r : Bool) : Type 0 where
   pub none : ((i : ℕ) → at ≤ i → i < end → getD l i 0 ≡ 255) → r ≡ true
 
 -- bytes that are 255 so far, from `at` to k
-abbrev pub OnesSo : List ℕ → ℕ → ℕ → Type 0
-OnesSo l at k = (at ≤ k) × ((i : ℕ) → at ≤ i → i < k → getD l i 0 ≡ 255)
+pub record OnesSo (l : List ℕ) (at k : ℕ) : Type 0 where
+  pub from : at ≤ k
+  pub all : (i : ℕ) → at ≤ i → i < k → getD l i 0 ≡ 255
 
 pub ones-start : (l : List ℕ) (at : ℕ) → OnesSo l at at
-ones-start l at = (Nat.le-refl at, λ i h j. absurd (Nat.lt-irrefl i (Nat.lt-of-lt-of-le j h)))
+ones-start l at = record { from = Nat.le-refl at; all = λ i h j. absurd (Nat.lt-irrefl i (Nat.lt-of-lt-of-le j h)) }
 
 pub ones-turn : (l : List ℕ) (at k : ℕ) → OnesSo l at k → getD l k 0 ≡ 255 → OnesSo l at (k + 1)
-ones-turn l at k s e = (omega (arith, s .0), λ i h j. go i h (Nat.eq-or-lt-of-le (Nat.le-of-suc-le-suc (omega arith))))
+ones-turn l at k s e =
+    record { from = omega (arith, s .from); all = λ i h j. go i h (Nat.eq-or-lt-of-le (Nat.le-of-suc-le-suc (omega arith))) }
   where
     go : (i : ℕ) → at ≤ i → (i ≡ k) ⊎ (i < k) → getD l i 0 ≡ 255
     go i h (inl f) = rw f e
-    go i h (inr f) = s .1 i h f
+    go i h (inr f) = s .all i h f
 
 true-false : true ≡ false → ⊥
 true-false e = let z : _≡_ {A = ℕ} 0 1 = cc in Nat.suc-ne-zero 0 (sym z)
 
 pub ones-found : (l : List ℕ) (at k end : ℕ) → OnesSo l at k → k < end → (getD l k 0 ≡ 255 → ⊥) → OnesFound l at end false
-ones-found l at k end s h n = record { all = λ e. absurd (true-false (sym e)); none = λ f. absurd (n (f k (s .0) h)) }
+ones-found l at k end s h n = record { all = λ e. absurd (true-false (sym e)); none = λ f. absurd (n (f k (s .from) h)) }
 
 pub ones-done : (l : List ℕ) (at k end : ℕ) → OnesSo l at k → end ≤ k → OnesFound l at end true
-ones-done l at k end s h = record { all = λ e i u j. s .1 i u (Nat.lt-of-lt-of-le j h); none = λ f. refl }
+ones-done l at k end s h = record { all = λ e i u j. s .all i u (Nat.lt-of-lt-of-le j h); none = λ f. refl }
 
 module _ (l : List ℕ) (at k b : ℕ) (h : (i : ℕ) → getD l i 0 < 256) (low : 1 ≤ b) (f : k ≡ (b + 7) / 8) where
   abbrev number : ℕ
@@ -226,3 +228,10 @@ cut-last (x ∷ y ∷ l) (suc k) b h e r =
     ∙ ap (λ (n : ℕ). n * 2 ^ 8 + x) (cut-last (y ∷ l) k (b - 8) (h .1) (Nat.suc-inj e) (omega arith))
     ∙ cut-byte (value 8 (y ∷ l)) x (b - 8) (h .0)
     ∙ ap (λ (n : ℕ). (value 8 (y ∷ l) * 2 ^ 8 + x) % 2 ^ n) z
+
+pub cut-run : (l : List ℕ) (b u : ℕ) → ((i : ℕ) → getD l i 0 < 256) → 1 ≤ b → length l ≡ (b + 7) / 8 → u ≡ 2 ^ (8 - (8 * length l - b))
+    → value 8 (set l (length l - 1) (getD l (length l - 1) 0 % u)) ≡ value 8 l % 2 ^ b
+cut-run l b u h low f e =
+    let j : 8 - (8 * length l - b) ≡ b - 8 * (length l - 1) = omega arith in
+    ap (λ (n : ℕ). value 8 (set l (length l - 1) (getD l (length l - 1) 0 % n))) (e ∙ ap (λ (n : ℕ). 2 ^ n) j)
+    ∙ cut-last l (length l - 1) b (at-all (λ d. d < 256) l (λ n _. h n)) (omega arith) (omega arith)

@@ -58,6 +58,10 @@ wordBits p = replicate (p .m) (stored p)
 abbrev pub WordsPassed : (ℕ → ℕ → Bool) → Parameters → List ℕ → ℕ → Type 0
 WordsPassed P p x i = Passed P (wordBits p) (wordsOf p x) i
 
+pub word-there : (p : Parameters) (x : List ℕ) → Accepted p → (i n b : ℕ) → i < p .m → n ≡ stored p → b ≡ subWordBytes p → length x ≡ pageBytes p
+    → (1 ≤ n) × (n < 4096) × (b ≡ (n + 7) / 8) × (i * b + b ≤ length x)
+word-there p x A i n b h e f l = rw (e, f, l) (stored-low p A, stored-high p A, sym (stored-bytes p A), word-room p i h)
+
 module _ (P : ℕ → ℕ → Bool) (p : Parameters) (x : List ℕ) where
   length-word-bits : length (wordBits p) ≡ p .m
   length-word-bits = length-replicate (p .m) (stored p)
@@ -73,9 +77,6 @@ module _ (P : ℕ → ℕ → Bool) (p : Parameters) (x : List ℕ) where
 
   -- one sub-word more, where the program holds n and b
   module _ (A : Accepted p) (i n b : ℕ) (h : i < p .m) (e : n ≡ stored p) (f : b ≡ subWordBytes p) where
-    pub word-there : length x ≡ pageBytes p → (1 ≤ n) × (n < 4096) × (b ≡ (n + 7) / 8) × (i * b + b ≤ length x)
-    word-there l = rw (e, f, l) (stored-low p A, stored-high p A, sym (stored-bytes p A), word-room p i h)
-
     word-test : runPasses P x (i * b) b n ≡ passes P (wordBits p) (wordsOf p x) i
     word-test = rw (e, f) (sym (ap₂ P (getD-replicate (p .m) i (stored p) 0 h) (word-at p x i h)))
 

@@ -38,7 +38,7 @@ run-passes-requires : tie.Need-run-passes-requires Inv-loop μ-loop
 run-passes-requires c κs =
     let b = c .before .before .before in
     let s = b .before .before .before in
-    word-there _ _ (s .args .page .now) (s .pre .0) _ _ _ (c .if1 .taken) (b .before .stored-of .ensures) (b .sub-word-bytes .ensures) (s .pre .1)
+    word-there _ (s .args .page .now) (s .pre .0) _ _ _ (c .if1 .taken) (b .before .stored-of .ensures) (b .sub-word-bytes .ensures) (s .pre .1)
 
 returns : tie.Need-returns Inv-loop μ-loop
 returns c =

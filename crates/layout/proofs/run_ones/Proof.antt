@@ -1,0 +1,76 @@
+use borrow.Author.Needs.{needs}
+use borrow.Author.Tests.{not-true, not-false}
+use mir.Facts.{fits-widen}
+use lib.Pow.{pow-pos}
+use Rattle.layout.specs.Runs.{run-not, run-top}
+use Rattle.layout.proofs.run_ones.Statement.{statement}
+use Rattle.layout.proofs.run_ones.Tie as tie
+
+add-last : tie.Need-add-last
+add-last c = search needs
+
+sub-last : tie.Need-sub-last
+sub-last c = search needs
+
+bytes-ones-requires : tie.Need-bytes-ones-requires
+bytes-ones-requires c κs = search needs
+
+returns : tie.Need-returns
+returns c =
+    let b = c .before in
+    let k = b .before in
+    let s = k .before in
+    run-not (s .args .bytes .now) (s .args .at) (s .args .size) (s .args .b) (λ i. k .shared-slice-known .given i .fits) (s .pre .0) (s .pre .2)
+    (b .bytes-ones .result) (b .bytes-ones .ensures) (not-true _ (c .if1 .taken))
+
+mul-unused : tie.Need-mul-unused
+mul-unused c = search needs
+
+sub-unused : tie.Need-sub-unused
+sub-unused c = search needs
+
+sub-two-to : tie.Need-sub-two-to
+sub-two-to c = search needs
+
+two-to-requires : tie.Need-two-to-requires
+two-to-requires c κs = search needs
+
+shared-slice-read-top : tie.Need-shared-slice-read-top
+shared-slice-read-top c = search needs
+
+cast-top : tie.Need-cast-top
+cast-top c = fits-widen tt (c .shared-slice-known2 .given _)
+
+rem-result : tie.Need-rem-result
+rem-result c = rw (c .before .two-to .ensures) (pow-pos _)
+
+sub-result : tie.Need-sub-result
+sub-result c = rw (c .before .two-to .ensures) (pow-pos _)
+
+returns-2 : tie.Need-returns-2
+returns-2 c =
+    let t = c .before in
+    let e = t .before in
+    let b = e .before in
+    let k = b .before in
+    let s = k .before in
+    run-top (s .args .bytes .now) (s .args .at) (s .args .size) (s .args .b) (λ i. k .shared-slice-known .given i .fits) (s .pre .0) (s .pre .2)
+    (b .bytes-ones .result) (b .bytes-ones .ensures) (not-false _ (e .if1 .left)) (t .two-to .result) (t .two-to .ensures)
+
+pub run-ones-spec : {M : Type 1} → statement M
+run-ones-spec =
+    tie.close
+    (tie.spec
+    add-last
+    sub-last
+    bytes-ones-requires
+    returns
+    mul-unused
+    sub-unused
+    sub-two-to
+    two-to-requires
+    shared-slice-read-top
+    cast-top
+    rem-result
+    sub-result
+    returns-2)
