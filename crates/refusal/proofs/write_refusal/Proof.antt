@@ -1,7 +1,7 @@
 use borrow.Author.Needs.{needs}
 use borrow.Author.Tests.{not-true, not-false}
 use mathlib.Core.Path.{sym, _∙_}
-use Rattle.refusal.specs.Writing.{write-width, write-blocks, write-page, write-clear, write-stray}
+use Rattle.refusal.specs.Writing.{write-width, write-blocks, write-page, write-stray, write-full, write-else}
 use Rattle.refusal.proofs.write_refusal.Statement.{statement}
 use Rattle.refusal.proofs.write_refusal.Tie as tie
 
@@ -49,16 +49,35 @@ returns-4 c =
     let e = f .before .before in
     let s = e .before .before .before .before in
     let a = s .args in
-    write-clear (a .p) (a .width) (a .blocks .now) (a .page) (s .pre .0) (sym (not-false _ (e .if1 .left)) ∙ e .before .width-good .ensures) (f .if2 .left ∙ f .before .data-bytes .ensures) (g .if3 .left ∙ g .before .page-bytes .ensures) (sym (c .if4 .taken) ∙ c .before .blocks-clear .ensures)
+    write-stray (a .p) (a .width) (a .blocks .now) (a .page) (s .pre .0) (sym (not-false _ (e .if1 .left)) ∙ e .before .width-good .ensures) (f .if2 .left ∙ f .before .data-bytes .ensures) (g .if3 .left ∙ g .before .page-bytes .ensures) (sym (not-true _ (c .if4 .taken)) ∙ c .before .blocks-clear .ensures)
+
+blocks-full-requires : tie.Need-blocks-full-requires
+blocks-full-requires c κs =
+    let f = c .before .before .before .before in
+    let s = f .before .before .before .before .before .before in
+    (s .pre .0, s .pre .1, f .if2 .left ∙ f .before .data-bytes .ensures)
 
 returns-5 : tie.Need-returns-5
 returns-5 c =
-    let g = c .before .before in
+    let h = c .before .before in
+    let g = h .before .before in
     let f = g .before .before in
     let e = f .before .before in
-    let s = e .before .before .before .before in
+    let k = e .before .before in
+    let s = k .before .before in
     let a = s .args in
-    write-stray (a .p) (a .width) (a .blocks .now) (a .page) (s .pre .0) (sym (not-false _ (e .if1 .left)) ∙ e .before .width-good .ensures) (f .if2 .left ∙ f .before .data-bytes .ensures) (g .if3 .left ∙ g .before .page-bytes .ensures) (sym (c .if4 .left) ∙ c .before .blocks-clear .ensures)
+    write-full (a .p) (a .width) (a .blocks .now) (a .page) (s .pre .0) (sym (not-false _ (e .if1 .left)) ∙ e .before .width-good .ensures) (f .if2 .left ∙ f .before .data-bytes .ensures) (g .if3 .left ∙ g .before .page-bytes .ensures) (λ i. k .shared-slice-known2 .given i .fits) (sym (not-false _ (h .if4 .left)) ∙ h .before .blocks-clear .ensures) (sym (c .if5 .taken) ∙ c .before .blocks-full .ensures)
+
+returns-6 : tie.Need-returns-6
+returns-6 c =
+    let h = c .before .before in
+    let g = h .before .before in
+    let f = g .before .before in
+    let e = f .before .before in
+    let k = e .before .before in
+    let s = k .before .before in
+    let a = s .args in
+    write-else (a .p) (a .width) (a .blocks .now) (a .page) (s .pre .0) (sym (not-false _ (e .if1 .left)) ∙ e .before .width-good .ensures) (f .if2 .left ∙ f .before .data-bytes .ensures) (g .if3 .left ∙ g .before .page-bytes .ensures) (λ i. k .shared-slice-known2 .given i .fits) (sym (not-false _ (h .if4 .left)) ∙ h .before .blocks-clear .ensures) (sym (c .if5 .left) ∙ c .before .blocks-full .ensures)
 
 pub write-refusal-spec : {M : Type 1} → statement M
-write-refusal-spec = tie.close (tie.spec width-good-requires returns data-bytes-requires returns-2 page-bytes-requires returns-3 blocks-clear-requires returns-4 returns-5)
+write-refusal-spec = tie.close (tie.spec width-good-requires returns data-bytes-requires returns-2 page-bytes-requires returns-3 blocks-clear-requires returns-4 blocks-full-requires returns-5 returns-6)
