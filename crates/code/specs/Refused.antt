@@ -173,7 +173,7 @@ module _ (p : Parameters) where
 
   -- ---- calls that are not refused
   module _ (A : Accepted p) where
-    judge-none : (x : List ℕ) → Judgeable p x → judgeRefusal p x ≡ 0
+    pub judge-none : (x : List ℕ) → Judgeable p x → judgeRefusal p x ≡ 0
     judge-none x h =
         judge-chain x
         ∙ or-zero (sheetRefusal p orElse page-7 (length x)) (stray-8 x) (or-zero (sheetRefusal p) (page-7 (length x)) A
@@ -261,9 +261,13 @@ module _ (p : Parameters) where
   unfolding judgeAnswer
   judge-eq x = refl
 
+  answer-else : (x : List ℕ) (v : Verdict) → ((k : ℕ) → v ≡ Verdict.Refused k → ⊥) → judgeAnswer p x ≡ v
+      → (judgeRefusal p x ≡ 0) × (pageVerdict p x ≡ v)
+  answer-else x v n e = unrefused (judgeRefusal p x) (pageVerdict p x) v n (sym (judge-eq x) ∙ e)
+
   -- what judge calls blank is blank
   pub judged-blank : (x : List ℕ) → judgeAnswer p x ≡ Verdict.Blank → T (blank p x)
-  judged-blank x e = verdict-of-blank x (unrefused (judgeRefusal p x) (pageVerdict p x) Verdict.Blank blank-refused (sym (judge-eq x) ∙ e) .1)
+  judged-blank x e = verdict-of-blank x (answer-else x Verdict.Blank blank-refused e .1)
 
   -- what judge calls a member is a page of accepted parameters, and not blank
   clear-of : (b c : Bool) → T (b || c) → T (not c) → T b
@@ -273,7 +277,7 @@ module _ (p : Parameters) where
 
   module _ (x : List ℕ) (e : judgeAnswer p x ≡ Verdict.Member) where
     member-said : (judgeRefusal p x ≡ 0) × (pageVerdict p x ≡ Verdict.Member)
-    member-said = unrefused (judgeRefusal p x) (pageVerdict p x) Verdict.Member member-refused (sym (judge-eq x) ∙ e)
+    member-said = answer-else x Verdict.Member member-refused e
 
     pub judged-else : T (not (blank p x))
     judged-else = else-said (blank p x) (verdict p (wordsOf p x)) (sym (verdict-eq x) ∙ member-said .1)

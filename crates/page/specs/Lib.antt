@@ -1,2 +1,3 @@
 -- Blocks of a page, one by one.
 pub mod Taken
+pub mod Exact

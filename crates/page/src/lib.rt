@@ -87,12 +87,15 @@ fn read_accepted(p: Parameters, page: &[u8], blocks: &mut [u8]) -> Verdict
     if k != 0 {
         return Verdict::Refused(k);
     }
-    let r = judge_exact(p, rows, page);
-    if let Verdict::Refused(k) = r {
-        return Verdict::Refused(k);
+    if layout::page_blank(p, page) {
+        take_blocks(p, &w, page, blocks);
+        return Verdict::Blank;
+    }
+    if !layout::page_clear(p, page) {
+        return Verdict::Refused(8);
     }
     take_blocks(p, &w, page, blocks);
-    r
+    judge::verdict_of(p, rows, page)
 }
 
 // The blocks of the page, member, blank or neither, and judge's answer.

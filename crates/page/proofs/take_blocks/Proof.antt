@@ -4,8 +4,7 @@ use Prim.Native.Nat.{_-_, _/_, _^_}
 use lib.ListN.{getD}
 use Rattle.polynomial.specs.Digits.{digits}
 use Rattle.code.specs.Code.{checkBits}
-use Rattle.code.specs.Layout.{wordsOf}
-use Rattle.layout.specs.SubWords.{is-page}
+use Rattle.code.specs.Layout.{storedOf}
 use Rattle.page.specs.Taken.{Taken, taken-start, taken-next, taken-all, sizeOf}
 use Rattle.page.proofs.take_blocks.Statement.{statement}
 use Rattle.page.proofs.take_blocks.Tie as tie
@@ -28,7 +27,7 @@ take-block-requires : tie.Need-take-block-requires Inv-loop μ-loop
 take-block-requires c κs =
     let l = c .before .before in
     let r = l .before .before .before .before .before .pre in
-    (record { accepts = r .accepts; degrees = r .degrees; exact = r .exact; clear = r .clear; room = l .loop .inv .exact }, c .before .loop-test .taken)
+    (record { accepts = r .accepts; degrees = r .degrees; exact = r .exact; room = l .loop .inv .exact }, c .before .loop-test .taken)
 
 add-i : tie.Need-add-i Inv-loop μ-loop
 add-i c = search needs
@@ -43,7 +42,7 @@ loop-again c =
     let l = t .before in
     let a = l .before .before .before .before .before .args in
     rw (k .take-block .ensures) (taken-next (a .p) (a .page .now) (l .loop .blocks)
-    (digits 8 (sizeOf (a .p) (l .loop .i)) (getD (wordsOf (a .p) (a .page .now)) (l .loop .i) 0 / 2 ^ checkBits (a .p) (l .loop .i)))
+    (digits 8 (sizeOf (a .p) (l .loop .i)) (getD (storedOf (a .p) (a .page .now)) (l .loop .i) 0 / 2 ^ checkBits (a .p) (l .loop .i)))
     (l .loop .i) (l .loop .inv) (t .loop-test .taken) refl)
 
 same-length : tie.Need-same-length Inv-loop μ-loop
@@ -52,12 +51,8 @@ same-length c = let l = c .before in let s = l .before .before .before .before .
 returns : tie.Need-returns Inv-loop μ-loop
 returns c =
     let l = c .before in
-    let k = l .before .before .before in
-    let s = k .before .before in
-    let a = s .args in
-    taken-all (a .p) (s .pre .accepts) (a .page .now) (l .loop .blocks) (l .loop .i)
-    (is-page (a .p) (a .page .now) (λ i. k .shared-slice-known2 .given i .fits) (s .pre .exact) (s .pre .clear))
-    (l .loop .inv) (c .loop-test .left)
+    let a = l .before .before .before .before .before .args in
+    taken-all (a .p) (a .page .now) (l .loop .blocks) (l .loop .i) (l .loop .inv) (c .loop-test .left)
 
 pub take-blocks-spec : {M : Type 1} → statement M
 take-blocks-spec =
