@@ -25,6 +25,8 @@
  *
  *   page      m sub-words, one behind another, of 2^q / 8 bytes each. The coefficient of x^k is bit k mod 8, least first,
  *             of byte k div 8 of its sub-word; the top bit of each last byte is spare and 0. gii_page_bytes gives the size.
+ *             A page is blank when every coefficient of every sub-word is 1, whatever its spare bits are: so a board is
+ *             delivered, erased, every byte FF. A blank page is no member, and no blocks are written as one.
  *   blocks    m blocks, one behind another, each on whole bytes. Sub-word i has w check bits and block i has n - w data
  *             bits, so that it takes (n - w + 7) / 8 bytes; bit r of it, least first, is the coefficient of x^(w + r).
  *             The unused top bits of its last byte are 0. Here w = w_(v-i) for i < v and w_0 from i = v on, and w_a, the
@@ -48,9 +50,10 @@
  * The bytes behind a pointer to const are never altered. A lent buffer is altered only by a call that is not refused, and
  * then wholly: what it held before is of no account.
  *
- * Results are of enum gii_answer. Of the conditions that a call meets the least number is given, and a refusal leaves
- * every byte of every buffer as it was. gii_page_bytes, gii_data_bytes and gii_distance give a size, or 0 where the sheet
- * is refused.
+ * Results are of enum gii_answer. Of the refusals whose conditions a call meets the least number is given, and a refusal
+ * leaves every byte of every buffer as it was. gii_judge and gii_read_out know a blank page before they look for stray
+ * bits; no other function answers GII_BLANK. gii_page_bytes, gii_data_bytes and gii_distance give a size, or 0 where the
+ * sheet is refused.
  */
 #ifndef GII_BCH_H
 #define GII_BCH_H
@@ -59,10 +62,10 @@
 #include <stdint.h>
 
 /* The version. A function or a number that goes or is given a new meaning moves the first number on. */
-#define GII_BCH_VERSION_MAJOR 2
+#define GII_BCH_VERSION_MAJOR 3
 #define GII_BCH_VERSION_MINOR 0
 #define GII_BCH_VERSION_PATCH 0
-#define GII_BCH_VERSION "2.0.0"
+#define GII_BCH_VERSION "3.0.0"
 
 /* Bytes of a list of 2t syndromes: t is t0 for a sub-word, t_(v-l) for nested word l. */
 #define GII_LIST_BYTES(t) ((size_t)4 * (size_t)(t))
@@ -82,23 +85,25 @@ enum gii_answer {
     GII_DONE = 0,   /* done */
     GII_MEMBER = 0, /* the page is a member of the code */
 
-    /* Refusals. The functions here give 1 to 10. */
-    GII_FIELD = 1,     /* q is not 4, 8 or 12 */
-    GII_SHAPE = 2,     /* v or m is out of range */
-    GII_STRENGTHS = 3, /* a rule on t0 to t_v is broken, or a place past t_v is not 0 */
-    GII_CLASH = 4,     /* some d * j is a multiple of n */
-    GII_WIDTH = 5,     /* the width is not 1 to 64 */
-    GII_BLOCKS = 6,    /* the blocks' length is not exact */
-    GII_PAGE = 7,      /* the page's length is not exact */
-    GII_STRAY = 8,     /* a spare bit of a page, or an unused bit of the blocks, that is read is 1 */
-    GII_INDEX = 9,     /* there is no such sub-word or nested word */
-    GII_LIST = 10,     /* the list's length is not exact */
-    GII_FULL = 11,     /* a register would take more than n coefficients */
-    GII_REGISTER = 12, /* a register's level or remainder is out of range */
+    /* Refusals. The functions here give 1 to 10 and 13. */
+    GII_FIELD = 1,         /* q is not 4, 8 or 12 */
+    GII_SHAPE = 2,         /* v or m is out of range */
+    GII_STRENGTHS = 3,     /* a rule on t0 to t_v is broken, or a place past t_v is not 0 */
+    GII_CLASH = 4,         /* some d * j is a multiple of n */
+    GII_WIDTH = 5,         /* the width is not 1 to 64 */
+    GII_BLOCKS = 6,        /* the blocks' length is not exact */
+    GII_PAGE = 7,          /* the page's length is not exact */
+    GII_STRAY = 8,         /* a spare bit of a page, or an unused bit of the blocks, that is read is 1 */
+    GII_INDEX = 9,         /* there is no such sub-word or nested word */
+    GII_LIST = 10,         /* the list's length is not exact */
+    GII_FULL = 11,         /* a register would take more than n coefficients */
+    GII_REGISTER = 12,     /* a register's level or remainder is out of range */
+    GII_BLANK_BLOCKS = 13, /* the page of the blocks would be blank: every data bit is 1 */
 
     /* Verdicts on a page. */
-    GII_SUB_WORD = 32,   /* 32 + i: sub-word i is the lowest that is no multiple of g_0 */
-    GII_NESTED_WORD = 64 /* 64 + l: every sub-word is, and nested word l is the lowest that is no multiple of g_(v-l) */
+    GII_SUB_WORD = 32,    /* 32 + i: sub-word i is the lowest that is no multiple of g_0 */
+    GII_NESTED_WORD = 64, /* 64 + l: every sub-word is, and nested word l is the lowest that is no multiple of g_(v-l) */
+    GII_BLANK = 96        /* the page is blank: every coefficient is 1 */
 };
 
 /* Whether a number is a refusal. Refusals are 1 to 31, all numbers from 32 on verdicts. */
@@ -112,17 +117,19 @@ extern "C" {
  * Write: the page of the blocks, check bits and all, into `page`.
  *
  * `width` is the number of coefficients taken in a step, 1 to 64; it never alters a result. The page is a member of the
- * code, and gii_read_out gives its blocks back.
+ * code, and gii_read_out gives its blocks back. No page that is written is blank: blocks whose data bits are all 1, the
+ * only ones whose page would be, are refused.
  *
- * Returns GII_DONE, or refuses: 1 to 4, 5, 6, 7, 8 (an unused bit of the blocks).
+ * Returns GII_DONE, or refuses: 1 to 4, 5, 6, 7, 8 (an unused bit of the blocks), 13 (every data bit is 1).
  */
 uint32_t gii_write(uint32_t q, uint32_t m, uint32_t v, uint32_t t0, uint32_t t1, uint32_t t2, uint32_t t3,
                    uint32_t width, const uint8_t *blocks, size_t blocks_len, uint8_t *page, size_t page_len);
 
 /*
- * Read out: the data bits of the page, member or not, into `blocks`. Nothing is corrected.
+ * Read out: the data bits of the page, member or not, blank or not, into `blocks`. Nothing is corrected. Of a blank page
+ * every data bit is 1, and every unused bit is 0 as ever, whatever the spare bits are.
  *
- * Returns what gii_judge gives for the page, or refuses: 1 to 4, 6, 7, 8 (a spare bit of the page).
+ * Returns what gii_judge gives for the page, or refuses: 1 to 4, 6, 7, 8 (a spare bit of a page that is not blank).
  */
 uint32_t gii_read_out(uint32_t q, uint32_t m, uint32_t v, uint32_t t0, uint32_t t1, uint32_t t2, uint32_t t3,
                       const uint8_t *page, size_t page_len, uint8_t *blocks, size_t blocks_len);
@@ -130,9 +137,10 @@ uint32_t gii_read_out(uint32_t q, uint32_t m, uint32_t v, uint32_t t0, uint32_t 
 /*
  * Judge: whether the page is a member of the code.
  *
- * Returns GII_MEMBER; or GII_SUB_WORD + i for the lowest sub-word i that is no multiple of g_0; or, if all are,
- * GII_NESTED_WORD + l for the lowest nested word l that is no multiple of g_(v-l), nested word l being the sum over i of
- * x^(l i) c_i with x^n = 1; or refuses: 1 to 4, 7, 8 (a spare bit of the page).
+ * Returns GII_BLANK for a blank page, whatever its spare bits are. For any other it returns GII_MEMBER; or GII_SUB_WORD + i
+ * for the lowest sub-word i that is no multiple of g_0; or, if all are, GII_NESTED_WORD + l for the lowest nested word l
+ * that is no multiple of g_(v-l), nested word l being the sum over i of x^(l i) c_i with x^n = 1. Or it refuses: 1 to 4, 7,
+ * 8 (a spare bit of a page that is not blank).
  */
 uint32_t gii_judge(uint32_t q, uint32_t m, uint32_t v, uint32_t t0, uint32_t t1, uint32_t t2, uint32_t t3,
                    const uint8_t *page, size_t page_len);
@@ -141,7 +149,7 @@ uint32_t gii_judge(uint32_t q, uint32_t m, uint32_t v, uint32_t t0, uint32_t t1,
  * Syndromes of a sub-word: S_j, the value of sub-word `index` at alpha^j, for j from 1 to 2 t0, into `list`, of
  * GII_LIST_BYTES(t0) bytes. An element is a number below 2^q, alpha is 2; the field polynomials are 0x13, 0x11D, 0x1053.
  *
- * Returns GII_DONE, or refuses: 1 to 4, 7, 8 (a spare bit anywhere in the page), 9 (index >= m), 10.
+ * Returns GII_DONE, or refuses: 1 to 4, 7, 8 (a spare bit anywhere in the page, blank or not), 9 (index >= m), 10.
  */
 uint32_t gii_syndromes(uint32_t q, uint32_t m, uint32_t v, uint32_t t0, uint32_t t1, uint32_t t2, uint32_t t3,
                        const uint8_t *page, size_t page_len, uint32_t index, uint8_t *list, size_t list_len);
@@ -149,7 +157,7 @@ uint32_t gii_syndromes(uint32_t q, uint32_t m, uint32_t v, uint32_t t0, uint32_t
 /*
  * Syndromes of nested word `index`, likewise, for j from 1 to 2 t_(v-index): GII_LIST_BYTES(t_(v-index)) bytes.
  *
- * Returns GII_DONE, or refuses: 1 to 4, 7, 8 (a spare bit anywhere in the page), 9 (index >= v), 10.
+ * Returns GII_DONE, or refuses: 1 to 4, 7, 8 (a spare bit anywhere in the page, blank or not), 9 (index >= v), 10.
  */
 uint32_t gii_nested_syndromes(uint32_t q, uint32_t m, uint32_t v, uint32_t t0, uint32_t t1, uint32_t t2, uint32_t t3,
                               const uint8_t *page, size_t page_len, uint32_t index, uint8_t *list, size_t list_len);
@@ -260,6 +268,7 @@ static inline const char *gii_answer_text(uint32_t number)
     case GII_LIST: return "list: the length is not exact";
     case GII_FULL: return "full: a register would take more than n coefficients";
     case GII_REGISTER: return "register: level or remainder out of range";
+    case GII_BLANK_BLOCKS: return "blank: the page would be all ones";
     case GII_SUB_WORD + 0: return "sub-word 0 fails";
     case GII_SUB_WORD + 1: return "sub-word 1 fails";
     case GII_SUB_WORD + 2: return "sub-word 2 fails";
@@ -271,6 +280,7 @@ static inline const char *gii_answer_text(uint32_t number)
     case GII_NESTED_WORD + 0: return "nested word 0 fails";
     case GII_NESTED_WORD + 1: return "nested word 1 fails";
     case GII_NESTED_WORD + 2: return "nested word 2 fails";
+    case GII_BLANK: return "a blank page";
     default: return "no answer of this version";
     }
 }

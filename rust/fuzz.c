@@ -1,8 +1,9 @@
 /*
  * Any calls from C: any numbers, any lengths, any bytes, on buffers of their own from malloc. Each answer is one that the
  * call may give and has a text, what is only read stays, a refusal leaves every byte, a quote fits the sizes, which are in
- * range or 0, and lengths by the sizes are never refused. Usage: fuzz CALLS SEED. It is built with the sanitizers, and
- * without them for valgrind, which sees every access of the archive.
+ * range or 0, lengths by the sizes are never refused, stray bits are, blank pages are known, read out as ones and never
+ * written. Usage: fuzz CALLS SEED. It is built with the sanitizers, and without them for valgrind, which sees every access
+ * of the archive.
  */
 #include "gii_bch.h"
 
@@ -67,8 +68,20 @@ static struct buffer lend(size_t length)
         exit(2);
     for (size_t i = 0; i < length; i++)
         b.bytes[i] = kind == 0 ? 0 : kind == 1 ? (uint8_t)any() & 1 : (uint8_t)any();
-    memcpy(b.before, b.bytes, length);
     return b;
+}
+
+/* Flips a bit, if there is one. */
+static void flip_any(struct buffer b)
+{
+    if (b.length)
+        b.bytes[below((uint32_t)b.length)] ^= (uint8_t)(1u << below(8));
+}
+
+/* What the buffer holds before the call, and whether it still does. */
+static void note(struct buffer b)
+{
+    memcpy(b.before, b.bytes, b.length);
 }
 
 static int kept(struct buffer b)
@@ -89,7 +102,8 @@ static int refused(uint32_t r)
 
 static int verdict(uint32_t r)
 {
-    return r == GII_MEMBER || (r >= GII_SUB_WORD && r < GII_SUB_WORD + 8) || (r >= GII_NESTED_WORD && r < GII_NESTED_WORD + 3);
+    return r == GII_MEMBER || (r >= GII_SUB_WORD && r < GII_SUB_WORD + 8) || (r >= GII_NESTED_WORD && r < GII_NESTED_WORD + 3) ||
+           r == GII_BLANK;
 }
 
 /* The sizes of a sheet: all 0, or all in range. */
@@ -123,6 +137,59 @@ static int fits(const struct gii_sheet *s, struct sizes is, const uint8_t *quote
     return data == is.data;
 }
 
+/* A page of a sheet: its spare bits cleared, but one in `left`. */
+static void clear_spare(const struct gii_sheet *s, size_t exact, struct buffer page, uint32_t left)
+{
+    for (size_t i = 0, word = exact / (s->m ? s->m : 1); word && i < page.length; i++)
+        if ((i + 1) % word == 0 && !once_in(left))
+            page.bytes[i] &= 127;
+}
+
+/* Whether every coefficient of a page of exact length is 1. */
+static int blank(struct buffer page, size_t word)
+{
+    for (size_t i = 0; i < page.length; i++)
+        if ((page.bytes[i] | ((i + 1) % word ? 0 : 128)) != 255)
+            return 0;
+    return 1;
+}
+
+/* Whether a spare bit of it is. */
+static int stray(struct buffer page, size_t word)
+{
+    for (size_t i = word; i <= page.length; i += word)
+        if (page.bytes[i - 1] & 128)
+            return 1;
+    return 0;
+}
+
+/* The blocks of a sheet in which every data bit is 1, by the quote; the sizes are in range. */
+static void ones(const struct gii_sheet *s, struct sizes is, uint8_t *blocks)
+{
+    uint8_t quote[GII_QUOTE_BYTES];
+    if (gii_sheet_quote(s, quote, sizeof quote) != GII_DONE || !fits(s, is, quote)) {
+        printf("the quote does not fit the sizes\n");
+        exit(1);
+    }
+    for (uint32_t i = 0; i < s->m; i++) {
+        uint32_t bits = gii_number(quote, GII_QUOTE_DATA_BITS(i));
+        for (; bits >= 8; bits -= 8)
+            *blocks++ = 255;
+        if (bits)
+            *blocks++ = (uint8_t)((1u << bits) - 1);
+    }
+}
+
+/* Whether a buffer holds the blocks of ones. */
+static int is_ones(const struct gii_sheet *s, struct sizes is, struct buffer b)
+{
+    uint8_t expected[GII_BLOCKS_MAX];
+    if (is.data == 0 || b.length != is.data || !in_range(s, is))
+        return 0;
+    ones(s, is, expected);
+    return memcmp(b.bytes, expected, is.data) == 0;
+}
+
 static int has_text(uint32_t r)
 {
     return strcmp(gii_answer_text(r), gii_answer_text(UINT32_MAX)) != 0;
@@ -143,29 +210,44 @@ int main(int argc, char **argv)
         size_t list = call == 5 ? GII_QUOTE_BYTES : GII_LIST_BYTES(call == 3 ? s.t[0] % 100 : level);
         struct buffer page = lend(exact), other = lend(call < 2 ? is.data : list);
         uint32_t r;
-        for (size_t i = 0, word = exact / (s.m ? s.m : 1); call && word && i < page.length; i++)
-            if ((i + 1) % word == 0 && !once_in(20))
-                page.bytes[i] &= 127, page.before[i] &= 127;
+        if (call && once_in(6)) {
+            memset(page.bytes, 255, page.length);
+            clear_spare(&s, exact, page, 2);
+            if (once_in(3))
+                flip_any(page);
+        } else if (call) {
+            clear_spare(&s, exact, page, 20);
+        } else if (sized && is.data && other.length == is.data && once_in(4)) {
+            ones(&s, is, other.bytes);
+            if (once_in(3))
+                flip_any(other);
+        }
+        note(page);
+        note(other);
+        int paged = sized && is.page && page.length == is.page;
+        int erased = paged && blank(page, is.page / s.m), spare = paged && stray(page, is.page / s.m);
         switch (call) {
         case 0:
             r = gii_sheet_write(&s, once_in(9) ? (uint32_t)any() : below(66), other.bytes, other.length, page.bytes, page.length);
-            good = kept(other) && (r == 0 || (refused(r) && kept(page)));
+            good = kept(other) && (r == 0 || kept(page));
+            good = good && (refused(r) || (paged && r == (is_ones(&s, is, other) ? GII_BLANK_BLOCKS : GII_DONE)));
             break;
         case 1:
             r = gii_sheet_read_out(&s, page.bytes, page.length, other.bytes, other.length);
-            good = kept(page) && (verdict(r) || (refused(r) && kept(other)));
+            good = kept(page) && (refused(r) ? kept(other) : verdict(r) && (erased || !spare));
+            good = good && (r == GII_BLANK ? erased && is_ones(&s, is, other) : !erased || r == GII_BLOCKS);
             break;
         case 2:
             r = gii_sheet_judge(&s, page.bytes, page.length);
-            good = kept(page) && (verdict(r) || refused(r));
+            good = kept(page) && (refused(r) || (verdict(r) && (erased || !spare))) && (r == GII_BLANK) == erased;
             break;
         case 3:
             r = gii_sheet_syndromes(&s, page.bytes, page.length, index, other.bytes, other.length);
-            good = kept(page) && (r == 0 || (refused(r) && kept(other)));
+            good = kept(page) && (r == 0 ? !spare : refused(r) && kept(other));
             break;
         case 4:
             r = gii_sheet_nested_syndromes(&s, page.bytes, page.length, index, other.bytes, other.length);
-            good = kept(page) && (r == 0 || (refused(r) && kept(other)));
+            good = kept(page) && (r == 0 ? !spare : refused(r) && kept(other));
             break;
         default:
             r = gii_sheet_quote(&s, other.bytes, other.length);

@@ -13,11 +13,29 @@
 #define PAINT 0xA5
 
 static const struct gii_sheet sheet = {12, 8, 3, {28, 32, 39, 58}};
-static uint8_t blocks[GII_BLOCKS_MAX], page[GII_PAGE_MAX], back[GII_BLOCKS_MAX], list[GII_LIST_MAX], quote[GII_QUOTE_BYTES];
+static uint8_t blocks[GII_BLOCKS_MAX], page[GII_PAGE_MAX], erased[GII_PAGE_MAX], back[GII_BLOCKS_MAX], list[GII_LIST_MAX];
+static uint8_t quote[GII_QUOTE_BYTES];
 static size_t blocks_len, page_len;
-static const char *const names[] = {"nothing",   "write, L = 64",    "write, L = 1", "judge",      "read out",
-                                    "syndromes", "nested syndromes", "quote",        "page bytes", "data bytes",
-                                    "distance"};
+/* Each call, and the answer that is expected of it. */
+static const struct {
+    const char *name;
+    uint32_t expected;
+} calls[] = {
+    {"nothing", 0},
+    {"write, L = 64", GII_DONE},
+    {"write, L = 1", GII_DONE},
+    {"judge", GII_MEMBER},
+    {"read out", GII_MEMBER},
+    {"syndromes", GII_DONE},
+    {"nested syndromes", GII_DONE},
+    {"quote", GII_DONE},
+    {"page bytes", 0},
+    {"data bytes", 0},
+    {"distance", 0},
+    {"judge, a blank page", GII_BLANK},
+    {"read out, a blank page", GII_BLANK},
+    {"write, its blocks", GII_BLANK_BLOCKS},
+};
 static size_t call;
 static uint32_t answer;
 
@@ -37,6 +55,9 @@ static void *run(void *unused)
     case 8: answer = gii_sheet_page_bytes(&sheet) == 0; break;
     case 9: answer = gii_sheet_data_bytes(&sheet) == 0; break;
     case 10: answer = gii_sheet_distance(&sheet) == 0; break;
+    case 11: answer = gii_sheet_judge(&sheet, erased, page_len); break;
+    case 12: answer = gii_sheet_read_out(&sheet, erased, page_len, back, blocks_len); break;
+    case 13: answer = gii_sheet_write(&sheet, 64, back, blocks_len, page, page_len); break;
     }
     return NULL;
 }
@@ -65,15 +86,18 @@ int main(void)
     int over = 0;
     blocks_len = gii_sheet_data_bytes(&sheet);
     page_len = gii_sheet_page_bytes(&sheet);
-    for (call = 0; call < sizeof names / sizeof *names; call++) {
+    memset(erased, 0xFF, sizeof erased);
+    for (call = 0; call < sizeof calls / sizeof *calls; call++) {
         size_t bytes = used();
         if (call == 0)
             own = bytes;
         else
-            printf("stack of %s: %zu bytes%s\n", names[call], bytes - own, bytes - own > LIMIT ? ", above the limit" : "");
+            printf("stack of %s: %zu bytes%s\n", calls[call].name, bytes - own, bytes - own > LIMIT ? ", above the limit" : "");
         over = over || bytes - own > LIMIT;
-        if (answer != 0)
+        if (answer != calls[call].expected) {
+            printf("%s answers %u\n", calls[call].name, (unsigned)answer);
             return 1;
+        }
     }
     return over;
 }

@@ -1,7 +1,7 @@
 /*
- * The C functions at work: a sheet is quoted, a page is written, judged, damaged, judged and read out, and every refusal is
- * shown to leave its buffers. Every length comes from the calls. Prints what it does; the first surprise ends it with
- * status 1.
+ * The C functions at work: a sheet is quoted, a page is written, judged, damaged, judged and read out, an erased page is
+ * known as blank, and every refusal is shown to leave its buffers. Every length comes from the calls. Prints what it does;
+ * the first surprise ends it with status 1.
  *
  *   rt staticlib gii_bch
  *   cc -O2 -Iinclude examples/c/demo.c target/staticlib/libgii_bch.a -o target/demo && target/demo
@@ -130,6 +130,54 @@ static void round_trip(const struct gii_sheet *s)
     }
 }
 
+/* A page as it is delivered, every byte FF; and the blocks that it has, which are not written. */
+static void erased_page(const struct gii_sheet *s)
+{
+    static uint8_t page[GII_PAGE_MAX], other[GII_PAGE_MAX], ones[GII_BLOCKS_MAX], out[GII_BLOCKS_MAX];
+    size_t blocks_len = gii_sheet_data_bytes(s), page_len = gii_sheet_page_bytes(s), sub_word = page_len / s->m, k;
+    uint8_t list[GII_LIST_MAX], quote[GII_QUOTE_BYTES];
+    uint32_t number, i, r, bits;
+
+    memset(page, 0xFF, page_len);
+    must(gii_sheet_judge(s, page, page_len) == GII_BLANK, "an erased page is blank");
+    memset(ones, 0xA5, sizeof ones);
+    must(gii_sheet_read_out(s, page, page_len, ones, blocks_len) == GII_BLANK, "read out says so too");
+    print_bytes("blocks", ones, blocks_len);
+    must(gii_sheet_quote(s, quote, sizeof quote) == GII_DONE, "quoted");
+    memset(out, 0, sizeof out);
+    for (i = 0, k = 0; i < s->m; i++, k += (bits + 7) / 8) {
+        bits = gii_number(quote, GII_QUOTE_DATA_BITS(i));
+        for (r = 0; r < bits; r++)
+            out[k + r / 8] |= (uint8_t)(1u << r % 8);
+    }
+    must(memcmp(out, ones, blocks_len) == 0, "every data bit is 1, every unused bit 0");
+    must(gii_sheet_syndromes(s, page, page_len, 0, list, GII_LIST_BYTES(s->t[0])) == GII_STRAY,
+         "its syndromes are refused: its spare bits are 1");
+
+    for (i = 0; i < s->m; i++) {
+        page[(i + 1) * sub_word - 1] = 0x7F;
+        must(gii_sheet_judge(s, page, page_len) == GII_BLANK, "a spare bit cleared: blank");
+        memset(out, 0xA5, sizeof out);
+        must(gii_sheet_read_out(s, page, page_len, out, blocks_len) == GII_BLANK, "read out says so too");
+        must(memcmp(out, ones, blocks_len) == 0, "the same blocks");
+    }
+    for (i = 0; i < s->m; i++) {
+        memcpy(other, page, page_len);
+        other[i * sub_word] ^= 0x01;
+        must(gii_sheet_judge(s, other, page_len) == GII_SUB_WORD + i, "one coefficient 0: not blank, its sub-word fails");
+    }
+
+    memset(page, 0xA5, page_len);
+    memcpy(other, page, page_len);
+    number = gii_sheet_write(s, 64, ones, blocks_len, page, page_len);
+    must(number == GII_BLANK_BLOCKS && GII_IS_REFUSAL(number), "blocks of all ones are refused");
+    must(memcmp(page, other, page_len) == 0, "every byte of the page stays");
+    ones[0] ^= 0x01;
+    must(gii_sheet_write(s, 64, ones, blocks_len, page, page_len) == GII_DONE, "one data bit cleared: written");
+    must(gii_sheet_read_out(s, page, page_len, out, blocks_len) == GII_MEMBER, "the page is a member");
+    must(memcmp(out, ones, blocks_len) == 0, "the blocks come back");
+}
+
 /* A quote that is known number for number, and known sizes. */
 static void known_quote(void)
 {
@@ -155,14 +203,17 @@ static void known_pages(void)
 {
     static const struct gii_sheet a = {4, 2, 1, {1, 2, 0, 0}};
     static const uint8_t blocks[3] = {0x01, 0x01, 0x00}, page[4] = {0xC2, 0x01, 0x13, 0x00};
-    static const uint8_t ones[4] = {0xFF, 0x7F, 0xFF, 0x7F}, one[4] = {0x01}, multiple[4] = {0x13};
-    static const uint8_t second[4] = {0x02}, syndromes[8] = {2, 0, 4, 0, 8, 0, 3, 0};
+    static const uint8_t one[4] = {0x01}, multiple[4] = {0x13}, second[4] = {0x02}, syndromes[8] = {2, 0, 4, 0, 8, 0, 3, 0};
+    static const uint8_t erased[4] = {0xFF, 0xFF, 0xFF, 0xFF}, clear[4] = {0xFF, 0x7F, 0xFF, 0x7F}, ones[3] = {0x7F, 0xFF, 0x07};
     uint8_t out[4], list[8];
 
     printf("known pages of q 4, m 2, v 1, t 1, 2\n");
     must(gii_sheet_write(&a, 8, blocks, sizeof blocks, out, sizeof out) == GII_DONE, "blocks 01 / 01 00 written");
     must(memcmp(out, page, sizeof page) == 0, "page C2 01 13 00");
-    must(gii_sheet_judge(&a, ones, sizeof ones) == GII_MEMBER, "FF 7F FF 7F is a member");
+    must(gii_sheet_judge(&a, erased, sizeof erased) == GII_BLANK, "FF FF FF FF is blank");
+    must(gii_sheet_judge(&a, clear, sizeof clear) == GII_BLANK, "FF 7F FF 7F is blank");
+    must(gii_sheet_read_out(&a, erased, sizeof erased, out, sizeof ones) == GII_BLANK, "FF FF FF FF read out");
+    must(memcmp(out, ones, sizeof ones) == 0, "blocks 7F / FF 07");
     must(gii_sheet_judge(&a, one, sizeof one) == GII_SUB_WORD + 0, "01 00 00 00: sub-word 0 fails");
     must(gii_sheet_judge(&a, multiple, sizeof multiple) == GII_NESTED_WORD + 0, "13 00 00 00: nested word 0 fails");
     must(gii_sheet_nested_syndromes(&a, second, sizeof second, 0, list, sizeof list) == GII_DONE, "syndromes of 02 00");
@@ -225,7 +276,7 @@ static void refusals(void)
     static const struct gii_sheet strengths = {4, 2, 1, {2, 2, 0, 0}}, clash = {4, 4, 2, {1, 2, 3, 0}};
     static const struct gii_sheet greatest = {UINT32_MAX, UINT32_MAX, UINT32_MAX, {UINT32_MAX, UINT32_MAX, UINT32_MAX, UINT32_MAX}};
     const size_t data = gii_sheet_data_bytes(&a), page = gii_sheet_page_bytes(&a);
-    struct lent fits, stray;
+    struct lent fits, stray, ones, ones_stray, erased;
     int call;
 
     memset(&fits, 0x35, sizeof fits);
@@ -233,6 +284,13 @@ static void refusals(void)
     stray = fits;
     stray.blocks[data - 1] = 0x85;
     stray.page[page / a.m - 1] = 0x80;
+    ones = fits;
+    ones.blocks[0] = 0x7F;
+    ones.blocks[1] = 0xFF;
+    ones.blocks[2] = 0x07;
+    ones_stray = ones;
+    ones_stray.blocks[2] = 0x87;
+    memset(&erased, 0xFF, sizeof erased);
 
     printf("refusals\n");
     for (call = WRITE; call <= QUOTE; call++) {
@@ -248,22 +306,28 @@ static void refusals(void)
         if (c == WRITE) {
             refused(c, &a, 0, data, page, list, &fits, GII_WIDTH, "width 0");
             refused(c, &a, 65, data, page, list, &fits, GII_WIDTH, "width 65");
+            refused(c, &a, number, data, page, list, &ones, GII_BLANK_BLOCKS, "every data bit 1");
+            refused(c, &a, number, data, page - 1, list, &ones, GII_PAGE, "page and every data bit 1");
+            refused(c, &a, number, data, page, list, &ones_stray, GII_STRAY, "stray and every data bit 1");
         }
         if (c == WRITE || c == READ_OUT) {
             refused(c, &a, number, data - 1, page, list, &fits, GII_BLOCKS, "a byte of blocks less");
             refused(c, &a, number, data + 1, page, list, &fits, GII_BLOCKS, "a byte of blocks more");
             refused(c, &a, number, 0, page, list, &fits, GII_BLOCKS, "no blocks");
+            refused(c, &a, number, data - 1, page, list, &erased, GII_BLOCKS, "erased, a byte of blocks less");
         }
         if (c != QUOTE) {
             refused(c, &a, number, data, page - 1, list, &fits, GII_PAGE, "a byte of page less");
             refused(c, &a, number, data, page + 1, list, &fits, GII_PAGE, "a byte of page more");
             refused(c, &a, number, data, 0, list, &fits, GII_PAGE, "no page");
+            refused(c, &a, number, data, page - 1, list, &erased, GII_PAGE, "erased, a byte of page less");
             refused(c, &a, number, data, page, list, &stray, GII_STRAY, "a stray bit");
             refused(c, &a, number, data, 0, 0, &stray, GII_PAGE, "page, stray and list");
         }
         if (c == SYNDROMES || c == NESTED_SYNDROMES) {
             refused(c, &a, c == SYNDROMES ? a.m : a.v, data, page, list, &fits, GII_INDEX, "no such word");
             refused(c, &a, UINT32_MAX, data, page, 0, &stray, GII_STRAY, "stray, index and list");
+            refused(c, &a, 0, data, page, list, &erased, GII_STRAY, "an erased page");
         }
         if (c == SYNDROMES || c == NESTED_SYNDROMES || c == QUOTE) {
             refused(c, &a, 0, data, page, list - 1, &fits, GII_LIST, "a byte of list less");
@@ -292,7 +356,8 @@ static void header(void)
     must(strcmp(version, GII_BCH_VERSION) == 0, "version " GII_BCH_VERSION);
     must(gii_sheet_page_bytes(&most) == GII_PAGE_MAX && gii_sheet_data_bytes(&most) == GII_BLOCKS_MAX, "the most bytes");
     must(GII_LIST_BYTES(64) == GII_LIST_MAX, "the longest list");
-    must(!GII_IS_REFUSAL(GII_DONE) && !GII_IS_REFUSAL(GII_SUB_WORD) && !GII_IS_REFUSAL(UINT32_MAX), "no refusals");
+    must(!GII_IS_REFUSAL(GII_DONE) && !GII_IS_REFUSAL(GII_SUB_WORD) && !GII_IS_REFUSAL(GII_BLANK) && !GII_IS_REFUSAL(UINT32_MAX),
+         "no refusals");
 }
 
 int main(void)
@@ -307,8 +372,10 @@ int main(void)
     header();
     known_quote();
     known_pages();
-    for (k = 0; k < sizeof sheets / sizeof *sheets; k++)
+    for (k = 0; k < sizeof sheets / sizeof *sheets; k++) {
         round_trip(&sheets[k]);
+        erased_page(&sheets[k]);
+    }
     refusals();
     printf("all as expected\n");
     return 0;

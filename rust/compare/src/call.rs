@@ -44,7 +44,7 @@ impl Name {
         self != Name::Judge && !self.is_size()
     }
 
-    /// The number that a call gives where a condition refuses it: the condition's, and no size.
+    /// The number that a call gives where a condition is the first that it meets: the condition's, and no size.
     pub fn refused_by(self, condition: u32) -> u32 {
         if self.is_size() { 0 } else { condition }
     }

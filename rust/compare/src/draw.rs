@@ -2,11 +2,12 @@
 
 use crate::call::{Call, NAMES, Name};
 use reference::Parameters;
-use reference::calls::QUOTE_BYTES;
+use reference::calls::{BLANK, QUOTE_BYTES};
 use reference::layout::{bit, set};
 use reference::parameters::Sheet;
 use reference::sample::Random;
 use std::io::Write;
+use std::iter::repeat_with;
 
 /// The seed: GII_SEED, or 1.
 pub fn seed() -> u64 {
@@ -20,7 +21,7 @@ pub fn say(line: &str) {
 }
 
 /// The length of the lent list of syndromes.
-fn list_bytes(p: &Parameters, name: Name, index: u32) -> usize {
+pub fn list_bytes(p: &Parameters, name: Name, index: u32) -> usize {
     let t = match name {
         Name::NestedSyndromes => p.t[(p.v - index) as usize],
         _ => p.t[0],
@@ -28,17 +29,16 @@ fn list_bytes(p: &Parameters, name: Name, index: u32) -> usize {
     4 * t as usize
 }
 
-/// A page of the sheet: a member, or one damaged in some way.
+/// A page of the sheet, spare bits clear: a member, or a blank page, or one damaged in some way.
 pub fn page(random: &mut Random, p: &Parameters) -> Vec<u8> {
     let sheet = Sheet::of(p);
     let mut page = match random.from_to(0, 9) {
         0 => vec![0; sheet.page_bytes()],
-        1 => vec![0xFF; sheet.page_bytes()],
+        1 => sheet.erased(0),
         2 => random.bytes(sheet.page_bytes()),
         _ => {
-            let blocks = random.blocks(&sheet);
             let mut page = vec![0; sheet.page_bytes()];
-            assert_eq!(reference::calls::write(p, 1, &blocks, &mut page), 0);
+            sheet.put_page(&sheet.encode(&sheet.words_of_blocks(&random.blocks(&sheet))), &mut page);
             page
         }
     };
@@ -73,11 +73,17 @@ pub fn break_nested(random: &mut Random, sheet: &Sheet, page: &mut [u8]) {
     factors.iter().for_each(|&(i, shift)| add(i, shift));
 }
 
+/// Blocks that fit and are not all ones, which write refuses.
+fn writable(random: &mut Random, sheet: &Sheet) -> Vec<u8> {
+    let ones = sheet.ones();
+    repeat_with(|| random.blocks(sheet)).find(|blocks| *blocks != ones).unwrap()
+}
+
 /// A call that is not refused.
 pub fn exact(random: &mut Random, name: Name, p: &Parameters) -> Call {
     let sheet = Sheet::of(p);
     let (number, read, lent) = match name {
-        Name::Write => (random.from_to(1, 64), random.blocks(&sheet), sheet.page_bytes()),
+        Name::Write => (random.from_to(1, 64), writable(random, &sheet), sheet.page_bytes()),
         Name::ReadOut => (0, page(random, p), sheet.blocks_bytes()),
         Name::Judge => (0, page(random, p), 0),
         Name::Syndromes => (random.from_to(0, sheet.m - 1), page(random, p), 0),
@@ -93,12 +99,12 @@ pub fn exact(random: &mut Random, name: Name, p: &Parameters) -> Call {
     Call { name, p: *p, number, read, lent: random.bytes(lent) }
 }
 
-/// The conditions that a call can meet.
+/// The conditions that a call can meet, in the order in which they are tested. That a page is blank is no refusal.
 pub fn conditions(name: Name) -> &'static [u32] {
     match name {
-        Name::Write => &[1, 2, 3, 4, 5, 6, 7, 8],
-        Name::ReadOut => &[1, 2, 3, 4, 6, 7, 8],
-        Name::Judge => &[1, 2, 3, 4, 7, 8],
+        Name::Write => &[1, 2, 3, 4, 5, 6, 7, 8, 13],
+        Name::ReadOut => &[1, 2, 3, 4, 6, 7, BLANK, 8],
+        Name::Judge => &[1, 2, 3, 4, 7, BLANK, 8],
         Name::Syndromes | Name::NestedSyndromes => &[1, 2, 3, 4, 7, 8, 9, 10],
         Name::Quote => &[1, 2, 3, 4, 10],
         Name::PageBytes | Name::DataBytes | Name::Distance => &[1, 2, 3, 4],
@@ -107,8 +113,8 @@ pub fn conditions(name: Name) -> &'static [u32] {
 
 const GREATEST: u32 = u32::MAX;
 
-/// Makes an exact call meet a condition, whatever greater ones it has been made to meet before; false if it cannot be
-/// made to. Greater conditions may come to be met with it.
+/// Makes an exact call meet a condition, whatever later ones it has been made to meet before; false if it cannot be made to.
+/// Later conditions may come to be met with it.
 pub fn spoil(random: &mut Random, call: &mut Call, condition: u32) -> bool {
     let sheet = call.p.accepted().then(|| Sheet::of(&call.p));
     let p = &mut call.p;
@@ -148,17 +154,27 @@ pub fn spoil(random: &mut Random, call: &mut Call, condition: u32) -> bool {
             _ => cut(random, &mut call.read),
         },
         8 => {
-            let places = stray_places(&sheet.unwrap(), call.name);
+            let sheet = sheet.unwrap();
+            let places = stray_places(&sheet, call.name);
             if places.is_empty() {
                 return false;
             }
             set(&mut call.read, places[random.from_to(0, places.len() - 1)]);
+            if conditions(call.name).contains(&BLANK) && sheet.blank(&call.read) {
+                flip(&mut call.read, random.place(&sheet));
+            }
         }
         9 => {
             let end = if call.name == Name::Syndromes { p.m } else { p.v };
             call.number = any_of(random, &[end, end + 1, end.max(8), 255, 256, 1 << 31, GREATEST]);
         }
-        _ => cut(random, &mut call.lent),
+        10 => cut(random, &mut call.lent),
+        13 => call.read = sheet.unwrap().ones(),
+        BLANK => {
+            let spare = random.from_to(0, 255);
+            call.read.iter_mut().zip(sheet.unwrap().erased(spare)).for_each(|(byte, ones)| *byte |= ones);
+        }
+        _ => panic!("no condition {condition}"),
     }
     true
 }
@@ -185,10 +201,7 @@ fn cut(random: &mut Random, bytes: &mut Vec<u8>) {
 fn stray_places(sheet: &Sheet, name: Name) -> Vec<usize> {
     match name {
         Name::Write => {
-            let mut used = vec![0; sheet.blocks_bytes()];
-            for i in 0..sheet.m {
-                (0..sheet.block_bits(i)).for_each(|r| set(&mut used, sheet.block_start(i) + r));
-            }
+            let used = sheet.ones();
             (0..8 * used.len()).filter(|&place| !bit(&used, place)).collect()
         }
         _ => (1..=sheet.m).map(|i| i * (sheet.field.n + 1) - 1).collect(),

@@ -1,8 +1,9 @@
-//! Accepted parameters: every call on members and damaged pages, archive and reference alike.
+//! Accepted parameters: every call on members, damaged pages and blank pages, archive and reference alike.
 
 use compare::call::{Call, NAMES, Name};
-use compare::draw::{break_nested, exact, flip, say, seed};
+use compare::draw::{break_nested, exact, flip, list_bytes, say, seed};
 use reference::Parameters;
+use reference::calls::BLANK;
 use reference::parameters::Sheet;
 use reference::sample::{Random, all_parameters};
 use std::collections::BTreeSet;
@@ -22,13 +23,25 @@ impl Run {
         Run { random, sheets: 0, calls: 0, widths: BTreeSet::new(), verdicts: BTreeSet::new() }
     }
 
-    fn compare(&mut self, call: &Call) -> (u32, Vec<u8>) {
+    /// The number and the lent bytes of a call, on which both sides agree.
+    fn both(&mut self, call: &Call) -> (u32, Vec<u8>) {
         self.calls += 1;
         let shift = self.random.from_to(0, 255);
-        let (number, lent) =
-            call.compare(shift).unwrap_or_else(|found| panic!("seed {}, call {}: {found}", seed(), self.calls));
+        call.compare(shift).unwrap_or_else(|found| panic!("seed {}, call {}: {found}", seed(), self.calls))
+    }
+
+    /// The same of a call that is not refused.
+    fn compare(&mut self, call: &Call) -> (u32, Vec<u8>) {
+        let (number, lent) = self.both(call);
         assert!(!call.name.refuses(number), "{:?} of {:?} is refused by {number}", call.name, call.p);
         (number, lent)
+    }
+
+    /// The same of a call that is refused by this number, and leaves every byte.
+    fn refused(&mut self, call: &Call, number: u32) {
+        let (answer, lent) = self.both(call);
+        assert_eq!(answer, number, "{:?} of {:?}", call.name, call.p);
+        assert_eq!(lent, call.lent, "{:?} of {:?}", call.name, call.p);
     }
 
     /// Write at some widths, then judge, read out and syndromes of the page and of pages damaged in many ways.
@@ -56,9 +69,10 @@ impl Run {
             break_nested(&mut self.random, &sheet, &mut damaged);
             self.page(p, damaged);
         }
-        let mut ones = vec![0xFF; sheet.page_bytes()];
-        ones.chunks_mut(sheet.sub_word_bytes()).for_each(|bytes| *bytes.last_mut().unwrap() = 0x7F);
-        self.page(p, ones);
+        let spare = self.random.from_to(0, 255);
+        self.blank_page(p, &sheet.erased(spare));
+        (call.number, call.read) = (self.random.from_to(1, 64) as u32, sheet.ones());
+        self.refused(&call, 13);
         for _ in 0..pages {
             let drawn = compare::draw::page(&mut self.random, p);
             self.page(p, drawn);
@@ -71,22 +85,94 @@ impl Run {
 
     /// Every call that reads this page; of the syndromes two sub-words and all nested words.
     fn page(&mut self, p: &Parameters, page: Vec<u8>) {
-        let lent = |random: &mut Random, length: usize| random.bytes(length);
-        let blocks = lent(&mut self.random, Sheet::of(p).blocks_bytes());
-        let mut call = Call { name: Name::ReadOut, p: *p, number: 0, read: page, lent: blocks };
-        let verdict = self.compare(&call).0;
-        (call.name, call.lent) = (Name::Judge, Vec::new());
-        assert_eq!(self.compare(&call).0, verdict);
+        let read_out = self.on_page(Name::ReadOut, p, &page, 0);
+        let verdict = self.compare(&read_out).0;
+        let judge = self.on_page(Name::Judge, p, &page, 0);
+        assert_eq!(self.compare(&judge).0, verdict);
         self.verdicts.insert(verdict);
         for _ in 0..2 {
-            (call.name, call.number) = (Name::Syndromes, self.random.from_to(0, p.m as usize - 1) as u32);
-            call.lent = lent(&mut self.random, 4 * p.t[0] as usize);
-            self.compare(&call);
+            let index = self.random.from_to(0, p.m as usize - 1) as u32;
+            let syndromes = self.on_page(Name::Syndromes, p, &page, index);
+            self.compare(&syndromes);
         }
         for l in 0..p.v {
-            (call.name, call.number) = (Name::NestedSyndromes, l);
-            call.lent = lent(&mut self.random, 4 * p.t[(p.v - l) as usize] as usize);
-            self.compare(&call);
+            let syndromes = self.on_page(Name::NestedSyndromes, p, &page, l);
+            self.compare(&syndromes);
+        }
+    }
+
+    /// A call that reads this page, lent drawn bytes of exact length.
+    fn on_page(&mut self, name: Name, p: &Parameters, page: &[u8], index: u32) -> Call {
+        let lent = match name {
+            Name::ReadOut => Sheet::of(p).blocks_bytes(),
+            Name::Judge => 0,
+            _ => list_bytes(p, name, index),
+        };
+        Call { name, p: *p, number: index, read: page.to_vec(), lent: self.random.bytes(lent) }
+    }
+
+    /// Judge and read out on a blank page.
+    fn blank_page(&mut self, p: &Parameters, page: &[u8]) {
+        let judge = self.on_page(Name::Judge, p, page, 0);
+        assert_eq!(self.compare(&judge).0, BLANK, "{p:?}");
+        let read_out = self.on_page(Name::ReadOut, p, page, 0);
+        assert_eq!(self.compare(&read_out), (BLANK, Sheet::of(p).ones()), "{p:?}");
+        self.verdicts.insert(BLANK);
+    }
+
+    /// Blank pages with every set of spare bits, and pages with one coefficient 0; at some widths blocks of ones, and blocks
+    /// with one data bit 0.
+    fn blank(&mut self, p: &Parameters, widths: &[u32]) {
+        let sheet = Sheet::of(p);
+        let (m, n, every) = (sheet.m, sheet.field.n, (1 << sheet.m) - 1);
+        for spare in 0..=every {
+            self.blank_page(p, &sheet.erased(spare));
+        }
+        // The syndromes' calls know no blank page.
+        for spare in [0, 1 << self.random.from_to(0, m - 1), every] {
+            let indices = (0..p.m).map(|i| (Name::Syndromes, i)).chain((0..p.v).map(|l| (Name::NestedSyndromes, l)));
+            for (name, index) in indices {
+                let call = self.on_page(name, p, &sheet.erased(spare), index);
+                if spare == 0 {
+                    assert_eq!(self.compare(&call).1, vec![0; call.lent.len()], "{p:?}");
+                } else {
+                    self.refused(&call, 8);
+                }
+            }
+        }
+        for i in 0..m {
+            for k in [0, n - 1, self.random.from_to(0, n - 1)] {
+                for spare in [0, self.random.from_to(1, every)] {
+                    let mut page = sheet.erased(spare);
+                    flip(&mut page, i * (n + 1) + k);
+                    for name in [Name::Judge, Name::ReadOut] {
+                        let call = self.on_page(name, p, &page, 0);
+                        if spare == 0 {
+                            assert_eq!(self.compare(&call).0, 32 + i as u32, "{p:?}");
+                        } else {
+                            self.refused(&call, 8);
+                        }
+                    }
+                }
+            }
+        }
+
+        let mut write = exact(&mut self.random, Name::Write, p);
+        for &width in widths {
+            (write.number, write.read) = (width, sheet.ones());
+            self.refused(&write, 13);
+            let i = self.random.from_to(0, m - 1);
+            flip(&mut write.read, sheet.block_start(i) + self.random.from_to(0, sheet.block_bits(i) - 1));
+            self.compare(&write);
+        }
+        for i in 0..m {
+            for r in [0, sheet.block_bits(i) - 1] {
+                (write.number, write.read) = (self.random.from_to(1, 64) as u32, sheet.ones());
+                flip(&mut write.read, sheet.block_start(i) + r);
+                let page = self.compare(&write).1;
+                let judge = self.on_page(Name::Judge, p, &page, 0);
+                assert_eq!(self.compare(&judge).0, 0, "{p:?}");
+            }
         }
     }
 
@@ -116,10 +202,12 @@ fn every_sheet_of_q_4() {
     let mut run = Run::new(4);
     let all = all_parameters(4, 8);
     assert_eq!(all.len(), 104);
+    let widths: Vec<u32> = (1..=64).collect();
     for p in &all {
-        run.sheet(p, &(1..=64).collect::<Vec<_>>(), 40);
+        run.sheet(p, &widths, 40);
+        run.blank(p, &widths);
     }
-    run.end("q = 4", &[0, 32, 33, 34, 35, 36, 64, 65, 66]);
+    run.end("q = 4", &[0, 32, 33, 34, 35, 36, 64, 65, 66, BLANK]);
 }
 
 #[test]
@@ -135,13 +223,18 @@ fn sheets_of_q_8() {
         (8, 3, [1, 2, 2, 2]),
         (8, 1, [16, 17, 0, 0]),
     ] {
-        run.sheet(&Parameters { q: 8, m, v, t }, &[1, 8, 63, 64], 4);
+        let p = Parameters { q: 8, m, v, t };
+        run.sheet(&p, &[1, 8, 63, 64], 4);
+        run.blank(&p, &[1, 8, 63, 64]);
     }
     for k in 0..count(3000) {
         let p = run.random.parameters(8);
         run.sheet(&p, &Run::widths_of(k, 4), 4);
+        if k % 150 == 0 {
+            run.blank(&p, &Run::widths_of(k / 150, 4));
+        }
     }
-    run.end("q = 8", &[0, 32, 33, 34, 35, 36, 37, 38, 39, 64, 65, 66]);
+    run.end("q = 8", &[0, 32, 33, 34, 35, 36, 37, 38, 39, 64, 65, 66, BLANK]);
 }
 
 #[test]
@@ -149,11 +242,16 @@ fn sheets_of_q_12() {
     let mut run = Run::new(12);
     for (m, v, t) in [(8, 3, [28, 32, 39, 58]), (8, 3, [61, 62, 63, 64]), (2, 1, [63, 64, 0, 0]), (8, 3, [1, 2, 2, 2])]
     {
-        run.sheet(&Parameters { q: 12, m, v, t }, &[1, 7, 8, 32, 63, 64], 4);
+        let p = Parameters { q: 12, m, v, t };
+        run.sheet(&p, &[1, 7, 8, 32, 63, 64], 4);
+        run.blank(&p, &[1, 7, 8, 32, 63, 64]);
     }
     for k in 0..count(1500) {
         let p = run.random.parameters(12);
         run.sheet(&p, &Run::widths_of(k, 2), 2);
+        if k % 300 == 0 {
+            run.blank(&p, &Run::widths_of(k / 300, 2));
+        }
     }
-    run.end("q = 12", &[0, 32, 33, 34, 35, 36, 37, 38, 39, 64, 65, 66]);
+    run.end("q = 12", &[0, 32, 33, 34, 35, 36, 37, 38, 39, 64, 65, 66, BLANK]);
 }

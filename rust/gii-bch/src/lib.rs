@@ -22,6 +22,9 @@
 //! # Ok::<(), gii_bch::Refusal>(())
 //! ```
 //!
+//! A page is *blank* when every coefficient of every sub-word is 1, whatever its spare bits are: so boards are delivered,
+//! erased, every byte FF. A blank page is no member, and none is ever written.
+//!
 //! `build.rs` links the archive that the variable `GII_ARCHIVE` names (a path from `rust/`), or
 //! `target/staticlib/libgii_bch.a` of the repository, which `rt staticlib gii_bch` makes. It is for x86-64 and takes at
 //! most 32 KiB of stack a call. Calls may run at once in several threads.
@@ -101,6 +104,8 @@ pub enum Verdict {
     SubWord(u32),
     /// Every sub-word is a multiple of g_0; this nested word l is the lowest that is no multiple of g_(v−l).
     NestedWord(u32),
+    /// Blank: every coefficient is 1, whatever the spare bits are.
+    Blank,
 }
 
 /// Why a call was refused: the least of the conditions that it met. Every byte lent to it is as it was.
@@ -127,9 +132,11 @@ pub enum Refusal {
     Index = 9,
     /// The list's length is not exact.
     List = 10,
+    /// The page of the blocks would be blank: every data bit is 1.
+    Blank = 13,
 }
 
-const REFUSALS: [Refusal; 10] = [
+const REFUSALS: [Refusal; 11] = [
     Refusal::Field,
     Refusal::Shape,
     Refusal::Strengths,
@@ -140,19 +147,24 @@ const REFUSALS: [Refusal; 10] = [
     Refusal::Stray,
     Refusal::Index,
     Refusal::List,
+    Refusal::Blank,
 ];
 
 const SUB_WORD: u32 = 32;
 const NESTED_WORD: u32 = 64;
+const BLANK: u32 = 96;
 
 /// The archive's number by name.
 fn answer(number: u32) -> Result<Verdict, Refusal> {
     match number {
         0 => Ok(Verdict::Member),
-        1..=10 => Err(REFUSALS[number as usize - 1]),
         SUB_WORD..=39 => Ok(Verdict::SubWord(number - SUB_WORD)),
         NESTED_WORD..=66 => Ok(Verdict::NestedWord(number - NESTED_WORD)),
-        _ => panic!("the archive answers {number}, which this version does not know"),
+        BLANK => Ok(Verdict::Blank),
+        _ => match REFUSALS.into_iter().find(|refusal| refusal.number() == number) {
+            Some(refusal) => Err(refusal),
+            None => panic!("the archive answers {number}, which this version does not know"),
+        },
     }
 }
 
@@ -162,18 +174,19 @@ fn done(number: u32) -> Result<(), Refusal> {
 }
 
 impl Verdict {
-    /// The number of `enum gii_answer`: 0, 32 + i or 64 + l.
+    /// The number of `enum gii_answer`: 0, 32 + i, 64 + l or 96.
     pub fn number(self) -> u32 {
         match self {
             Verdict::Member => 0,
             Verdict::SubWord(i) => SUB_WORD + i,
             Verdict::NestedWord(l) => NESTED_WORD + l,
+            Verdict::Blank => BLANK,
         }
     }
 }
 
 impl Refusal {
-    /// The number of `enum gii_answer`, 1 to 10.
+    /// The number of `enum gii_answer`: 1 to 10, or 13.
     pub fn number(self) -> u32 {
         self as u32
     }
@@ -185,6 +198,7 @@ impl fmt::Display for Verdict {
             Verdict::Member => f.write_str("a member"),
             Verdict::SubWord(i) => write!(f, "sub-word {i} fails"),
             Verdict::NestedWord(l) => write!(f, "nested word {l} fails"),
+            Verdict::Blank => f.write_str("blank"),
         }
     }
 }
@@ -202,6 +216,7 @@ impl fmt::Display for Refusal {
             Refusal::Stray => "a spare or unused bit is 1",
             Refusal::Index => "no such sub-word or nested word",
             Refusal::List => "the list's length is not exact",
+            Refusal::Blank => "the page would be blank",
         })
     }
 }
@@ -329,24 +344,56 @@ impl Sheet {
     }
 
     /// The page of the blocks, check bits and all. `width` is the number of coefficients taken in a step, 1 to 64; it never
-    /// alters a byte. Refuses the parameters, the width, both lengths, an unused bit of the blocks.
+    /// alters a byte. Refuses the parameters, the width, both lengths, an unused bit of the blocks, blocks whose page would
+    /// be blank, which are those whose data bits are all 1.
+    ///
+    /// ```
+    /// # use gii_bch::{Refusal, Sheet, Verdict};
+    /// let sheet = Sheet::new(4, 2, 1, [1, 2, 0, 0]);
+    /// let mut page = [0xA5; 4];
+    /// assert_eq!(sheet.write(64, &[0x7F, 0xFF, 0x07], &mut page), Err(Refusal::Blank));
+    /// assert_eq!(page, [0xA5; 4]);
+    ///
+    /// sheet.write(64, &[0x7E, 0xFF, 0x07], &mut page)?;
+    /// assert_eq!(sheet.judge(&page)?, Verdict::Member);
+    /// # Ok::<(), gii_bch::Refusal>(())
+    /// ```
     pub fn write(&self, width: u32, blocks: &[u8], page: &mut [u8]) -> Result<(), Refusal> {
         done(call!(gii_write, self, width, blocks.as_ptr(), blocks.len(), page.as_mut_ptr(), page.len()))
     }
 
-    /// The data bits of the page, member or not, and what [`Sheet::judge`] gives for it. Nothing is corrected. Refuses the
-    /// parameters, both lengths, a spare bit of the page.
+    /// The data bits of the page, member or not, blank or not, and what [`Sheet::judge`] gives for it. Nothing is corrected.
+    /// Refuses the parameters, both lengths, a spare bit of a page that is not blank.
+    ///
+    /// ```
+    /// # use gii_bch::{Sheet, Verdict};
+    /// let sheet = Sheet::new(4, 2, 1, [1, 2, 0, 0]);
+    /// let mut blocks = [0xA5; 3];
+    /// // An erased page: every data bit is 1, and no spare bit comes with them.
+    /// assert_eq!(sheet.read_out(&[0xFF; 4], &mut blocks)?, Verdict::Blank);
+    /// assert_eq!(blocks, [0x7F, 0xFF, 0x07]);
+    /// # Ok::<(), gii_bch::Refusal>(())
+    /// ```
     pub fn read_out(&self, page: &[u8], blocks: &mut [u8]) -> Result<Verdict, Refusal> {
         answer(call!(gii_read_out, self, page.as_ptr(), page.len(), blocks.as_mut_ptr(), blocks.len()))
     }
 
-    /// Whether the page is a member of the code. Refuses the parameters, the length, a spare bit.
+    /// Whether the page is a member of the code. Refuses the parameters, the length, a spare bit of a page that is not blank.
+    ///
+    /// ```
+    /// # use gii_bch::{Refusal, Sheet, Verdict};
+    /// let sheet = Sheet::new(4, 2, 1, [1, 2, 0, 0]);
+    /// assert_eq!(sheet.judge(&[0xFF, 0xFF, 0xFF, 0xFF]), Ok(Verdict::Blank));
+    /// assert_eq!(sheet.judge(&[0xFF, 0x7F, 0xFF, 0x7F]), Ok(Verdict::Blank));
+    /// assert_eq!(sheet.judge(&[0xFE, 0x7F, 0xFF, 0x7F]), Ok(Verdict::SubWord(0)));
+    /// assert_eq!(sheet.judge(&[0xFE, 0xFF, 0xFF, 0xFF]), Err(Refusal::Stray));
+    /// ```
     pub fn judge(&self, page: &[u8]) -> Result<Verdict, Refusal> {
         answer(call!(gii_judge, self, page.as_ptr(), page.len()))
     }
 
     /// S_1 to S_(2 t_0) of sub-word `index`, two bytes a number, low byte first; [`numbers`] reads them. Refuses the
-    /// parameters, the page's length, a spare bit anywhere in the page, the index, the list's length.
+    /// parameters, the page's length, a spare bit anywhere in the page, blank or not, the index, the list's length.
     pub fn syndromes(&self, page: &[u8], index: u32, list: &mut [u8]) -> Result<(), Refusal> {
         done(call!(gii_syndromes, self, page.as_ptr(), page.len(), index, list.as_mut_ptr(), list.len()))
     }

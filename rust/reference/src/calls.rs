@@ -2,6 +2,9 @@
 
 use crate::parameters::{Condition, Parameters, Sheet, first};
 
+/// The answer to a blank page.
+pub const BLANK: u32 = 96;
+
 /// The refusal of a call: that of the parameters, or the first of its own conditions, which may take the sheet.
 fn refusal(p: &Parameters, conditions: &[Condition]) -> u32 {
     match p.refusal() {
@@ -24,34 +27,45 @@ pub fn write(p: &Parameters, width: u32, blocks: &[u8], page: &mut [u8]) -> u32 
     if refused != 0 {
         return refused;
     }
-    sheet().put_page(&sheet().encode(&sheet().words_of_blocks(blocks)), page);
+    // Whether the page is blank is seen from the page, not from the data bits.
+    let mut made = vec![0; page.len()];
+    sheet().put_page(&sheet().encode(&sheet().words_of_blocks(blocks)), &mut made);
+    if sheet().blank(&made) {
+        return 13;
+    }
+    page.copy_from_slice(&made);
     0
 }
 
 pub fn read_out(p: &Parameters, page: &[u8], blocks: &mut [u8]) -> u32 {
     let sheet = || Sheet::of(p);
-    let refused = refusal(
-        p,
-        &[
-            (6, &|| blocks.len() != sheet().blocks_bytes()),
-            (7, &|| page.len() != sheet().page_bytes()),
-            (8, &|| sheet().page_stray(page)),
-        ],
-    );
+    let refused = refusal(p, &[(6, &|| blocks.len() != sheet().blocks_bytes())]);
     if refused != 0 {
         return refused;
     }
-    sheet().put_blocks(&sheet().words_of(page), blocks);
-    judge(p, page)
+    let answer = judge(p, page);
+    if !(1..32).contains(&answer) {
+        sheet().put_blocks(&sheet().words_of(page), blocks);
+    }
+    answer
 }
 
 pub fn judge(p: &Parameters, page: &[u8]) -> u32 {
     let sheet = || Sheet::of(p);
-    let refused = refusal(p, &[(7, &|| page.len() != sheet().page_bytes()), (8, &|| sheet().page_stray(page))]);
-    if refused != 0 {
-        return refused;
-    }
-    let sheet = sheet();
+    // A blank page is answered before its spare bits are looked at.
+    let before = refusal(
+        p,
+        &[
+            (7, &|| page.len() != sheet().page_bytes()),
+            (BLANK, &|| sheet().blank(page)),
+            (8, &|| sheet().page_stray(page)),
+        ],
+    );
+    if before != 0 { before } else { verdict(&sheet(), page) }
+}
+
+/// Whether the words of a page, blank or not, are those of a member: 0, or the first that fails.
+pub fn verdict(sheet: &Sheet, page: &[u8]) -> u32 {
     let words = sheet.words_of(page);
     let fails = |word: &[u64], t: usize| (1..=2 * t).any(|j| sheet.field.value(word, j) != 0);
     if let Some(i) = words.iter().position(|word| fails(word, sheet.levels[0].t)) {

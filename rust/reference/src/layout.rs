@@ -45,6 +45,29 @@ impl Sheet {
         (0..self.m).any(|i| bit(page, i * (self.field.n + 1) + self.field.n))
     }
 
+    /// Whether every coefficient of every sub-word is 1, whatever the spare bits are.
+    pub fn blank(&self, page: &[u8]) -> bool {
+        (0..self.m).all(|i| (0..self.field.n).all(|k| bit(page, i * (self.field.n + 1) + k)))
+    }
+
+    /// The blank page in which the spare bit of sub-word i is bit i of `spare`.
+    pub fn erased(&self, spare: usize) -> Vec<u8> {
+        let mut page = vec![0xFF; self.page_bytes()];
+        for (i, bytes) in page.chunks_mut(self.sub_word_bytes()).enumerate() {
+            *bytes.last_mut().unwrap() = if spare >> i & 1 == 1 { 0xFF } else { 0x7F };
+        }
+        page
+    }
+
+    /// The blocks in which every data bit is 1.
+    pub fn ones(&self) -> Vec<u8> {
+        let mut blocks = vec![0; self.blocks_bytes()];
+        for i in 0..self.m {
+            (0..self.block_bits(i)).for_each(|r| set(&mut blocks, self.block_start(i) + r));
+        }
+        blocks
+    }
+
     pub fn words_of(&self, page: &[u8]) -> Vec<Vec<u64>> {
         let mut words = self.empty_words();
         for (i, word) in words.iter_mut().enumerate() {

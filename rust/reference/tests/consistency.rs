@@ -1,6 +1,6 @@
-//! The reference against itself: two encoders, read-back, sums, distance.
+//! The reference against itself: two encoders, read-back, sums, distance, blank pages.
 
-use reference::calls::{judge, read_out, write};
+use reference::calls::{BLANK, judge, read_out, write};
 use reference::field::Field;
 use reference::generator::{Level, divide};
 use reference::linear;
@@ -8,13 +8,22 @@ use reference::parameters::Sheet;
 use reference::sample::{Random, all_parameters};
 use reference::{Parameters, calls};
 
-fn written(p: &Parameters, blocks: &[u8]) -> Vec<u8> {
-    let mut page = vec![0xA5; Sheet::of(p).page_bytes()];
-    assert_eq!(write(p, 1, blocks, &mut page), 0, "{p:?}");
-    page
+/// The page of the blocks; none where every data bit is 1, and only there: write refuses it by 13 and leaves the buffer.
+fn written(p: &Parameters, blocks: &[u8]) -> Option<Vec<u8>> {
+    let sheet = Sheet::of(p);
+    let lent = vec![0xA5; sheet.page_bytes()];
+    let mut page = lent.clone();
+    let number = write(p, 1, blocks, &mut page);
+    if *blocks == sheet.ones() {
+        assert_eq!((number, page), (13, lent), "{p:?}");
+        return None;
+    }
+    assert_eq!(number, 0, "{p:?}");
+    Some(page)
 }
 
-/// Pages by values at the roots and pages by elimination are equal; they are members and give their blocks back.
+/// Pages by values at the roots and pages by elimination are equal; they are members and give their blocks back. Where none
+/// is written, elimination makes the blank page.
 fn both_encoders(p: &Parameters, random: &mut Random) {
     let sheet = Sheet::of(p);
     let blocks: Vec<Vec<u8>> = (0..4).map(|_| random.blocks(&sheet)).collect();
@@ -22,9 +31,13 @@ fn both_encoders(p: &Parameters, random: &mut Random) {
     for (blocks, words) in blocks.iter().zip(sheet.encode_by_elimination(&data)) {
         let mut page = vec![0; sheet.page_bytes()];
         sheet.put_page(&words, &mut page);
-        assert_eq!(page, written(p, blocks), "{p:?}");
+        let (expected, number) = match written(p, blocks) {
+            Some(written) => (written, 0),
+            None => (sheet.erased(0), BLANK),
+        };
+        assert_eq!(page, expected, "{p:?}");
         let mut out = vec![0xA5; blocks.len()];
-        assert_eq!(read_out(p, &page, &mut out), 0, "{p:?}");
+        assert_eq!(read_out(p, &page, &mut out), number, "{p:?}");
         assert_eq!(out, *blocks, "{p:?}");
     }
 }
@@ -92,14 +105,16 @@ fn field_laws() {
     }
 }
 
-/// Where all sub-words are multiples of g_0, a page is a member exactly when it is what write makes of its blocks.
+/// Where all sub-words are multiples of g_0, a page is a member exactly when it is what write makes of its blocks. A blank
+/// page is one of these pages, and no member.
 #[test]
 fn members_are_pages() {
     let mut random = Random::new(4);
+    let mut blank = 0;
     for p in all_parameters(4, 8) {
         let sheet = Sheet::of(&p);
         for _ in 0..20 {
-            let mut page = written(&p, &random.blocks(&sheet));
+            let mut page = written(&p, &random.blocks(&sheet)).unwrap_or_else(|| sheet.erased(0));
             for _ in 0..random.from_to(0, 3) {
                 // A multiple of g_0 onto some sub-word.
                 let at = 8 * 2 * random.from_to(0, sheet.m - 1);
@@ -110,9 +125,13 @@ fn members_are_pages() {
             let mut blocks = vec![0; sheet.blocks_bytes()];
             let answer = read_out(&p, &page, &mut blocks);
             assert!(!(32..64).contains(&answer));
-            assert_eq!(answer == 0, written(&p, &blocks) == page, "{p:?} {page:02X?}");
+            assert_eq!(judge(&p, &page), answer);
+            assert_eq!(answer == BLANK, page == sheet.erased(0), "{p:?} {page:02X?}");
+            assert_eq!(answer == 0, written(&p, &blocks) == Some(page), "{p:?} {blocks:02X?}");
+            blank += u32::from(answer == BLANK);
         }
     }
+    assert!(blank > 50, "{blank} blank pages");
 }
 
 /// The least number of bits in which pages differ is at least the least of (v + 1 − a)(2 t_a + 1), on every sheet of
@@ -128,7 +147,7 @@ fn distance() {
             .map(|(i, r)| {
                 let mut blocks = vec![0; sheet.blocks_bytes()];
                 reference::layout::set(&mut blocks, sheet.block_start(i) + r);
-                written(&p, &blocks).iter().rev().fold(0, |page, &byte| page << 8 | u128::from(byte))
+                written(&p, &blocks).unwrap().iter().rev().fold(0, |page, &byte| page << 8 | u128::from(byte))
             })
             .collect();
         if units.len() > 20 {
@@ -149,23 +168,35 @@ fn distance() {
     assert!(sheets > 50 && met > 0, "{sheets} sheets, {met} at their bound");
 }
 
+/// Where none of three pages is blank, pages add up as their blocks do. The pages of blocks and of the same blocks with
+/// every data bit flipped add up to a blank page, which is not written.
 #[test]
 fn sums() {
     let mut random = Random::new(5);
+    let add = |x: &[u8], y: &[u8]| x.iter().zip(y).map(|(x, y)| x ^ y).collect::<Vec<_>>();
+    let (mut members, mut blank) = (0, 0);
     for q in [4, 8, 12] {
         for _ in 0..10 {
             let p = random.parameters(q);
             let sheet = Sheet::of(&p);
             let (a, b) = (random.blocks(&sheet), random.blocks(&sheet));
-            let add = |x: &[u8], y: &[u8]| x.iter().zip(y).map(|(x, y)| x ^ y).collect::<Vec<_>>();
-            let sum = add(&written(&p, &a), &written(&p, &b));
-            assert_eq!(sum, written(&p, &add(&a, &b)));
-            assert_eq!(judge(&p, &sum), 0);
+            let pages = [&a, &b, &add(&a, &b)].map(|blocks| written(&p, blocks));
+            if let [Some(x), Some(y), Some(sum)] = pages {
+                assert_eq!(add(&x, &y), sum);
+                assert_eq!(judge(&p, &sum), 0);
+                members += 1;
+            }
+            if let (Some(x), Some(y)) = (written(&p, &a), written(&p, &add(&a, &sheet.ones()))) {
+                assert_eq!(add(&x, &y), sheet.erased(0));
+                blank += 1;
+            }
         }
     }
+    assert!(members >= 15 && blank >= 15, "of 30 sums {members} members, {blank} blank");
 }
 
-/// A page of ones is a member; one flip makes its sub-word fail.
+/// A page of ones passes every condition of the code and is blank, whatever its spare bits are. One flip makes its sub-word
+/// fail, and its spare bits stray.
 #[test]
 fn ones_and_flips() {
     let mut random = Random::new(6);
@@ -173,13 +204,15 @@ fn ones_and_flips() {
         for _ in 0..10 {
             let p = random.parameters(q);
             let sheet = Sheet::of(&p);
-            let bytes = sheet.sub_word_bytes();
-            let mut page: Vec<u8> =
-                (0..sheet.page_bytes()).map(|k| if (k + 1) % bytes == 0 { 0x7F } else { 0xFF }).collect();
-            assert_eq!(calls::judge(&p, &page), 0);
             let place = random.place(&sheet);
-            page[place / 8] ^= 1 << (place % 8);
-            assert_eq!(calls::judge(&p, &page), 32 + (place / (8 * bytes)) as u32);
+            for spare in [0, 1 << random.from_to(0, sheet.m - 1), (1 << sheet.m) - 1] {
+                let mut page = sheet.erased(spare);
+                assert_eq!(calls::verdict(&sheet, &page), 0);
+                assert_eq!(judge(&p, &page), BLANK);
+                page[place / 8] ^= 1 << (place % 8);
+                let fails = 32 + (place / (sheet.field.n + 1)) as u32;
+                assert_eq!(judge(&p, &page), if spare == 0 { fails } else { 8 });
+            }
         }
     }
 }

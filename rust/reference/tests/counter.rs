@@ -1,7 +1,7 @@
 //! The requirement's cases ('On the counter'), the starred ones and those that a C call or the reference can show.
 
 use reference::calls::{
-    QUOTE_BYTES, data_bytes, distance, judge, nested_syndromes, page_bytes, quote, read_out, syndromes, write,
+    BLANK, QUOTE_BYTES, data_bytes, distance, judge, nested_syndromes, page_bytes, quote, read_out, syndromes, write,
 };
 use reference::field::Field;
 use reference::generator::Level;
@@ -47,11 +47,36 @@ fn pages() {
 
 #[test]
 fn verdicts() {
-    assert_eq!(judge(&A, &[0xFF, 0x7F, 0xFF, 0x7F]), 0);
     assert_eq!(judge(&A, &[0x01, 0x00, 0x00, 0x00]), 32);
     assert_eq!(judge(&A, &[0x13, 0x00, 0x00, 0x00]), 64);
     // By the definition nested word 1 fails, though nested word 0 does too and is named.
     assert_eq!(judge(&B, &[0x13, 0x00, 0x00, 0x00, 0x00, 0x00]), 64);
+}
+
+/// A page of ones is blank whatever its spare bits are, and none of them is read out; its blocks are not written.
+#[test]
+fn blank_pages() {
+    const ONES: [u8; 3] = [0x7F, 0xFF, 0x07];
+    for (first, second) in [(0xFF, 0xFF), (0x7F, 0x7F), (0x7F, 0xFF), (0xFF, 0x7F)] {
+        let page = [0xFF, first, 0xFF, second];
+        assert_eq!(judge(&A, &page), BLANK);
+        let mut blocks = [0xA5; 3];
+        assert_eq!(read_out(&A, &page, &mut blocks), BLANK);
+        assert_eq!(blocks, ONES);
+        // The syndromes' calls know no blank page.
+        let expected = if (first, second) == (0x7F, 0x7F) { (0, [0; 4]) } else { (8, [0xA5; 4]) };
+        let mut list = [0xA5; 4];
+        assert_eq!((syndromes(&A, &page, 0, &mut list), list), expected);
+    }
+    let mut page = [0xA5; 4];
+    assert_eq!(write(&A, 8, &ONES, &mut page), 13);
+    assert_eq!(page, [0xA5; 4]);
+    // The order: lengths, blank, stray; and stray before 13.
+    assert_eq!(judge(&A, &[0xFF; 3]), 7);
+    assert_eq!(read_out(&A, &[0xFF; 4], &mut [0; 2]), 6);
+    assert_eq!(judge(&A, &[0xFE, 0xFF, 0xFF, 0xFF]), 8);
+    assert_eq!(write(&A, 8, &[0xFF; 3], &mut page), 8);
+    assert_eq!(write(&A, 8, &ONES, &mut page[..3]), 7);
 }
 
 #[test]

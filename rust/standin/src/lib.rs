@@ -2,6 +2,7 @@
 //!
 //! GII_FAULT names the fault; unset, there is none. `faults.sh` has the list and asks that the tests find each.
 
+use reference::calls::BLANK;
 use reference::generator::{Level, odd};
 use reference::layout::{bit, set};
 use reference::parameters::Sheet;
@@ -16,12 +17,46 @@ fn fault(name: &str) -> bool {
     FAULT.get_or_init(|| std::env::var("GII_FAULT").unwrap_or_default()) == name
 }
 
+fn refuses(number: u32) -> bool {
+    (1..32).contains(&number)
+}
+
 /// What every call does with its lent bytes when its number is a refusal.
 fn leave(number: u32, lent: &mut [u8]) -> u32 {
-    if fault("refusal-clears") && (1..=12).contains(&number) {
+    if fault("refusal-clears") && refuses(number) {
         lent.fill(0);
     }
     number
+}
+
+/// The sheet, if the parameters are accepted and the page is as long as its pages.
+fn sheet_of(p: &Parameters, page: &[u8]) -> Option<Sheet> {
+    p.accepted().then(|| Sheet::of(p)).filter(|sheet| page.len() == sheet.page_bytes())
+}
+
+/// The page with its spare bits 0.
+fn cleared(sheet: &Sheet, page: &[u8]) -> Vec<u8> {
+    let mut cleared = page.to_vec();
+    cleared.chunks_mut(sheet.sub_word_bytes()).for_each(|bytes| *bytes.last_mut().unwrap() &= 0x7F);
+    cleared
+}
+
+/// Whether judge and read out take a page for blank.
+fn blank(sheet: &Sheet, page: &[u8]) -> bool {
+    let ones =
+        |bytes: &[u8]| bytes[bytes.len() - 1] | 0x80 == 0xFF && bytes[..bytes.len() - 1].iter().all(|&x| x == 0xFF);
+    let mut sub_words = page.chunks(sheet.sub_word_bytes());
+    if fault("blank-by-one-sub-word") {
+        return sub_words.any(ones);
+    }
+    if fault("blank-by-sub-word-0") {
+        return sub_words.next().is_some_and(ones);
+    }
+    let (erased, clear) = (page.iter().all(|&byte| byte == 0xFF), !sheet.page_stray(page));
+    let missed = fault("blank-after-stray") && !clear
+        || fault("blank-where-spare-set") && !erased
+        || fault("blank-mixed-missed") && !erased && !clear;
+    sheet.blank(page) && !missed
 }
 
 /// A page with sub-word i turned up by `places(i)` more places, which turns a wrong power of x into the right one.
@@ -69,7 +104,17 @@ fn nested(p: &Parameters, page: &[u8], index: u32, list: &mut [u8]) -> u32 {
 }
 
 fn judge(p: &Parameters, page: &[u8]) -> u32 {
-    let number = calls::judge(p, page);
+    if fault("blank-before-page") && p.accepted() && page.iter().all(|&byte| byte == 0xFF) {
+        return BLANK;
+    }
+    let Some(sheet) = sheet_of(p, page) else { return calls::judge(p, page) };
+    if blank(&sheet, page) {
+        return if fault("blank-a-member") { 0 } else { BLANK };
+    }
+    if sheet.page_stray(page) {
+        return 8;
+    }
+    let number = calls::verdict(&sheet, page);
     if number != 0 && number < 64 {
         return number;
     }
@@ -110,6 +155,23 @@ fn level_0_only(p: &Parameters, blocks: &[u8], page: &mut [u8]) {
     sheet.put_page(&words, page);
 }
 
+/// Whether write refuses by 13 where it is not to.
+fn ones_refused(p: &Parameters, blocks: &[u8], page: &[u8]) -> bool {
+    let Some(sheet) = p.accepted().then(|| Sheet::of(p)).filter(|sheet| blocks.len() == sheet.blocks_bytes()) else {
+        return false;
+    };
+    let ones = sheet.ones();
+    // Whether every data bit below this place of the blocks is 1.
+    let all_below = |end: usize| (0..end).all(|place| !bit(&ones, place) || bit(blocks, place));
+    let last = sheet.block_start(sheet.m - 1) + sheet.block_bits(sheet.m - 1) - 1;
+    let exact = page.len() == sheet.page_bytes();
+    let fits = exact && !sheet.blocks_stray(blocks);
+    fault("ones-before-page") && !exact && all_below(last + 1)
+        || fault("ones-before-stray") && exact && all_below(last + 1)
+        || fault("ones-last-bit-missed") && fits && all_below(last)
+        || fault("ones-by-block-0") && fits && all_below(sheet.block_start(1))
+}
+
 fn write(p: &Parameters, width: u32, blocks: &[u8], page: &mut [u8]) -> u32 {
     if fault("refuse-all") {
         return 4;
@@ -117,11 +179,18 @@ fn write(p: &Parameters, width: u32, blocks: &[u8], page: &mut [u8]) -> u32 {
     if fault("page-before-blocks") && p.accepted() && page.len() != Sheet::of(p).page_bytes() {
         return 7;
     }
+    if (1..=64).contains(&width) && ones_refused(p, blocks, page) {
+        return 13;
+    }
     let old = page.to_vec();
     let number = calls::write(p, width, blocks, page);
     if number != 0 {
         if fault("half-written-refusal") && number == 8 {
             page[0] = 0;
+        }
+        if number == 13 && (fault("ones-half-written") || fault("ones-written")) {
+            page.copy_from_slice(&Sheet::of(p).erased(0));
+            return if fault("ones-written") { 0 } else { 13 };
         }
         return leave(number, page);
     }
@@ -157,13 +226,32 @@ fn write(p: &Parameters, width: u32, blocks: &[u8], page: &mut [u8]) -> u32 {
 }
 
 fn read_out(p: &Parameters, page: &[u8], blocks: &mut [u8]) -> u32 {
+    let erased = sheet_of(p, page).filter(|sheet| sheet.blank(page));
+    let cut = erased.as_ref().is_some_and(|sheet| blocks.len() != sheet.blocks_bytes());
+    if fault("blank-before-blocks") && cut {
+        return BLANK;
+    }
     let old = blocks.to_vec();
-    let number = match calls::read_out(p, page, blocks) {
-        refused @ 1..=12 => return leave(refused, blocks),
-        _ => judge(p, page),
-    };
-    if fault("read-out-of-members-only") && number != 0 {
+    let refused = calls::read_out(p, page, blocks);
+    if refuses(refused) {
+        return leave(refused, blocks);
+    }
+    let number = judge(p, page);
+    if refuses(number)
+        || fault("read-out-of-members-only") && number != 0
+        || fault("blank-blocks-left") && number == BLANK
+    {
         blocks.copy_from_slice(&old);
+    }
+    if refuses(number) {
+        return number;
+    }
+    if let Some(sheet) = erased.filter(|_| fault("blank-spare-bits-left")) {
+        // The bit above the data, where the block's last byte has one, is the spare bit.
+        let (n, bits) = (sheet.field.n, |i: usize| sheet.block_bits(i));
+        for i in (0..sheet.m).filter(|&i| bits(i) % 8 != 0 && bit(page, i * (n + 1) + n)) {
+            set(blocks, sheet.block_start(i) + bits(i));
+        }
     }
     if fault("unused-bits-left") {
         let last = blocks.len() - 1;
@@ -178,10 +266,8 @@ fn read_out(p: &Parameters, page: &[u8], blocks: &mut [u8]) -> u32 {
 }
 
 fn judge_any(p: &Parameters, page: &[u8]) -> u32 {
-    if fault("stray-missed") && p.accepted() && page.len() == Sheet::of(p).page_bytes() {
-        let mut cleared = page.to_vec();
-        cleared.chunks_mut(Sheet::of(p).sub_word_bytes()).for_each(|bytes| *bytes.last_mut().unwrap() &= 0x7F);
-        return judge(p, &cleared);
+    if let Some(sheet) = sheet_of(p, page).filter(|_| fault("stray-missed")) {
+        return judge(p, &cleared(&sheet, page));
     }
     if fault("clash-missed") && p.refusal() == 4 {
         return 7;
@@ -189,10 +275,20 @@ fn judge_any(p: &Parameters, page: &[u8]) -> u32 {
     judge(p, page)
 }
 
+/// What the syndromes' calls take the page for: none, where they say that it is blank.
+fn page_for_syndromes(p: &Parameters, page: &[u8]) -> Option<Vec<u8>> {
+    match sheet_of(p, page).filter(|sheet| sheet.blank(page)) {
+        Some(_) if fault("syndromes-say-blank") => None,
+        Some(sheet) if fault("syndromes-of-erased") => Some(cleared(&sheet, page)),
+        _ => Some(page.to_vec()),
+    }
+}
+
 fn syndromes(p: &Parameters, page: &[u8], index: u32, list: &mut [u8]) -> u32 {
-    if fault("index-before-stray") && p.accepted() && page.len() == Sheet::of(p).page_bytes() && index >= p.m {
+    if fault("index-before-stray") && sheet_of(p, page).is_some() && index >= p.m {
         return 9;
     }
+    let Some(page) = &page_for_syndromes(p, page) else { return BLANK };
     let old = list.to_vec();
     let number = calls::syndromes(p, page, index, list);
     if number == 0 && fault("high-byte-first") {
@@ -206,6 +302,7 @@ fn syndromes(p: &Parameters, page: &[u8], index: u32, list: &mut [u8]) -> u32 {
 }
 
 fn nested_syndromes(p: &Parameters, page: &[u8], index: u32, list: &mut [u8]) -> u32 {
+    let Some(page) = &page_for_syndromes(p, page) else { return BLANK };
     leave(nested(p, page, index, list), list)
 }
 
