@@ -1,11 +1,11 @@
--- The theorems' hypotheses hold of something, and two statements that go further than the theorems are false. All by computation.
+-- The theorems' hypotheses hold of something, and four statements that go further than the theorems are false. All by computation.
 use mathlib.Core.Path.{_≡_, refl, sym, ap, _∙_}
 use mathlib.Core.Logic.{_≢_}
 use mathlib.Core.List.{List, [], _∷_}
 use Prim.Native.Nat.{ℕ, zero, suc, _-_, _≤_, _<_}
 use native.Mathlib.Nat.{le-of-suc-le-suc, not-suc-le-zero, lt-irrefl}
 use native.Mathlib.Omega.{arith}
-use lib.Dec.{lit<}
+use lib.Dec.{T, lit<}
 use lib.ListN.{getD}
 use Rattle.polynomial.specs.Clmul.{clmul}
 use Rattle.polynomial.specs.Division.{rem}
@@ -13,10 +13,13 @@ use Rattle.polynomial.specs.Multiple.{Multiple}
 use Rattle.polynomial.specs.Xor.{xor}
 use Rattle.field.specs.Field.{pow}
 use Rattle.code.specs.declared.Verdict.{Verdict}
+use Rattle.code.specs.Accepted.{accepted}
+use Rattle.code.specs.Blank.{blank-iff}
 use Rattle.code.specs.Parameters.{Accepted, sheetRefusal, sheet}
-use Rattle.code.specs.Code.{gen, degree, remainder, nested, combine, N, newton, IsMember, distance}
-use Rattle.code.specs.Layout.{dataBytes, blocksClear, pageClear, wordsOf, Fits, IsPage, Bytes, differences}
-use Rattle.code.specs.Calls.{judgeAnswer}
+use Rattle.code.specs.Code.{gen, degree, remainder, nested, combine, N, newton, IsMember, distance, verdict}
+use Rattle.code.specs.Layout.{dataBytes, blocksClear, pageClear, pageOf, blank, wordsOf, Fits, IsBlank, IsPage, Bytes, differences}
+use Rattle.code.specs.Calls.{judgeAnswer, verdictNumber}
+use Rattle.code.specs.Refusals.{writeRefusal}
 use Rattle.cases.specs.Sheets.{A, B}
 
 -- ---- accepted sheets
@@ -95,6 +98,58 @@ light-nested (suc l) h = absurd (not-suc-le-zero (le-of-suc-le-suc h))
 
 pub light-words : IsMember A (0x1D1 ∷ 0x000 ∷ [])
 light-words = record { sub-words = light-sub; nested-words = light-nested }
+
+-- ---- blank pages
+-- an erased page, its spare bits set, and with them cleared
+abbrev erased : List ℕ
+erased = 0xFF ∷ 0xFF ∷ 0xFF ∷ 0xFF ∷ []
+
+abbrev cleared : List ℕ
+cleared = 0xFF ∷ 0x7F ∷ 0xFF ∷ 0x7F ∷ []
+
+erased-ones : T (blank A erased)
+unfolding blank
+erased-ones = tt
+
+-- every coefficient is 1
+pub erased-blank : IsBlank A erased
+erased-blank = blank-iff A (accepted A accepted-A) erased (lit< tt, (lit< tt, (lit< tt, (lit< tt, tt)))) .0 erased-ones
+
+-- the page of the blocks above is not blank: sub-word 0 has a 0 at x^0
+pub unblank-A : ¬ IsBlank A (pageOf A (0x01 ∷ 0x01 ∷ 0x00 ∷ []))
+unfolding pageOf pow
+unblank-A h = let e : _≡_ {A = ℕ} 0 1 = h 0 0 (lit< tt) (lit< tt) in omega arith
+
+-- the cleared page is a page, its words pass both of judge's searches, and judge calls it blank
+isPage-cleared : IsPage A cleared
+unfolding pageClear
+isPage-cleared = record { bytes = (lit< tt, (lit< tt, (lit< tt, (lit< tt, tt)))); exact = refl; clear = tt }
+
+cleared-words : verdict A (wordsOf A cleared) ≡ Verdict.Member
+unfolding verdict wordsOf pow
+cleared-words = refl
+
+cleared-blank : judgeAnswer A cleared ≡ Verdict.Blank
+unfolding judgeAnswer pow
+cleared-blank = refl
+
+-- so that words which pass make a member of every page is false
+pub not-by-words : ((x : List ℕ) → IsPage A x → verdict A (wordsOf A x) ≡ Verdict.Member → judgeAnswer A x ≡ Verdict.Member) → ⊥
+not-by-words h =
+    let e : Verdict.Blank ≡ Verdict.Member = sym cleared-blank ∙ h cleared isPage-cleared cleared-words in
+    let z : _≡_ {A = ℕ} 96 0 = ap verdictNumber e in omega arith
+
+-- and that blocks which fit are always written
+fits-ones : Fits A (0x7F ∷ 0xFF ∷ 0x07 ∷ [])
+unfolding dataBytes blocksClear
+fits-ones = record { bytes = (lit< tt, (lit< tt, (lit< tt, tt))); exact = refl; clear = tt }
+
+ones-refused : writeRefusal A 8 (0x7F ∷ 0xFF ∷ 0x07 ∷ []) 4 ≡ 13
+unfolding writeRefusal pow
+ones-refused = refl
+
+pub not-always : ((a : List ℕ) → Fits A a → writeRefusal A 8 a 4 ≡ 0) → ⊥
+not-always h = let z : _≡_ {A = ℕ} 13 0 = sym ones-refused ∙ h (0x7F ∷ 0xFF ∷ 0x07 ∷ []) fits-ones in omega arith
 
 -- ---- the equal form holds as a whole only: sheet B, page 13 00 00 00 00 00
 abbrev words-13 : List ℕ

@@ -17,13 +17,14 @@ pub fn outcome_number(r: Outcome) -> u32
     k as u32
 }
 
-// 0 for a member, 32 + i for sub-word i, 64 + l for nested word l, or the refusal's number.
+// 0 for a member, 32 + i for sub-word i, 64 + l for nested word l, 96 for blank, or the refusal's number.
 pub fn verdict_number(r: Verdict) -> u32
     requires { ⌜ verdictNumber r < 128 ⌝ }
     ensures { λ n. ⌜ n ≡ verdictNumber r ⌝ }
 {
     match r {
         Verdict::Member => 0,
+        Verdict::Blank => 96,
         Verdict::SubWord(i) => 32 + i as u32,
         Verdict::NestedWord(l) => 64 + l as u32,
         Verdict::Refused(k) => k as u32,

@@ -15,7 +15,7 @@ use borrow.Author.Tests.{ne-eqb}
 use Rattle.code.specs.declared.Parameters.{Parameters}
 use Rattle.code.specs.Chains.{or-first}
 use Rattle.code.specs.Accepted.{accepted}
-use Rattle.code.specs.Layout.{blocksClear, dataBytes, pageBytes}
+use Rattle.code.specs.Layout.{dataBytes, pageBytes}
 use Rattle.code.specs.Lists.{_orElse_, _when_}
 use Rattle.code.specs.Parameters.{Accepted, sheetRefusal}
 use Rattle.code.specs.Refusals.{badWidth, notExact, writeRefusal}
@@ -24,7 +24,7 @@ use Rattle.io.specs.Counts.{Counts}
 use Rattle.writer.specs.Input.{blocks-eq, many-eq, many-within, sheet-eq, strength-eq}
 use Rattle.writer.specs.Longest.{longest}
 use Rattle.writer.specs.Output.{refusalOf, writer-refused}
-use Rattle.writer.specs.Sheet.{write-chain, write-sheet}
+use Rattle.writer.specs.Sheet.{last, write-chain, write-sheet}
 use Rattle.writer.specs.Size.{wrote-fits}
 
 -- ---- blocks of a length that no accepted parameters have: refused with 6 at the latest
@@ -43,14 +43,14 @@ module _ (p : Parameters) (L : ℕ) (x : List ℕ) (n : ℕ) where
   early-is : (Accepted p → length x ≡ dataBytes p → ⊥) → writeRefusal p L x n ≡ early p L
   early-is h = go (Nat.eq-zero-or-pos (sheetRefusal p))
     where
-      links : (b c d : Bool) → ((0 orElse 5 when b orElse 6 when not false orElse 7 when c) orElse 8 when d) ≡ (0 orElse 5 when b orElse 6)
-      links true c d = refl
-      links false c d = refl
+      links : (b c : Bool) (r : ℕ) → ((0 orElse 5 when b orElse 6 when not false orElse 7 when c) orElse r) ≡ (0 orElse 5 when b orElse 6)
+      links true c r = refl
+      links false c r = refl
 
       go : (sheetRefusal p ≡ 0) ⊎ (0 < sheetRefusal p) → writeRefusal p L x n ≡ early p L
       go (inl A) =
           write-chain p L x n
-          ∙ rw (A, ne-eqb (length x) (dataBytes p) (h A)) (links (badWidth L) (notExact n (pageBytes p)) (not (blocksClear p x)))
+          ∙ rw (A, ne-eqb (length x) (dataBytes p) (h A)) (links (badWidth L) (notExact n (pageBytes p)) (last p L x n))
       go (inr k) = write-sheet p L x n k ∙ sym (or-first (sheetRefusal p) (5 when badWidth L orElse 6) k)
 
 -- ---- the leading bytes are among the first 8

@@ -9,7 +9,7 @@ use Rattle.code.specs.declared.Parameters.{Parameters}
 use Rattle.code.specs.declared.Tested.{Tested}
 use Rattle.code.specs.Chains.{or-first, or-none}
 use Rattle.code.specs.Answers.{sheet-pos, tested-eq}
-use Rattle.code.specs.Layout.{blocksClear, dataBytes, pageBytes}
+use Rattle.code.specs.Layout.{blank, blocksClear, dataBytes, pageBytes, pageOf}
 use Rattle.code.specs.Lists.{_orElse_, _when_}
 use Rattle.code.specs.Parameters.{Accepted, Tests, sheetRefusal, testedNumber, testedOf}
 use Rattle.code.specs.Refusals.{badWidth, notExact, writeLengths, writeRefusal}
@@ -21,18 +21,18 @@ module _ (p : Parameters) (L : ℕ) (x : List ℕ) (n : ℕ) where
   abbrev later : ℕ
   later = 5 when badWidth L orElse 6 when notExact (length x) (dataBytes p) orElse 7 when notExact n (pageBytes p)
 
-  abbrev stray : ℕ
-  stray = 8 when not (blocksClear p x)
+  abbrev pub last : ℕ
+  last = 8 when not (blocksClear p x) orElse 13 when blank p (pageOf p x)
 
-  pub write-chain : writeRefusal p L x n ≡ ((sheetRefusal p orElse later) orElse stray)
+  pub write-chain : writeRefusal p L x n ≡ ((sheetRefusal p orElse later) orElse last)
   unfolding writeRefusal writeLengths
   write-chain = refl
 
   pub write-sheet : 0 < sheetRefusal p → writeRefusal p L x n ≡ sheetRefusal p
-  write-sheet h = let e = or-first (sheetRefusal p) later h in write-chain ∙ or-first (sheetRefusal p orElse later) stray (rw e h) ∙ e
+  write-sheet h = let e = or-first (sheetRefusal p) later h in write-chain ∙ or-first (sheetRefusal p orElse later) last (rw e h) ∙ e
 
   pub write-accepted : writeRefusal p L x n ≡ 0 → Accepted p
-  write-accepted e = or-none (sheetRefusal p) later (or-none (sheetRefusal p orElse later) stray (sym write-chain ∙ e) .0) .0
+  write-accepted e = or-none (sheetRefusal p) later (or-none (sheetRefusal p orElse later) last (sym write-chain ∙ e) .0) .0
 
 -- ---- the test's answer is a refusal, whose number is written
 pub sheet-refused : (input : List ℕ) (p : Parameters) (t : Tested) (n k count : ℕ) (bytes : List ℕ)

@@ -8,6 +8,9 @@ use Rattle.gii_bch.proofs.answers.verdict_number.Tie as tie
 enum-told : tie.Need-enum-told
 enum-told c = search needs
 
+enum-told-2 : tie.Need-enum-told-2
+enum-told-2 c = search needs
+
 enum-known-r : tie.Need-enum-known-r
 enum-known-r c = search needs
 
@@ -36,19 +39,23 @@ returns : tie.Need-returns
 returns c = search needs
 
 returns-2 : tie.Need-returns-2
-returns-2 c = sym (ap verdictNumber (c .before .r .given .1))
+returns-2 c = search needs
 
 returns-3 : tie.Need-returns-3
-returns-3 c = sym (ap verdictNumber (c .before .r2 .given .1))
+returns-3 c = sym (ap verdictNumber (c .before .r .given .1))
 
 returns-4 : tie.Need-returns-4
-returns-4 c = search needs
+returns-4 c = sym (ap verdictNumber (c .before .r2 .given .1))
+
+returns-5 : tie.Need-returns-5
+returns-5 c = search needs
 
 pub verdict-number-spec : {M : Type 1} → statement M
 verdict-number-spec =
     tie.close
     (tie.spec
     enum-told
+    enum-told-2
     enum-known-r
     cast-result
     add-result
@@ -60,4 +67,5 @@ verdict-number-spec =
     returns
     returns-2
     returns-3
-    returns-4)
+    returns-4
+    returns-5)
