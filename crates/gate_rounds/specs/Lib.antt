@@ -1,4 +1,5 @@
 -- What the program's checks rest on, beside what the calls promise.
 pub mod Answers
+pub mod Apt
 pub mod Sum
 pub mod Sheets

@@ -6,15 +6,22 @@ use mathlib.Core.Bool.{Bool, true, false, _&&_}
 use mathlib.Core.List.{List, [], _∷_}
 use Prim.Native.Nat.{ℕ}
 use lib.Dec.{T, ltb, ltb→lt}
-use lib.ListN.{length, replicate}
+use lib.ListN.{length, getD, replicate}
+use Rattle.polynomial.specs.Bits.{coefficient}
+use Rattle.polynomial.specs.Sums.{add}
+use Rattle.polynomial.specs.Xor.{xor}
 use Rattle.field.specs.Field.{pow}
 use Rattle.code.specs.declared.Parameters.{Parameters}
 use Rattle.field.specs.Irreducible.{both}
+use Rattle.code.specs.Accepted.{accepted}
+use Rattle.code.specs.Blank.{blank-iff}
 use Rattle.code.specs.Calls.{judgeAnswer}
-use Rattle.code.specs.Layout.{Bytes, Fits, IsPage, blocksClear, dataBytes, pageBytes, pageClear}
+use Rattle.code.specs.Layout.{Bytes, Fits, IsBlank, IsPage, blank, blocksClear, dataBytes, pageBytes, pageClear}
 use Rattle.code.specs.Parameters.{Accepted, sheet, sheetRefusal}
+use Rattle.cases.specs.Inhabited.{accepted-A, accepted-B}
 use Rattle.cases.specs.Sheets.{A, B}
 use Rattle.gate_rounds.specs.Answers.{isMember}
+use Rattle.gate_rounds.specs.Apt.{Apt, apt, apt-sum}
 
 abbrev areBytes : List ℕ → Bool
 areBytes [] = true
@@ -30,35 +37,70 @@ fits p b t e c = record { bytes = bytes b t; exact = e; clear = c }
 page : (p : Parameters) (x : List ℕ) → T (areBytes x) → length x ≡ pageBytes p → T (pageClear p x) → IsPage p x
 page p x t e c = record { bytes = bytes x t; exact = e; clear = c }
 
--- ---- sheet A
-pub fits-ones-A : Fits A (0x7F ∷ 0xFF ∷ 0x07 ∷ [])
-unfolding dataBytes blocksClear
-fits-ones-A = fits A (0x7F ∷ 0xFF ∷ 0x07 ∷ []) tt refl tt
+-- blocks and their sum, none of which makes a blank page: each has a 0 at its first bit
+abbrev pub Three : Parameters → List ℕ → List ℕ → Type 0
+Three p a b = Apt p a × Apt p b × Apt p (add a b)
 
-pub page-ones-A : IsPage A (0xFF ∷ 0x7F ∷ 0xFF ∷ 0x7F ∷ [])
+three : (p : Parameters) → Accepted p → (a b : List ℕ) → Fits p a → Fits p b → coefficient (getD a 0 0) 0 ≡ 0 → coefficient (getD b 0 0) 0 ≡ 0
+    → coefficient (getD (add a b) 0 0) 0 ≡ 0 → Three p a b
+three p A a b h j x y z = (apt p A a h x, apt p A b j y, apt-sum p A a b h j z)
+
+-- ---- sheet A
+fits-A : Fits A (0x02 ∷ 0x01 ∷ 0x00 ∷ [])
+unfolding dataBytes blocksClear
+fits-A = fits A (0x02 ∷ 0x01 ∷ 0x00 ∷ []) tt refl tt
+
+fits-other-A : Fits A (0x7E ∷ 0xFF ∷ 0x07 ∷ [])
+unfolding dataBytes blocksClear
+fits-other-A = fits A (0x7E ∷ 0xFF ∷ 0x07 ∷ []) tt refl tt
+
+pub three-A : Three A (0x02 ∷ 0x01 ∷ 0x00 ∷ []) (0x7E ∷ 0xFF ∷ 0x07 ∷ [])
+unfolding xor
+three-A = three A accepted-A (0x02 ∷ 0x01 ∷ 0x00 ∷ []) (0x7E ∷ 0xFF ∷ 0x07 ∷ []) fits-A fits-other-A refl refl refl
+
+pub blocks-A : 3 ≡ dataBytes A
+unfolding dataBytes
+blocks-A = refl
+
+pub page-cleared-A : IsPage A (0xFF ∷ 0x7F ∷ 0xFF ∷ 0x7F ∷ [])
 unfolding pageClear
-page-ones-A = page A (0xFF ∷ 0x7F ∷ 0xFF ∷ 0x7F ∷ []) tt refl tt
+page-cleared-A = page A (0xFF ∷ 0x7F ∷ 0xFF ∷ 0x7F ∷ []) tt refl tt
+
+cleared-ones-A : T (blank A (0xFF ∷ 0x7F ∷ 0xFF ∷ 0x7F ∷ []))
+unfolding blank
+cleared-ones-A = tt
+
+pub cleared-A : IsBlank A (0xFF ∷ 0x7F ∷ 0xFF ∷ 0x7F ∷ [])
+cleared-A = blank-iff A (accepted A accepted-A) (0xFF ∷ 0x7F ∷ 0xFF ∷ 0x7F ∷ []) (page-cleared-A .bytes) .0 cleared-ones-A
 
 pub page-damaged-A : IsPage A (0x13 ∷ 0x00 ∷ 0x00 ∷ 0x00 ∷ [])
 unfolding pageClear
 page-damaged-A = page A (0x13 ∷ 0x00 ∷ 0x00 ∷ 0x00 ∷ []) tt refl tt
 
-pub member-ones-A : isMember (judgeAnswer A (0xFF ∷ 0x7F ∷ 0xFF ∷ 0x7F ∷ [])) ≡ true
+pub member-A : isMember (judgeAnswer A (0xC2 ∷ 0x01 ∷ 0x13 ∷ 0x00 ∷ [])) ≡ true
 unfolding judgeAnswer pow
-member-ones-A = refl
+member-A = refl
+
+pub no-member-A : isMember (judgeAnswer A (0xFF ∷ 0x7F ∷ 0xFF ∷ 0x7F ∷ [])) ≡ false
+unfolding judgeAnswer pow
+no-member-A = refl
 
 pub damaged-A : isMember (judgeAnswer A (0x13 ∷ 0x00 ∷ 0x00 ∷ 0x00 ∷ [])) ≡ false
 unfolding judgeAnswer pow
 damaged-A = refl
 
 -- ---- sheet B
-pub fits-B : Fits B (0x00 ∷ 0x00 ∷ 0x01 ∷ 0x00 ∷ [])
+fits-B : Fits B (0x00 ∷ 0x00 ∷ 0x01 ∷ 0x00 ∷ [])
 unfolding dataBytes blocksClear
 fits-B = fits B (0x00 ∷ 0x00 ∷ 0x01 ∷ 0x00 ∷ []) tt refl tt
 
-pub fits-ones-B : Fits B (0x1F ∷ 0x7F ∷ 0xFF ∷ 0x07 ∷ [])
+fits-other-B : Fits B (0x1E ∷ 0x7F ∷ 0xFF ∷ 0x07 ∷ [])
 unfolding dataBytes blocksClear
-fits-ones-B = fits B (0x1F ∷ 0x7F ∷ 0xFF ∷ 0x07 ∷ []) tt refl tt
+fits-other-B = fits B (0x1E ∷ 0x7F ∷ 0xFF ∷ 0x07 ∷ []) tt refl tt
+
+pub three-B : Three B (0x00 ∷ 0x00 ∷ 0x01 ∷ 0x00 ∷ []) (0x1E ∷ 0x7F ∷ 0xFF ∷ 0x07 ∷ [])
+unfolding xor
+three-B = three B accepted-B (0x00 ∷ 0x00 ∷ 0x01 ∷ 0x00 ∷ []) (0x1E ∷ 0x7F ∷ 0xFF ∷ 0x07 ∷ []) fits-B fits-other-B refl refl refl
 
 pub page-damaged-B : IsPage B (0x26 ∷ 0x00 ∷ 0x35 ∷ 0x00 ∷ 0x13 ∷ 0x01 ∷ [])
 unfolding pageClear
@@ -76,13 +118,17 @@ pub accepted-8 : Accepted (long 8)
 unfolding sheetRefusal
 accepted-8 = refl
 
-pub fits-8 : Fits (long 8) (replicate 61 0x05)
+fits-8 : Fits (long 8) (replicate 61 0x06)
 unfolding dataBytes blocksClear
-fits-8 = fits (long 8) (replicate 61 0x05) tt refl tt
+fits-8 = fits (long 8) (replicate 61 0x06) tt refl tt
 
-pub fits-other-8 : Fits (long 8) (replicate 61 0x63)
+fits-other-8 : Fits (long 8) (replicate 61 0x62)
 unfolding dataBytes blocksClear
-fits-other-8 = fits (long 8) (replicate 61 0x63) tt refl tt
+fits-other-8 = fits (long 8) (replicate 61 0x62) tt refl tt
+
+pub three-8 : Three (long 8) (replicate 61 0x06) (replicate 61 0x62)
+unfolding xor
+three-8 = three (long 8) accepted-8 (replicate 61 0x06) (replicate 61 0x62) fits-8 fits-other-8 refl refl refl
 
 pub page-8 : IsPage (long 8) (replicate 64 0x01)
 unfolding pageClear
@@ -96,13 +142,17 @@ pub accepted-12 : Accepted (long 12)
 unfolding sheetRefusal
 accepted-12 = refl
 
-pub fits-12 : Fits (long 12) (replicate 1020 0x05)
+fits-12 : Fits (long 12) (replicate 1020 0x06)
 unfolding dataBytes blocksClear
-fits-12 = fits (long 12) (replicate 1020 0x05) tt refl tt
+fits-12 = fits (long 12) (replicate 1020 0x06) tt refl tt
 
-pub fits-other-12 : Fits (long 12) (replicate 1020 0x03)
+fits-other-12 : Fits (long 12) (replicate 1020 0x02)
 unfolding dataBytes blocksClear
-fits-other-12 = fits (long 12) (replicate 1020 0x03) tt refl tt
+fits-other-12 = fits (long 12) (replicate 1020 0x02) tt refl tt
+
+pub three-12 : Three (long 12) (replicate 1020 0x06) (replicate 1020 0x02)
+unfolding xor
+three-12 = three (long 12) accepted-12 (replicate 1020 0x06) (replicate 1020 0x02) fits-12 fits-other-12 refl refl refl
 
 pub page-12 : IsPage (long 12) (replicate 1024 0x01)
 unfolding pageClear
@@ -111,3 +161,14 @@ page-12 = page (long 12) (replicate 1024 0x01) tt refl tt
 pub damaged-12 : isMember (judgeAnswer (long 12) (replicate 1024 0x01)) ≡ false
 unfolding judgeAnswer pow
 damaged-12 = refl
+
+pub blocks-12 : 1020 ≡ dataBytes (long 12)
+unfolding dataBytes
+blocks-12 = refl
+
+erased-ones-12 : T (blank (long 12) (replicate 1024 0xFF))
+unfolding blank
+erased-ones-12 = tt
+
+pub erased-12 : IsBlank (long 12) (replicate 1024 0xFF)
+erased-12 = blank-iff (long 12) (accepted (long 12) accepted-12) (replicate 1024 0xFF) (bytes (replicate 1024 0xFF) tt) .0 erased-ones-12

@@ -1,18 +1,20 @@
-// Pages written at several widths, judged, read out and written again.
+// Pages written at several widths, judged, read out and written again; erased pages judged, read out and refused.
 // Each equality is expected as the program runs, and proved of every run:
 // from what the calls promise and the theorems on the promises, and nothing of how a page is made.
 ghost use mathlib.Core.Path.{_≡_};
+ghost use mathlib.Core.Bool.{_&&_};
 ghost use Prim.Native.Nat.{_≤_};
 ghost use lib.ListN.{length, getD};
 ghost use Rattle.polynomial.specs.Sums.{add};
 ghost use Rattle.code.specs.Calls.{Written, judgeAnswer, outcomeNumber};
 ghost use Rattle.code.specs.Demands.{QuotedPage};
-ghost use Rattle.code.specs.Layout.{Fits, IsPage, dataBytes, pageBytes};
+ghost use Rattle.code.specs.Layout.{IsBlank, IsPage, dataBytes, pageBytes};
 ghost use Rattle.code.specs.Parameters.{Accepted};
 ghost use Rattle.code.specs.Refused.{BlocksBuffer, PageBuffer, Width};
 ghost use Rattle.code.specs.declared.Outcome.{Outcome};
 ghost use Rattle.code.specs.declared.Verdict.{Verdict};
-ghost use Rattle.gate_rounds.specs.Answers.{isDone, isMember};
+ghost use Rattle.gate_rounds.specs.Answers.{isBlank, isDone, isMember};
+ghost use Rattle.gate_rounds.specs.Apt.{Apt};
 use code::Outcome;
 use code::Parameters;
 use code::Verdict;
@@ -42,10 +44,32 @@ fn member(r: Verdict) -> bool
 {
     match r {
         Verdict::Member => true,
+        Verdict::Blank => false,
         Verdict::SubWord(_) => false,
         Verdict::NestedWord(_) => false,
         Verdict::Refused(_) => false,
     }
+}
+
+fn blank(r: Verdict) -> bool
+    ensures { λ b. ⌜ b ≡ isBlank r ⌝ }
+{
+    match r {
+        Verdict::Member => false,
+        Verdict::Blank => true,
+        Verdict::SubWord(_) => false,
+        Verdict::NestedWord(_) => false,
+        Verdict::Refused(_) => false,
+    }
+}
+
+fn both(a: bool, b: bool) -> bool
+    ensures { λ r. ⌜ r ≡ (a && b) ⌝ }
+{
+    if a {
+        return b;
+    }
+    false
 }
 
 // The sum of two lists of bytes, byte by byte.
@@ -75,16 +99,16 @@ fn two_widths(p: Parameters, l: u32, m: u32, blocks: &[u8], one: &mut [u8], two:
     check::expect(check::same(one, two));
 }
 
-// Writes blocks that fit.
+// Writes blocks that fit, whose page is not blank.
 fn put(p: Parameters, l: u32, blocks: &[u8], page: &mut [u8])
-    requires { ⌜ Accepted p × Width l × Fits p (now blocks) × PageBuffer p (now page) ⌝ }
+    requires { ⌜ Accepted p × Width l × Apt p (now blocks) × PageBuffer p (now page) ⌝ }
     ensures { λ x. ⌜ Written p l (now (blocks .entry)) (now (page .entry)) (now (page .exit)) Outcome.Done ⌝ }
 {
     let r = page::write(p, l, blocks, page);
     check::expect(done(r));
 }
 
-// Blocks that fit: their page is a member; read out, it gives the blocks; these written at another width give the page.
+// Such blocks: their page is a member; read out, it gives the blocks; these written at another width give the page.
 fn round(
     p: Parameters,
     l: u32,
@@ -94,7 +118,7 @@ fn round(
     back: &mut [u8],
     again: &mut [u8],
 )
-    requires { ⌜ Accepted p × Width l × Width m × Fits p (now blocks) × PageBuffer p (now page) × BlocksBuffer p (now back)
+    requires { ⌜ Accepted p × Width l × Width m × Apt p (now blocks) × PageBuffer p (now page) × BlocksBuffer p (now back)
         × PageBuffer p (now again) ⌝ }
     ensures { λ x. ⌜ IsPage p (now (page .exit)) × (judgeAnswer p (now (page .exit)) ≡ Verdict.Member) ⌝ }
 {
@@ -108,9 +132,9 @@ fn round(
     check::expect(check::same(again, page));
 }
 
-// The quote is done, and the page of blocks that fit has the check and data bits quoted.
+// The quote is done, and the page of such blocks has the check and data bits quoted.
 fn quoted(p: Parameters, l: u32, blocks: &[u8], page: &mut [u8], list: &mut [u16])
-    requires { ⌜ Accepted p × Width l × Fits p (now blocks) × PageBuffer p (now page) × (length (now list) ≡ 12) ⌝ }
+    requires { ⌜ Accepted p × Width l × Apt p (now blocks) × PageBuffer p (now page) × (length (now list) ≡ 12) ⌝ }
     ensures { λ x. ⌜ QuotedPage p (λ j. getD (now (list .exit)) j 0) (now (blocks .entry)) (now (page .exit)) ⌝ }
 {
     let r = sizes::quote(p, list);
@@ -118,7 +142,7 @@ fn quoted(p: Parameters, l: u32, blocks: &[u8], page: &mut [u8], list: &mut [u16
     put(p, l, blocks, page);
 }
 
-// The page of a sum is the sum of the pages.
+// The page of a sum is the sum of the pages, where none of the three is blank.
 fn sums(
     p: Parameters,
     k: u32,
@@ -132,8 +156,8 @@ fn sums(
     xy: &mut [u8],
     sum: &mut [u8],
 )
-    requires { ⌜ Accepted p × Width k × Width l × Width m × Fits p (now a) × Fits p (now b) × BlocksBuffer p (now ab) × PageBuffer p (now x)
-        × PageBuffer p (now y) × PageBuffer p (now xy) × PageBuffer p (now sum) ⌝ }
+    requires { ⌜ Accepted p × Width k × Width l × Width m × Apt p (now a) × Apt p (now b) × BlocksBuffer p (now ab) × PageBuffer p (now x)
+        × PageBuffer p (now y) × PageBuffer p (now xy) × PageBuffer p (now sum) × Apt p (add (now a) (now b)) ⌝ }
 {
     add_bytes(a, b, ab);
     put(p, k, a, x);
@@ -144,7 +168,7 @@ fn sums(
     check::expect(check::same(xy, sum));
 }
 
-// Any page is a member exactly when its blocks, written, give the page: by judge's answer and by read out's. Is it one?
+// Any page is a member exactly when the writing of its blocks is done and gives the page: by judge's answer and by read out's. Is it one?
 fn rewrites(p: Parameters, l: u32, page: &[u8], blocks: &mut [u8], again: &mut [u8]) -> bool
     requires { ⌜ Accepted p × Width l × IsPage p (now page) × BlocksBuffer p (now blocks) × PageBuffer p (now again) ⌝ }
     ensures { λ b. ⌜ b ≡ isMember (judgeAnswer p (now (page .entry))) ⌝ }
@@ -152,15 +176,29 @@ fn rewrites(p: Parameters, l: u32, page: &[u8], blocks: &mut [u8], again: &mut [
     let j = page::judge(p, page);
     let r = page::read_out(p, page, blocks);
     let w = page::write(p, l, blocks, again);
-    check::expect(done(w));
-    let same = check::same(again, page);
+    let made = done(w);
+    let same = both(made, check::same(again, page));
     let judged = member(j);
     check::expect(judged == same);
     check::expect(member(r) == same);
     judged
 }
 
-// ---- the laws on blocks a and b that fit, at some widths
+// An erased page, its spare bits set or not: blank by judge and by read out; its blocks are refused, and the buffer stays as it was.
+fn erased(p: Parameters, l: u32, page: &[u8], blocks: &mut [u8], again: &mut [u8], old: &[u8])
+    requires { ⌜ Accepted p × Width l × PageBuffer p (now page) × IsBlank p (now page) × BlocksBuffer p (now blocks)
+        × PageBuffer p (now again) × (now old ≡ now again) ⌝ }
+{
+    let j = page::judge(p, page);
+    check::expect(blank(j));
+    let r = page::read_out(p, page, blocks);
+    check::expect(blank(r));
+    let w = page::write(p, l, blocks, again);
+    check::expect(number(w) == 13);
+    check::expect(check::same(again, old));
+}
+
+// ---- the laws on blocks a and b that fit and make no blank page, nor does their sum, at some widths
 
 // Blocks a and b, and other bytes, refused alike where they do not fit.
 fn widths(p: Parameters, a: &[u8], b: &[u8], other: &[u8], x: &mut [u8], y: &mut [u8])
@@ -173,7 +211,7 @@ fn widths(p: Parameters, a: &[u8], b: &[u8], other: &[u8], x: &mut [u8], y: &mut
 
 // The page of a is a member by rewriting too.
 fn round_again(p: Parameters, a: &[u8], back: &mut [u8], x: &mut [u8], y: &mut [u8])
-    requires { ⌜ Accepted p × Fits p (now a) × BlocksBuffer p (now back) × PageBuffer p (now x) × PageBuffer p (now y) ⌝ }
+    requires { ⌜ Accepted p × Apt p (now a) × BlocksBuffer p (now back) × PageBuffer p (now x) × PageBuffer p (now y) ⌝ }
 {
     round(p, 8, 33, a, x, back, y);
     check::expect(rewrites(p, 5, x, back, y));
@@ -189,8 +227,8 @@ fn on(
     z: &mut [u8],
     sum: &mut [u8],
 )
-    requires { ⌜ Accepted p × Fits p (now a) × Fits p (now b) × BlocksBuffer p (now ab) × PageBuffer p (now x) × PageBuffer p (now y)
-        × PageBuffer p (now z) × PageBuffer p (now sum) ⌝ }
+    requires { ⌜ Accepted p × Apt p (now a) × Apt p (now b) × BlocksBuffer p (now ab) × PageBuffer p (now x) × PageBuffer p (now y)
+        × PageBuffer p (now z) × PageBuffer p (now sum) × Apt p (add (now a) (now b)) ⌝ }
 {
     widths(p, a, b, sum, x, y);
     round_again(p, a, ab, x, y);
@@ -199,7 +237,8 @@ fn on(
 
 // With rooms for blocks and pages of up to 1024 bytes; a page has n.
 fn on_rooms(p: Parameters, a: &[u8], b: &[u8], n: usize)
-    requires { ⌜ Accepted p × Fits p (now a) × Fits p (now b) × (n ≡ pageBytes p) × (length (now a) ≤ 1024) × (n ≤ 1024) ⌝ }
+    requires { ⌜ Accepted p × Apt p (now a) × Apt p (now b) × (n ≡ pageBytes p) × (length (now a) ≤ 1024) × (n ≤ 1024)
+        × Apt p (add (now a) (now b)) ⌝ }
 {
     let k = a.len();
     let mut ab = [0x00u8; 1024];
@@ -232,16 +271,35 @@ fn rewrites_rooms(p: Parameters, x: &[u8], k: usize) -> bool
 
 // And the quote, beside the page of a.
 fn quoted_rooms(p: Parameters, a: &[u8], n: usize)
-    requires { ⌜ Accepted p × Fits p (now a) × (n ≡ pageBytes p) × (n ≤ 1024) ⌝ }
+    requires { ⌜ Accepted p × Apt p (now a) × (n ≡ pageBytes p) × (n ≤ 1024) ⌝ }
 {
     let mut page = [0x33u8; 1024];
     let mut list = [0xffffu16; 12];
     quoted(p, 9, a, &mut page[..n], &mut list);
 }
 
+// And the erased page x, whose blocks take k bytes.
+fn erased_rooms(p: Parameters, x: &[u8], k: usize)
+    requires { ⌜ Accepted p × PageBuffer p (now x) × IsBlank p (now x) × (k ≡ dataBytes p) × (k ≤ 1024) × (length (now x) ≤ 1024) ⌝ }
+{
+    let n = x.len();
+    let mut blocks = [0x5au8; 1024];
+    let mut again = [0xa5u8; 1024];
+    let old = [0xa5u8; 1024];
+    erased(
+        p,
+        17,
+        x,
+        &mut blocks[..k],
+        &mut again[..n],
+        &old[..n],
+    );
+}
+
 // The laws on blocks a and b and on any page x. Is it a member?
 fn holds(p: Parameters, a: &[u8], b: &[u8], x: &[u8]) -> bool
-    requires { ⌜ Accepted p × Fits p (now a) × Fits p (now b) × IsPage p (now x) × (length (now a) ≤ 1024) × (length (now x) ≤ 1024) ⌝ }
+    requires { ⌜ Accepted p × Apt p (now a) × Apt p (now b) × IsPage p (now x) × (length (now a) ≤ 1024) × (length (now x) ≤ 1024)
+        × Apt p (add (now a) (now b)) ⌝ }
     ensures { λ r. ⌜ r ≡ isMember (judgeAnswer p (now (x .entry))) ⌝ }
 {
     on_rooms(p, a, b, x.len());
@@ -250,7 +308,7 @@ fn holds(p: Parameters, a: &[u8], b: &[u8], x: &[u8]) -> bool
 }
 
 fn main() {
-    // the requirement's sheet A, with its member FF 7F FF 7F and its page of a failing nested word
+    // the requirement's sheet A, with its member C2 01 13 00, its page of a failing nested word and its erased pages
     let p = Parameters {
         q: 4,
         m: 2,
@@ -260,12 +318,17 @@ fn main() {
         t2: 0,
         t3: 0,
     };
-    let a = [0x01u8, 0x01, 0x00];
-    let b = [0x7fu8, 0xff, 0x07];
-    let x = [0xffu8, 0x7f, 0xff, 0x7f];
+    let a = [0x02u8, 0x01, 0x00];
+    let b = [0x7eu8, 0xff, 0x07];
+    let x = [0xc2u8, 0x01, 0x13, 0x00];
     let y = [0x13u8, 0x00, 0x00, 0x00];
+    let z = [0xffu8, 0x7f, 0xff, 0x7f];
+    let e = [0xffu8, 0xff, 0xff, 0xff];
     check::expect(holds(p, &a, &b, &x));
     check::expect(!holds(p, &a, &b, &y));
+    check::expect(!holds(p, &a, &b, &z));
+    erased_rooms(p, &z, 3);
+    erased_rooms(p, &e, 3);
     // sheet B, with its page 26 00 35 00 13 00 damaged
     let p = Parameters {
         q: 4,
@@ -277,7 +340,7 @@ fn main() {
         t3: 0,
     };
     let a = [0x00u8, 0x00, 0x01, 0x00];
-    let b = [0x1fu8, 0x7f, 0xff, 0x07];
+    let b = [0x1eu8, 0x7f, 0xff, 0x07];
     let x = [0x26u8, 0x00, 0x35, 0x00, 0x13, 0x01];
     check::expect(!holds(p, &a, &b, &x));
     // q = 8 and q = 12
@@ -290,8 +353,8 @@ fn main() {
         t2: 0,
         t3: 0,
     };
-    let a = [0x05u8; 61];
-    let b = [0x63u8; 61];
+    let a = [0x06u8; 61];
+    let b = [0x62u8; 61];
     let x = [0x01u8; 64];
     check::expect(!holds(p, &a, &b, &x));
     let p = Parameters {
@@ -303,8 +366,10 @@ fn main() {
         t2: 0,
         t3: 0,
     };
-    let a = [0x05u8; 1020];
-    let b = [0x03u8; 1020];
+    let a = [0x06u8; 1020];
+    let b = [0x02u8; 1020];
     let x = [0x01u8; 1024];
+    let e = [0xffu8; 1024];
     check::expect(!holds(p, &a, &b, &x));
+    erased_rooms(p, &e, 1020);
 }

@@ -1,9 +1,9 @@
 use borrow.Author.Needs.{needs}
 use mathlib.Core.Bool.{not}
-use mathlib.Core.Path.{ap, _∙_}
+use mathlib.Core.Path.{refl, ap, _∙_}
 use lib.Dec.{lit≤}
-use Rattle.cases.specs.Inhabited.{accepted-A, accepted-B, fits-A}
-use Rattle.gate_rounds.specs.Sheets.{accepted-8, accepted-12, damaged-8, damaged-12, damaged-A, damaged-B, fits-8, fits-12, fits-B, fits-ones-A, fits-ones-B, fits-other-8, fits-other-12, member-ones-A, page-8, page-12, page-damaged-A, page-damaged-B, page-ones-A}
+use Rattle.cases.specs.Inhabited.{accepted-A, accepted-B, erased-blank, isPage-A}
+use Rattle.gate_rounds.specs.Sheets.{accepted-8, accepted-12, blocks-12, blocks-A, cleared-A, damaged-8, damaged-12, damaged-A, damaged-B, erased-12, member-A, no-member-A, page-8, page-12, page-cleared-A, page-damaged-A, page-damaged-B, three-8, three-12, three-A, three-B}
 use Rattle.gate_rounds.proofs.main.Statement.{statement}
 use Rattle.gate_rounds.proofs.main.Tie as tie
 
@@ -17,10 +17,10 @@ slice-aggregate-holds-3 : tie.Need-slice-aggregate-holds-3
 slice-aggregate-holds-3 c = search needs
 
 holds-requires : tie.Need-holds-requires
-holds-requires c κs = (accepted-A, fits-A, fits-ones-A, page-ones-A, lit≤ tt, lit≤ tt)
+holds-requires c κs = (accepted-A, three-A .0, three-A .1, isPage-A, lit≤ tt, lit≤ tt, three-A .2)
 
 expect-requires : tie.Need-expect-requires
-expect-requires c κs = c .holds .ensures ∙ member-ones-A
+expect-requires c κs = c .holds .ensures ∙ member-A
 
 slice-aggregate-holds-4 : tie.Need-slice-aggregate-holds-4
 slice-aggregate-holds-4 c = search needs
@@ -32,7 +32,7 @@ slice-aggregate-holds-6 : tie.Need-slice-aggregate-holds-6
 slice-aggregate-holds-6 c = search needs
 
 holds-requires-2 : tie.Need-holds-requires-2
-holds-requires-2 c κs = (accepted-A, fits-A, fits-ones-A, page-damaged-A, lit≤ tt, lit≤ tt)
+holds-requires-2 c κs = (accepted-A, three-A .0, three-A .1, page-damaged-A, lit≤ tt, lit≤ tt, three-A .2)
 
 expect-requires-2 : tie.Need-expect-requires-2
 expect-requires-2 c κs = ap not (c .holds2 .ensures ∙ damaged-A)
@@ -47,10 +47,22 @@ slice-aggregate-holds-9 : tie.Need-slice-aggregate-holds-9
 slice-aggregate-holds-9 c = search needs
 
 holds-requires-3 : tie.Need-holds-requires-3
-holds-requires-3 c κs = (accepted-B, fits-B, fits-ones-B, page-damaged-B, lit≤ tt, lit≤ tt)
+holds-requires-3 c κs = (accepted-A, three-A .0, three-A .1, page-cleared-A, lit≤ tt, lit≤ tt, three-A .2)
 
 expect-requires-3 : tie.Need-expect-requires-3
-expect-requires-3 c κs = ap not (c .holds3 .ensures ∙ damaged-B)
+expect-requires-3 c κs = ap not (c .holds3 .ensures ∙ no-member-A)
+
+slice-aggregate-erased-rooms : tie.Need-slice-aggregate-erased-rooms
+slice-aggregate-erased-rooms c = search needs
+
+erased-rooms-requires : tie.Need-erased-rooms-requires
+erased-rooms-requires c κs = (accepted-A, refl, cleared-A, blocks-A, lit≤ tt, lit≤ tt)
+
+slice-aggregate-erased-rooms-2 : tie.Need-slice-aggregate-erased-rooms-2
+slice-aggregate-erased-rooms-2 c = search needs
+
+erased-rooms-requires-2 : tie.Need-erased-rooms-requires-2
+erased-rooms-requires-2 c κs = (accepted-A, refl, erased-blank, blocks-A, lit≤ tt, lit≤ tt)
 
 slice-aggregate-holds-10 : tie.Need-slice-aggregate-holds-10
 slice-aggregate-holds-10 c = search needs
@@ -62,10 +74,10 @@ slice-aggregate-holds-12 : tie.Need-slice-aggregate-holds-12
 slice-aggregate-holds-12 c = search needs
 
 holds-requires-4 : tie.Need-holds-requires-4
-holds-requires-4 c κs = (accepted-8, fits-8, fits-other-8, page-8, lit≤ tt, lit≤ tt)
+holds-requires-4 c κs = (accepted-B, three-B .0, three-B .1, page-damaged-B, lit≤ tt, lit≤ tt, three-B .2)
 
 expect-requires-4 : tie.Need-expect-requires-4
-expect-requires-4 c κs = ap not (c .holds4 .ensures ∙ damaged-8)
+expect-requires-4 c κs = ap not (c .holds4 .ensures ∙ damaged-B)
 
 slice-aggregate-holds-13 : tie.Need-slice-aggregate-holds-13
 slice-aggregate-holds-13 c = search needs
@@ -77,10 +89,31 @@ slice-aggregate-holds-15 : tie.Need-slice-aggregate-holds-15
 slice-aggregate-holds-15 c = search needs
 
 holds-requires-5 : tie.Need-holds-requires-5
-holds-requires-5 c κs = (accepted-12, fits-12, fits-other-12, page-12, lit≤ tt, lit≤ tt)
+holds-requires-5 c κs = (accepted-8, three-8 .0, three-8 .1, page-8, lit≤ tt, lit≤ tt, three-8 .2)
 
 expect-requires-5 : tie.Need-expect-requires-5
-expect-requires-5 c κs = ap not (c .holds5 .ensures ∙ damaged-12)
+expect-requires-5 c κs = ap not (c .holds5 .ensures ∙ damaged-8)
+
+slice-aggregate-holds-16 : tie.Need-slice-aggregate-holds-16
+slice-aggregate-holds-16 c = search needs
+
+slice-aggregate-holds-17 : tie.Need-slice-aggregate-holds-17
+slice-aggregate-holds-17 c = search needs
+
+slice-aggregate-holds-18 : tie.Need-slice-aggregate-holds-18
+slice-aggregate-holds-18 c = search needs
+
+holds-requires-6 : tie.Need-holds-requires-6
+holds-requires-6 c κs = (accepted-12, three-12 .0, three-12 .1, page-12, lit≤ tt, lit≤ tt, three-12 .2)
+
+expect-requires-6 : tie.Need-expect-requires-6
+expect-requires-6 c κs = ap not (c .holds6 .ensures ∙ damaged-12)
+
+slice-aggregate-erased-rooms-3 : tie.Need-slice-aggregate-erased-rooms-3
+slice-aggregate-erased-rooms-3 c = search needs
+
+erased-rooms-requires-3 : tie.Need-erased-rooms-requires-3
+erased-rooms-requires-3 c κs = (accepted-12, refl, erased-12, blocks-12, lit≤ tt, lit≤ tt)
 
 returns : tie.Need-returns
 returns c = search needs
@@ -104,6 +137,10 @@ main-spec =
     slice-aggregate-holds-9
     holds-requires-3
     expect-requires-3
+    slice-aggregate-erased-rooms
+    erased-rooms-requires
+    slice-aggregate-erased-rooms-2
+    erased-rooms-requires-2
     slice-aggregate-holds-10
     slice-aggregate-holds-11
     slice-aggregate-holds-12
@@ -114,4 +151,11 @@ main-spec =
     slice-aggregate-holds-15
     holds-requires-5
     expect-requires-5
+    slice-aggregate-holds-16
+    slice-aggregate-holds-17
+    slice-aggregate-holds-18
+    holds-requires-6
+    expect-requires-6
+    slice-aggregate-erased-rooms-3
+    erased-rooms-requires-3
     returns)

@@ -20,7 +20,7 @@ sums-requires c κs =
     let y = b .before .before .before .before .before .before in
     let x2 = c .before .before .before .before .before .before .before .before in
     let y2 = c .before .before .before .before .before .before in
-    (s .pre .0, search needs, search needs, search needs, s .pre .1, s .pre .2, b .ab .given ∙ s .pre .3, x2 .x2 .given ∙ x .x .given ∙ s .pre .4, y2 .y2 .given ∙ y .y .given ∙ s .pre .5, s .pre .6, s .pre .7)
+    (s .pre .0, search needs, search needs, search needs, s .pre .1, s .pre .2, b .ab .given ∙ s .pre .3, x2 .x2 .given ∙ x .x .given ∙ s .pre .4, y2 .y2 .given ∙ y .y .given ∙ s .pre .5, s .pre .6, s .pre .7, s .pre .8)
 
 same-length : tie.Need-same-length
 same-length c = search needs

@@ -38,7 +38,7 @@ slice-aggregate-on-5 c = let s = c .before .before .before .before .before .befo
 on-requires : tie.Need-on-requires
 on-requires c κs =
     let s = c .before .before .before .before .before .before .before in
-    (s .pre .0, s .pre .1, s .pre .2, length-take (length (s .args .a .now)) _ ∙ Nat.min-eq-left (s .pre .4) ∙ s .pre .1 .exact, length-take (s .args .n) _ ∙ Nat.min-eq-left (s .pre .5) ∙ s .pre .3, length-take (s .args .n) _ ∙ Nat.min-eq-left (s .pre .5) ∙ s .pre .3, length-take (s .args .n) _ ∙ Nat.min-eq-left (s .pre .5) ∙ s .pre .3, length-take (s .args .n) _ ∙ Nat.min-eq-left (s .pre .5) ∙ s .pre .3)
+    (s .pre .0, s .pre .1, s .pre .2, length-take (length (s .args .a .now)) _ ∙ Nat.min-eq-left (s .pre .4) ∙ s .pre .1 .fits .exact, length-take (s .args .n) _ ∙ Nat.min-eq-left (s .pre .5) ∙ s .pre .3, length-take (s .args .n) _ ∙ Nat.min-eq-left (s .pre .5) ∙ s .pre .3, length-take (s .args .n) _ ∙ Nat.min-eq-left (s .pre .5) ∙ s .pre .3, length-take (s .args .n) _ ∙ Nat.min-eq-left (s .pre .5) ∙ s .pre .3, s .pre .6)
 
 returns : tie.Need-returns
 returns c = search needs

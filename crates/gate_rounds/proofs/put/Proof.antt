@@ -10,7 +10,7 @@ written : (c : tie.After-write) → (let a = c .before .before .before .before .
 written c =
     let s = c .before .before .before .before in
     let a = s .args in
-    demands (a .p) (s .pre .0) .0 .write-laws (a .l) (a .blocks .now) (a .page .now) _ _ (s .pre .1) (s .pre .2) (s .pre .3) (c .write .ensures)
+    demands (a .p) (s .pre .0) .0 .write-laws (a .l) (a .blocks .now) (a .page .now) _ _ (s .pre .1) (s .pre .2 .fits) (s .pre .3) (s .pre .2 .other) (c .write .ensures)
 
 write-requires : tie.Need-write-requires
 write-requires c κs = search needs

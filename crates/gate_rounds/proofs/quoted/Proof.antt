@@ -40,7 +40,7 @@ returns c =
     let u = c .before .before in
     let q = u .before .before .before .before .before .before in
     let s = q .before .before .before .before .before in
-    demands (s .args .p) (s .pre .0) .0 .quoted-pages _ (s .args .l) (s .args .blocks .now) (s .args .page .now) _ Outcome.Done (said q .2) (s .pre .1) (s .pre .2) (s .pre .3) (u .put .ensures)
+    demands (s .args .p) (s .pre .0) .0 .quoted-pages _ (s .args .l) (s .args .blocks .now) (s .args .page .now) _ Outcome.Done (said q .2) (s .pre .1) (s .pre .2 .fits) (s .pre .3) (s .pre .2 .other) (u .put .ensures)
 
 pub quoted-spec : {M : Type 1} → statement M
 quoted-spec = tie.close (tie.spec quote-requires done-requires expect-requires put-requires same-length same-length-2 returns)

@@ -13,7 +13,7 @@ written : (c : tie.After-put) → (let a = c .before .before .before .before .be
 written c =
     let s = c .before .before .before .before .before .before in
     let a = s .args in
-    demands (a .p) (s .pre .0) .0 .write-laws (a .l) (a .blocks .now) (a .page .now) _ _ (s .pre .1) (s .pre .3) (s .pre .4) (c .put .ensures)
+    demands (a .p) (s .pre .0) .0 .write-laws (a .l) (a .blocks .now) (a .page .now) _ _ (s .pre .1) (s .pre .3 .fits) (s .pre .4) (s .pre .3 .other) (c .put .ensures)
 
 out : (c : tie.After-read-out) → (c .read-out .result ≡ Verdict.Member) × (c .read-out .last .1 .1 .0 ≡ c .before .before .before .before .before .before .before .before .before .before .before .before .before .before .before .args .blocks .now)
 out c =

@@ -15,8 +15,8 @@ summed c =
     let t = x .before .before .before .before in
     let s = t .before .before .before .before .before .before .before .before .before in
     let a = s .args in
-    demands (a .p) (s .pre .0) .1 .sums (a .k) (a .l) (a .m) (a .a .now) (a .b .now) (a .x .now) (a .y .now) (a .xy .now) _ _ _ _ _ _ (s .pre .1) (s .pre .2) (s .pre .3) (s .pre .4) (s .pre .5)
-    (s .pre .7) (s .pre .8) (s .pre .9) (x .put .ensures) (y .put2 .ensures) (rw (t .add-bytes .ensures) at (c .write .ensures))
+    demands (a .p) (s .pre .0) .1 .sums (a .k) (a .l) (a .m) (a .a .now) (a .b .now) (a .x .now) (a .y .now) (a .xy .now) _ _ _ _ _ _ (s .pre .1) (s .pre .2) (s .pre .3) (s .pre .4 .fits) (s .pre .5 .fits)
+    (s .pre .7) (s .pre .8) (s .pre .9) (s .pre .4 .other) (s .pre .5 .other) (s .pre .11 .other) (x .put .ensures) (y .put2 .ensures) (rw (t .add-bytes .ensures) at (c .write .ensures))
 
 add-bytes-requires : tie.Need-add-bytes-requires
 add-bytes-requires c κs = search needs
