@@ -94,7 +94,7 @@ getD-map f (x ∷ l) zero h = refl
 getD-map f (x ∷ l) (suc i) h = getD-map f l i (Nat.le-of-suc-le-suc h)
 
 -- ---- words one by one
-high-coefficient : (c w r : ℕ) → coefficient c (w + r) ≡ coefficient (c / 2 ^ w) r
+pub high-coefficient : (c w r : ℕ) → coefficient c (w + r) ≡ coefficient (c / 2 ^ w) r
 high-coefficient c w r = ap (λ (y : ℕ). y % 2) (sym (shr-shr c w r))
 
 -- the data of word j + i, for any i: past the end both are 0

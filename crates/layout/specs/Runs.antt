@@ -13,7 +13,7 @@ use lib.Dec.{eqb, eqb→eq, eqb-refl, ltb, ltb→lt, lt→ltb, lit<}
 use lib.ListN.{length, getD, set, take, drop, length-drop, take-append-drop}
 use lib.Pow.{high, low, mod-pow-add, pow-add}
 use lib.Seq.{drop-drop, getD-drop, getD-take, length-take-le, take-length}
-use borrow.Author.Tests.{ne-eqb}
+use borrow.Author.Tests.{ltb-false, ltb-true, ne-eqb}
 use Rattle.polynomial.specs.Bits.{coefficient}
 use Rattle.polynomial.specs.Digits.{digits, value, value-coefficient}
 use Rattle.polynomial.specs.Sums.{all-drop, all-take, at-all}
@@ -21,6 +21,7 @@ use Rattle.code.specs.Blank.{low-ones, ones-low}
 use Rattle.code.specs.Chains.{both-ways}
 use Rattle.code.specs.Layout.{Bytes}
 use Rattle.code.specs.Lists.{fitsIn, join, onesIn, split, sum}
+use Rattle.code.specs.Placement.{high-coefficient}
 
 -- ---- offsets
 pub sum-none : (ks : List ℕ) → sum (take 0 ks) ≡ 0
@@ -146,6 +147,63 @@ ones-found l at k end s h n = record { all = λ e. absurd (true-false (sym e)); 
 
 pub ones-done : (l : List ℕ) (at k end : ℕ) → OnesSo l at k → end ≤ k → OnesFound l at end true
 ones-done l at k end s h = record { all = λ e i u j. s .all i u (Nat.lt-of-lt-of-le j h); none = λ f. refl }
+
+-- one part after the other
+pub found-first : (l : List ℕ) (at m end : ℕ) → OnesFound l at m false → m ≤ end → OnesFound l at end false
+found-first l at m end o h =
+    record { all = λ e. absurd (true-false (sym e)); none = λ f. o .none (λ i u j. f i u (Nat.lt-of-lt-of-le j h)) }
+
+pub found-rest : (l : List ℕ) (at m end : ℕ) (r : Bool) → OnesFound l at m true → OnesFound l m end r → at ≤ m → OnesFound l at end r
+found-rest l at m end r o u h =
+    record { all = λ e i x y. go e i x y (ltb i m) refl; none = λ f. u .none (λ i x y. f i (Nat.le-trans h x) y) }
+  where
+    go : r ≡ true → (i : ℕ) → at ≤ i → i < end → (t : Bool) → ltb i m ≡ t → getD l i 0 ≡ 255
+    go e i x y true t = o .all refl i x (ltb-true i m t)
+    go e i x y false t = u .all e i (ltb-false i m t) y
+
+-- a word is all ones exactly when its 8 bytes are 255
+word-bit : (l : List ℕ) (k j : ℕ) → ((i : ℕ) → getD l i 0 < 256)
+    → coefficient (value 8 l / 2 ^ (8 * k)) j ≡ coefficient (getD l ((8 * k + j) / 8) 0) ((8 * k + j) % 8)
+word-bit l k j h =
+    sym (high-coefficient (value 8 l) (8 * k) j) ∙ value-coefficient 8 (lit< tt) l (at-all (λ d. d < 256) l (λ n _. h n)) (8 * k + j)
+
+module _ (l : List ℕ) (k w : ℕ) (h : (i : ℕ) → getD l i 0 < 256) (e : w ≡ value 8 l / 2 ^ (8 * k) % 2 ^ 64) where
+  pub word-all : w ≡ 0xFFFFFFFFFFFFFFFF → (i : ℕ) → k ≤ i → i < k + 8 → getD l i 0 ≡ 255
+  word-all t i x y = sym (Nat.mod-eq-of-lt (h i)) ∙ ones-low 8 (getD l i 0) (λ s d. sym (at s d) ∙ bit s d)
+    where
+      at : (s : ℕ) → s < 8 → coefficient (value 8 l / 2 ^ (8 * k)) (8 * (i - k) + s) ≡ coefficient (getD l i 0) s
+      at s d =
+          let m : (8 * k + (8 * (i - k) + s)) / 8 ≡ i = omega arith in
+          let n : (8 * k + (8 * (i - k) + s)) % 8 ≡ s = omega arith in
+          word-bit l k (8 * (i - k) + s) h ∙ ap₂ (λ (a b : ℕ). coefficient (getD l a 0) b) m n
+
+      bit : (s : ℕ) → s < 8 → coefficient (value 8 l / 2 ^ (8 * k)) (8 * (i - k) + s) ≡ 1
+      bit s d = low-ones 64 (value 8 l / 2 ^ (8 * k)) (sym e ∙ t) (8 * (i - k) + s) (omega arith)
+
+  pub all-word : ((i : ℕ) → k ≤ i → i < k + 8 → getD l i 0 ≡ 255) → w ≡ 0xFFFFFFFFFFFFFFFF
+  all-word f =
+      e ∙ ones-low 64 (value 8 l / 2 ^ (8 * k))
+      (λ j d. word-bit l k j h ∙ ap (λ (y : ℕ). coefficient y ((8 * k + j) % 8)) (f ((8 * k + j) / 8) (omega arith) (omega arith))
+      ∙ low-ones 8 255 refl ((8 * k + j) % 8) (omega arith))
+
+-- words that are all ones so far
+pub words-start : (l : List ℕ) (at : ℕ) → OnesSo l at (at + 8 * 0)
+words-start l at = let e : at + 8 * 0 ≡ at = omega arith in rw e (ones-start l at)
+
+module _ (l : List ℕ) (at count i w : ℕ) (h : (j : ℕ) → getD l j 0 < 256) (e : w ≡ value 8 l / 2 ^ (8 * (at + 8 * i)) % 2 ^ 64)
+    (s : OnesSo l at (at + 8 * i)) where
+  pub word-turn : w ≡ 0xFFFFFFFFFFFFFFFF → OnesSo l at (at + 8 * (i + 1))
+  word-turn t = record { from = omega arith; all = λ j x y. go j x y (ltb j (at + 8 * i)) refl }
+    where
+      go : (j : ℕ) → at ≤ j → j < at + 8 * (i + 1) → (b : Bool) → ltb j (at + 8 * i) ≡ b → getD l j 0 ≡ 255
+      go j x y true b = s .all j x (ltb-true j (at + 8 * i) b)
+      go j x y false b = word-all l (at + 8 * i) w h e t j (ltb-false j (at + 8 * i) b) (omega arith)
+
+  pub word-found : i < count → (w ≡ 0xFFFFFFFFFFFFFFFF → ⊥) → OnesFound l at (at + 8 * count) false
+  word-found b n = record {
+    all = λ t. absurd (true-false (sym t));
+    none = λ f. absurd (n (all-word l (at + 8 * i) w h e (λ j x y. f j (Nat.le-trans (s .from) x) (omega arith))));
+  }
 
 module _ (l : List ℕ) (at k b : ℕ) (h : (i : ℕ) → getD l i 0 < 256) (low : 1 ≤ b) (f : k ≡ (b + 7) / 8) where
   abbrev number : ℕ

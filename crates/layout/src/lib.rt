@@ -162,7 +162,22 @@ fn run_clear(bytes: &[u8], at: usize, size: usize, b: usize) -> bool
     top < bound
 }
 
-// The bytes from `at` on, up to `end`, are all 255.
+// The 8 × count bytes from `at` on are all 255, a word at a time.
+fn words_ones(bytes: &[u8], at: usize, count: usize) -> bool
+    requires { ⌜ at + 8 * count ≤ length (now bytes) ⌝ }
+    ensures { λ r. ⌜ OnesFound (now (bytes .entry)) at (at + 8 * count) r ⌝ }
+{
+    let mut i: usize = 0;
+    while i < count {
+        if kernels::bits::word_in(bytes, at + 8 * i) != 0xffffffffffffffff {
+            return false;
+        }
+        i += 1;
+    }
+    true
+}
+
+// The bytes from `at` on, up to `end`, are all 255, one by one.
 fn bytes_ones(bytes: &[u8], at: usize, end: usize) -> bool
     requires { ⌜ end ≤ length (now bytes) ⌝ }
     ensures { λ r. ⌜ OnesFound (now (bytes .entry)) at end r ⌝ }
@@ -177,13 +192,25 @@ fn bytes_ones(bytes: &[u8], at: usize, end: usize) -> bool
     true
 }
 
+// The same, by words as far as these go.
+fn range_ones(bytes: &[u8], at: usize, end: usize) -> bool
+    requires { ⌜ (at ≤ end) × (end ≤ length (now bytes)) ⌝ }
+    ensures { λ r. ⌜ OnesFound (now (bytes .entry)) at end r ⌝ }
+{
+    let count = (end - at) / 8;
+    if !words_ones(bytes, at, count) {
+        return false;
+    }
+    bytes_ones(bytes, at + 8 * count, end)
+}
+
 // The b lowest bits of the run of bytes at `at` are all 1, whatever its unused bits.
 fn run_ones(bytes: &[u8], at: usize, size: usize, b: usize) -> bool
     requires { ⌜ (1 ≤ b) × (b < 4096) × (size ≡ (b + 7) / 8) × (at + size ≤ length (now bytes)) ⌝ }
     ensures { λ r. ⌜ r ≡ runPasses onesIn (now (bytes .entry)) at size b ⌝ }
 {
     let last = at + size - 1;
-    if !bytes_ones(bytes, at, last) {
+    if !range_ones(bytes, at, last) {
         return false;
     }
     let unused = 8 * size - b;

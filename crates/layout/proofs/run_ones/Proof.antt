@@ -12,8 +12,8 @@ add-last c = search needs
 sub-last : tie.Need-sub-last
 sub-last c = search needs
 
-bytes-ones-requires : tie.Need-bytes-ones-requires
-bytes-ones-requires c κs = search needs
+range-ones-requires : tie.Need-range-ones-requires
+range-ones-requires c κs = search needs
 
 returns : tie.Need-returns
 returns c =
@@ -21,7 +21,7 @@ returns c =
     let k = b .before in
     let s = k .before in
     run-not (s .args .bytes .now) (s .args .at) (s .args .size) (s .args .b) (λ i. k .shared-slice-known .given i .fits) (s .pre .0) (s .pre .2)
-    (b .bytes-ones .result) (b .bytes-ones .ensures) (not-true _ (c .if1 .taken))
+    (b .range-ones .result) (b .range-ones .ensures) (not-true _ (c .if1 .taken))
 
 mul-unused : tie.Need-mul-unused
 mul-unused c = search needs
@@ -55,7 +55,7 @@ returns-2 c =
     let k = b .before in
     let s = k .before in
     run-top (s .args .bytes .now) (s .args .at) (s .args .size) (s .args .b) (λ i. k .shared-slice-known .given i .fits) (s .pre .0) (s .pre .2)
-    (b .bytes-ones .result) (b .bytes-ones .ensures) (not-false _ (e .if1 .left)) (t .two-to .result) (t .two-to .ensures)
+    (b .range-ones .result) (b .range-ones .ensures) (not-false _ (e .if1 .left)) (t .two-to .result) (t .two-to .ensures)
 
 pub run-ones-spec : {M : Type 1} → statement M
 run-ones-spec =
@@ -63,7 +63,7 @@ run-ones-spec =
     (tie.spec
     add-last
     sub-last
-    bytes-ones-requires
+    range-ones-requires
     returns
     mul-unused
     sub-unused
