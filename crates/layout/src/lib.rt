@@ -1,6 +1,6 @@
 // Lengths of pages and blocks, a page's sub-words, and the tests of their bits: none stray, or all 1.
 ghost use mathlib.Core.Path.{_≡_};
-ghost use Prim.Native.Nat.{_+_, _*_, _/_, _%_, _^_, _≤_, _<_};
+ghost use Prim.Native.Nat.{_+_, _-_, _*_, _/_, _%_, _^_, _≤_, _<_};
 ghost use lib.ListN.{length, take, drop};
 ghost use Rattle.polynomial.specs.Digits.{value};
 ghost use Rattle.code.specs.Parameters.{Accepted, len, stored, subWordBytes, nestedBytes, full};
@@ -150,13 +150,21 @@ fn two_to(k: usize) -> usize
     1 << k
 }
 
+// What the last byte of a run is below: 2 to its bits among the b.
+fn last_bound(size: usize, b: usize) -> usize
+    requires { ⌜ (1 ≤ b) × (b < 4096) × (size ≡ (b + 7) / 8) ⌝ }
+    ensures { λ r. ⌜ r ≡ 2 ^ (8 - (8 * size - b)) ⌝ }
+{
+    let unused = 8 * size - b;
+    two_to(8 - unused)
+}
+
 // The run of bytes at `at` is below 2^b as a number: of its last byte no unused bit is 1.
 fn run_clear(bytes: &[u8], at: usize, size: usize, b: usize) -> bool
     requires { ⌜ (1 ≤ b) × (b < 4096) × (size ≡ (b + 7) / 8) × (at + size ≤ length (now bytes)) ⌝ }
     ensures { λ r. ⌜ r ≡ runPasses fitsIn (now (bytes .entry)) at size b ⌝ }
 {
-    let unused = 8 * size - b;
-    let bound = two_to(8 - unused);
+    let bound = last_bound(size, b);
     let last = at + size - 1;
     let top = bytes[last] as usize;
     top < bound
@@ -167,12 +175,12 @@ fn words_ones(bytes: &[u8], at: usize, count: usize) -> bool
     requires { ⌜ at + 8 * count ≤ length (now bytes) ⌝ }
     ensures { λ r. ⌜ OnesFound (now (bytes .entry)) at (at + 8 * count) r ⌝ }
 {
-    let mut i: usize = 0;
-    while i < count {
-        if kernels::bits::word_in(bytes, at + 8 * i) != 0xffffffffffffffff {
+    let mut k: usize = 0;
+    while k < count {
+        if kernels::bits::word_in(bytes, at + 8 * k) != 0xffffffffffffffff {
             return false;
         }
-        i += 1;
+        k += 1;
     }
     true
 }
@@ -213,10 +221,9 @@ fn run_ones(bytes: &[u8], at: usize, size: usize, b: usize) -> bool
     if !range_ones(bytes, at, last) {
         return false;
     }
-    let unused = 8 * size - b;
-    let bound = two_to(8 - unused);
-    let top = bytes[last] as usize;
-    top % bound == bound - 1
+    let bound = last_bound(size, b);
+    let high = bytes[last] as usize;
+    high % bound == bound - 1
 }
 
 // Which of the two tests is asked: all ones, or clear.
@@ -253,15 +260,15 @@ fn blocks_pass(p: Parameters, w: &[u32], blocks: &[u8], ones: bool) -> bool
     ensures { λ r. ⌜ r ≡ each (testOf ones) (blockBits p) (blocksOf p (now (blocks .entry))) ⌝ }
 {
     let mut at: usize = 0;
-    let mut i: usize = 0;
-    while i < p.m as usize {
-        let b = data_bits(p, w, i);
-        let size = block_size(p, w, i);
+    let mut j: usize = 0;
+    while j < p.m as usize {
+        let b = data_bits(p, w, j);
+        let size = block_size(p, w, j);
         if !run_passes(blocks, at, size, b, ones) {
             return false;
         }
         at += size;
-        i += 1;
+        j += 1;
     }
     true
 }
@@ -304,9 +311,8 @@ pub fn clear_above(run: &mut [u8], b: usize)
     ensures { λ x. ⌜ value 8 (now (run .exit)) ≡ value 8 (now (run .entry)) % 2 ^ b ⌝ }
 {
     let size = run.len();
-    let unused = 8 * size - b;
-    let bound = two_to(8 - unused);
+    let bound = last_bound(size, b);
     let last = size - 1;
-    let top = run[last] as usize % bound;
-    run[last] = top as u8;
+    let kept = run[last] as usize % bound;
+    run[last] = kept as u8;
 }

@@ -9,10 +9,10 @@ use Rattle.layout.proofs.blocks_pass.Statement.{statement}
 use Rattle.layout.proofs.blocks_pass.Tie as tie
 
 abbrev Inv-loop : tie.InvT-loop
-Inv-loop p w blocks ones at₀ i₀ at i = BlocksPassed (testOf ones) p blocks at i
+Inv-loop p w blocks ones at₀ j₀ at j = BlocksPassed (testOf ones) p blocks at j
 
 abbrev μ-loop : tie.MeasureT-loop
-μ-loop p w blocks ones at₀ i₀ at i = p .m - i
+μ-loop p w blocks ones at₀ j₀ at j = p .m - j
 
 loop-holds : tie.Need-loop-holds Inv-loop μ-loop
 loop-holds c = blocks-start _ _ _
@@ -46,8 +46,8 @@ add-at c =
     let s = t .before .before .before .before .before in
     omega (arith, block-there _ _ _ _ _ _ _ (t .before .before .loop .inv) (t .if1 .taken) (k .before .data-bits .ensures) (k .block-size .ensures) (s .pre .0) (s .pre .2))
 
-add-i : tie.Need-add-i Inv-loop μ-loop
-add-i c = search needs
+add-j : tie.Need-add-j Inv-loop μ-loop
+add-j c = search needs
 
 loop-less : tie.Need-loop-less Inv-loop μ-loop
 loop-less c = search needs
@@ -75,7 +75,7 @@ blocks-pass-spec =
     run-passes-requires
     returns
     add-at
-    add-i
+    add-j
     loop-less
     loop-again
     returns-2)

@@ -1,4 +1,5 @@
 use borrow.Author.Needs.{needs}
+use native.Mathlib.Omega.{arith}
 use Prim.Native.Nat.{_-_}
 use Rattle.layout.specs.Runs.{OnesSo, ones-start, ones-turn, ones-found, ones-done}
 use Rattle.layout.proofs.bytes_ones.Statement.{statement}
@@ -17,7 +18,7 @@ shared-slice-read-if1 : tie.Need-shared-slice-read-if1 Inv-loop μ-loop
 shared-slice-read-if1 c = search needs
 
 returns : tie.Need-returns Inv-loop μ-loop
-returns c = ones-found _ _ _ _ (c .before .before .before .loop .inv) (c .before .before .loop-test .taken) (c .if1 .taken)
+returns c = ones-found _ _ _ _ (c .before .before .before .loop .inv) (c .before .before .loop-test .taken) (λ z. omega (arith, c .if1 .taken, z))
 
 add-k : tie.Need-add-k Inv-loop μ-loop
 add-k c = search needs
@@ -26,7 +27,10 @@ loop-less : tie.Need-loop-less Inv-loop μ-loop
 loop-less c = search needs
 
 loop-again : tie.Need-loop-again Inv-loop μ-loop
-loop-again c = ones-turn _ _ _ (c .before .before .before .loop .inv) (c .if1 .left)
+loop-again c =
+    let t = c .before .before in
+    let a = t .before .before .args in
+    ones-turn (a .bytes .now) (a .at) (t .before .loop .k) (t .before .loop .inv) (omega (arith, c .if1 .left, c .before .shared-slice-known .given (t .before .loop .k) .fits))
 
 returns-2 : tie.Need-returns-2 Inv-loop μ-loop
 returns-2 c = ones-done _ _ _ _ (c .before .loop .inv) (c .loop-test .left)

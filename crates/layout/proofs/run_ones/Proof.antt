@@ -1,6 +1,8 @@
 use borrow.Author.Needs.{needs}
 use borrow.Author.Tests.{not-true, not-false}
 use mir.Facts.{fits-widen}
+use native.Mathlib.Omega.{arith}
+use Prim.Native.Nat.{_-_, _*_}
 use lib.Pow.{pow-pos}
 use Rattle.layout.specs.Runs.{run-not, run-top}
 use Rattle.layout.proofs.run_ones.Statement.{statement}
@@ -23,29 +25,22 @@ returns c =
     run-not (s .args .bytes .now) (s .args .at) (s .args .size) (s .args .b) (λ i. k .shared-slice-known .given i .fits) (s .pre .0) (s .pre .2)
     (b .range-ones .result) (b .range-ones .ensures) (not-true _ (c .if1 .taken))
 
-mul-unused : tie.Need-mul-unused
-mul-unused c = search needs
+last-bound-requires : tie.Need-last-bound-requires
+last-bound-requires c κs = search needs
 
-sub-unused : tie.Need-sub-unused
-sub-unused c = search needs
+shared-slice-read-high : tie.Need-shared-slice-read-high
+shared-slice-read-high c = search needs
 
-sub-two-to : tie.Need-sub-two-to
-sub-two-to c = search needs
-
-two-to-requires : tie.Need-two-to-requires
-two-to-requires c κs = search needs
-
-shared-slice-read-top : tie.Need-shared-slice-read-top
-shared-slice-read-top c = search needs
-
-cast-top : tie.Need-cast-top
-cast-top c = fits-widen tt (c .shared-slice-known2 .given _)
+cast-high : tie.Need-cast-high
+cast-high c = fits-widen tt (c .shared-slice-known2 .given _)
 
 rem-result : tie.Need-rem-result
-rem-result c = rw (c .before .two-to .ensures) (pow-pos _)
+rem-result c =
+    let s = c .before .before .before .before .before in
+    omega (arith, c .before .last-bound .ensures, pow-pos (8 - (8 * s .args .size - s .args .b)))
 
 sub-result : tie.Need-sub-result
-sub-result c = rw (c .before .two-to .ensures) (pow-pos _)
+sub-result c = rw (c .before .last-bound .ensures) (pow-pos _)
 
 returns-2 : tie.Need-returns-2
 returns-2 c =
@@ -55,7 +50,7 @@ returns-2 c =
     let k = b .before in
     let s = k .before in
     run-top (s .args .bytes .now) (s .args .at) (s .args .size) (s .args .b) (λ i. k .shared-slice-known .given i .fits) (s .pre .0) (s .pre .2)
-    (b .range-ones .result) (b .range-ones .ensures) (not-false _ (e .if1 .left)) (t .two-to .result) (t .two-to .ensures)
+    (b .range-ones .result) (b .range-ones .ensures) (not-false _ (e .if1 .left)) (t .last-bound .result) (t .last-bound .ensures)
 
 pub run-ones-spec : {M : Type 1} → statement M
 run-ones-spec =
@@ -65,12 +60,9 @@ run-ones-spec =
     sub-last
     range-ones-requires
     returns
-    mul-unused
-    sub-unused
-    sub-two-to
-    two-to-requires
-    shared-slice-read-top
-    cast-top
+    last-bound-requires
+    shared-slice-read-high
+    cast-high
     rem-result
     sub-result
     returns-2)

@@ -6,10 +6,10 @@ use Rattle.layout.proofs.words_ones.Statement.{statement}
 use Rattle.layout.proofs.words_ones.Tie as tie
 
 abbrev Inv-loop : tie.InvT-loop
-Inv-loop bytes at count i₀ i = OnesSo bytes at (at + 8 * i)
+Inv-loop bytes at count k₀ k = OnesSo bytes at (at + 8 * k)
 
 abbrev μ-loop : tie.MeasureT-loop
-μ-loop bytes at count i₀ i = count - i
+μ-loop bytes at count k₀ k = count - k
 
 loop-holds : tie.Need-loop-holds Inv-loop μ-loop
 loop-holds c = words-start (c .before .args .bytes .now) (c .before .args .at)
@@ -29,11 +29,11 @@ returns c =
     let t = w .before in
     let k = t .before .before in
     let s = k .before in
-    word-found (s .args .bytes .now) (s .args .at) (s .args .count) (t .before .loop .i) (w .word-in .result) (λ j. k .shared-slice-known .given j .fits)
+    word-found (s .args .bytes .now) (s .args .at) (s .args .count) (t .before .loop .k) (w .word-in .result) (λ j. k .shared-slice-known .given j .fits)
     (w .word-in .ensures) (t .before .loop .inv) (t .loop-test .taken) (c .if1 .taken)
 
-add-i : tie.Need-add-i Inv-loop μ-loop
-add-i c = search needs
+add-k : tie.Need-add-k Inv-loop μ-loop
+add-k c = search needs
 
 loop-less : tie.Need-loop-less Inv-loop μ-loop
 loop-less c = search needs
@@ -44,14 +44,14 @@ loop-again c =
     let t = w .before in
     let k = t .before .before in
     let s = k .before in
-    word-turn (s .args .bytes .now) (s .args .at) (s .args .count) (t .before .loop .i) (w .word-in .result) (λ j. k .shared-slice-known .given j .fits)
+    word-turn (s .args .bytes .now) (s .args .at) (s .args .count) (t .before .loop .k) (w .word-in .result) (λ j. k .shared-slice-known .given j .fits)
     (w .word-in .ensures) (t .before .loop .inv) (c .if1 .left)
 
 returns-2 : tie.Need-returns-2 Inv-loop μ-loop
 returns-2 c =
     let l = c .before in
     let s = l .before .before in
-    ones-done (s .args .bytes .now) (s .args .at) (s .args .at + 8 * l .loop .i) (s .args .at + 8 * s .args .count) (l .loop .inv) (omega (arith, c .loop-test .left))
+    ones-done (s .args .bytes .now) (s .args .at) (s .args .at + 8 * l .loop .k) (s .args .at + 8 * s .args .count) (l .loop .inv) (omega (arith, c .loop-test .left))
 
 pub words-ones-spec : {M : Type 1} → statement M
 words-ones-spec =
@@ -64,7 +64,7 @@ words-ones-spec =
     add-word-in
     word-in-requires
     returns
-    add-i
+    add-k
     loop-less
     loop-again
     returns-2)
