@@ -8,6 +8,7 @@ ghost use Rattle.code.specs.Code.{checkBits};
 ghost use Rattle.code.specs.Layout.{blockOffset, dataOf, pageBytes, storedOf};
 ghost use Rattle.code.specs.Parameters.{Accepted};
 ghost use Rattle.layout.specs.Replaced.{replaced};
+ghost use Rattle.page.specs.Exact.{isRefused};
 ghost use Rattle.page.specs.Taken.{Taking, sizeOf};
 use code::Outcome;
 use code::Parameters;
@@ -76,6 +77,19 @@ pub fn judge(p: Parameters, page: &[u8]) -> Verdict
     judge_exact(p, rows, page)
 }
 
+// Is it a refusal?
+fn refused(r: Verdict) -> bool
+    ensures { λ b. ⌜ b ≡ isRefused r ⌝ }
+{
+    match r {
+        Verdict::Member => false,
+        Verdict::Blank => false,
+        Verdict::SubWord(_) => false,
+        Verdict::NestedWord(_) => false,
+        Verdict::Refused(_) => true,
+    }
+}
+
 // Read out, for accepted parameters.
 fn read_accepted(p: Parameters, page: &[u8], blocks: &mut [u8]) -> Verdict
     requires { ⌜ Accepted p ⌝ }
@@ -87,15 +101,12 @@ fn read_accepted(p: Parameters, page: &[u8], blocks: &mut [u8]) -> Verdict
     if k != 0 {
         return Verdict::Refused(k);
     }
-    if layout::page_blank(p, page) {
-        take_blocks(p, &w, page, blocks);
-        return Verdict::Blank;
-    }
-    if !layout::page_clear(p, page) {
-        return Verdict::Refused(8);
+    let r = judge_exact(p, rows, page);
+    if refused(r) {
+        return r;
     }
     take_blocks(p, &w, page, blocks);
-    judge::verdict_of(p, rows, page)
+    r
 }
 
 // The blocks of the page, member, blank or neither, and judge's answer.
@@ -116,9 +127,9 @@ fn write_accepted(p: Parameters, width: u32, blocks: &[u8], page: &mut [u8]) -> 
 {
     let rows = levels::rows(p);
     let w = levels::degrees(p, rows);
-    let k = refusal::write_refusal(p, &w, width, blocks, page.len());
-    if k != 0 {
-        return Outcome::Refused(k);
+    let n = refusal::write_refusal(p, &w, width, blocks, page.len());
+    if n != 0 {
+        return Outcome::Refused(n);
     }
     encode::encode(p, rows, &w, blocks, page, width as usize);
     Outcome::Done

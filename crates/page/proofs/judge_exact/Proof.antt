@@ -1,7 +1,7 @@
 use borrow.Author.Needs.{needs}
 use borrow.Author.Tests.{not-true, not-false}
 use mathlib.Core.Path.{sym, _∙_}
-use Rattle.page.specs.Exact.{exact-blank, exact-stray, exact-else, judged-said, judged-stray}
+use Rattle.page.specs.Exact.{exact-blank, exact-stray, exact-else}
 use Rattle.page.proofs.judge_exact.Statement.{statement}
 use Rattle.page.proofs.judge_exact.Tie as tie
 
@@ -12,7 +12,7 @@ returns : tie.Need-returns
 returns c =
     let b = c .before in
     let s = b .before .before in
-    judged-said _ _ _ (exact-blank (s .args .p) (s .args .page .now) (s .pre .0) (s .pre .2) (sym (c .if1 .taken) ∙ b .page-blank .ensures))
+    exact-blank (s .args .p) (s .args .page .now) (s .pre .0) (s .pre .2) (sym (c .if1 .taken) ∙ b .page-blank .ensures)
 
 page-clear-requires : tie.Need-page-clear-requires
 page-clear-requires c κs = search needs
@@ -22,8 +22,8 @@ returns-2 c =
     let d = c .before in
     let e = d .before in
     let s = e .before .before .before in
-    judged-stray _ _ (exact-stray (s .args .p) (s .args .page .now) (s .pre .0) (s .pre .2) (sym (e .if1 .left) ∙ e .before .page-blank .ensures)
-    (sym (not-true _ (c .if2 .taken)) ∙ d .page-clear .ensures))
+    exact-stray (s .args .p) (s .args .page .now) (s .pre .0) (s .pre .2) (sym (e .if1 .left) ∙ e .before .page-blank .ensures)
+    (sym (not-true _ (c .if2 .taken)) ∙ d .page-clear .ensures)
 
 verdict-of-requires : tie.Need-verdict-of-requires
 verdict-of-requires c κs =
@@ -37,8 +37,8 @@ returns-3 c =
     let d = f .before in
     let e = d .before in
     let s = e .before .before .before in
-    judged-said _ _ _ (exact-else (s .args .p) (s .args .page .now) (s .pre .0) (s .pre .2) (sym (e .if1 .left) ∙ e .before .page-blank .ensures) (c .verdict-of .result)
-    (sym (not-false _ (f .if2 .left)) ∙ d .page-clear .ensures) (c .verdict-of .ensures .answers))
+    exact-else (s .args .p) (s .args .page .now) (s .pre .0) (s .pre .2) (sym (e .if1 .left) ∙ e .before .page-blank .ensures) (c .verdict-of .result)
+    (sym (not-false _ (f .if2 .left)) ∙ d .page-clear .ensures) (c .verdict-of .ensures .answers)
 
 pub judge-exact-spec : {M : Type 1} → statement M
 judge-exact-spec =
