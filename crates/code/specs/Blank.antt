@@ -15,8 +15,8 @@ use Rattle.polynomial.specs.Bits.{coefficient}
 use Rattle.polynomial.specs.Digits.{low-coefficient}
 use Rattle.polynomial.specs.Sums.{All}
 use Rattle.field.specs.Eval.{eval, eval-ones}
-use Rattle.field.specs.Field.{Field2, add-eq-zero, add-self, mul-comm, mul-eq-zero, mul-zero, pow, ring, zero-add}
-use Rattle.field.specs.Fields.{BinaryField, fieldOf}
+use Rattle.field.specs.Field.{Field2, add-eq-zero, add-self, mul-comm, mul-eq-zero, pow, ring}
+use Rattle.field.specs.Fields.{fieldOf}
 use Rattle.field.specs.Irreducible.{both}
 use Rattle.code.specs.declared.Parameters.{Parameters}
 use Rattle.code.specs.Accepted.{Rules, lawful}
@@ -50,14 +50,10 @@ ones-low (suc z) c h = go (ones-low z c (λ k l. h k (Nat.le-step l)))
 
 ones-coefficient : (z k : ℕ) → k < z → coefficient (ones z) k ≡ 1
 ones-coefficient z k h =
+    let e : suc (z - suc k) + k ≡ z = omega arith in
+    let o : (2 ^ suc (z - suc k) - 1) % 2 ≡ 1 = omega (arith, pow-pos (z - suc k)) in
     rw e at (ap (λ (y : ℕ). y / 2 ^ k % 2) (ones-split (suc (z - suc k)) k)
-    ∙ ap (λ (y : ℕ). y % 2) (high (ones (suc (z - suc k))) k (ones-lt k)) ∙ odd (z - suc k))
-  where
-    e : suc (z - suc k) + k ≡ z
-    e = omega arith
-
-    odd : (j : ℕ) → (2 ^ suc j - 1) % 2 ≡ 1
-    odd j = omega (arith, pow-pos j)
+    ∙ ap (λ (y : ℕ). y % 2) (high (ones (suc (z - suc k))) k (ones-lt k)) ∙ o)
 
 pub low-ones : (z c : ℕ) → c % 2 ^ z ≡ ones z → (k : ℕ) → k < z → coefficient c k ≡ 1
 low-ones z c e k h = sym (low-coefficient z c k h) ∙ ap (λ (y : ℕ). coefficient y k) e ∙ ones-coefficient z k h

@@ -34,6 +34,9 @@ pub neither : (a b : Bool) → T (not (a || b)) → T (not a) × T (not b)
 neither true b t = absurd t
 neither false b t = (tt, t)
 
+pub true-false : true ≡ false → ⊥
+true-false e = let z : _≡_ {A = ℕ} 0 1 = cc in Nat.suc-ne-zero 0 (sym z)
+
 -- tests that pass together are the same
 pub both-ways : (a b : Bool) → (T a → T b) → (T b → T a) → a ≡ b
 both-ways true true f g = refl

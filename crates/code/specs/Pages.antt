@@ -7,7 +7,7 @@ use mathlib.Core.List.{List, [], _∷_, map}
 use Prim.Native.Nat.{ℕ, zero, suc, _+_, _-_, _*_, _/_, _%_, _^_, _≤_, _<_}
 use native.Mathlib.Nat as Nat
 use native.Mathlib.Omega.{arith}
-use lib.Dec.{T, ltb, ltb→lt, lt→ltb, lit≤}
+use lib.Dec.{T, ltb→lt, lt→ltb, lit≤}
 use lib.ListN.{length, replicate, length-replicate, length-map}
 use lib.Pow.{pow-mono, pow-pos}
 use Rattle.polynomial.specs.Division.{xor-lt}

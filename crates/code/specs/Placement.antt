@@ -229,7 +229,7 @@ same-bits (suc d) a b h l f =
     by-half x y = omega arith
 
 -- ---- blocks as numbers
-sized-at : (p : Parameters) (k : ℕ) (ds : List ℕ) → Sized p k ds → (i : ℕ) → i < length ds → getD ds i 0 < 2 ^ dataBits p (k + i)
+pub sized-at : (p : Parameters) (k : ℕ) (ds : List ℕ) → Sized p k ds → (i : ℕ) → i < length ds → getD ds i 0 < 2 ^ dataBits p (k + i)
 sized-at p k [] h i l = absurd (Nat.not-suc-le-zero l)
 sized-at p k (d ∷ ds) h zero l = rw (Nat.add-zero k) (h .0)
 sized-at p k (d ∷ ds) h (suc i) l = rw (Nat.add-suc k i, ← Nat.suc-add k i) (sized-at p (suc k) ds (h .1) i (Nat.le-of-suc-le-suc l))

@@ -16,7 +16,7 @@ use Rattle.code.specs.declared.Outcome.{Outcome}
 use Rattle.code.specs.declared.Verdict.{Verdict}
 use Rattle.code.specs.Chains.{either, exact-none, exact-of, left, neither, none, nonzero}
 use Rattle.code.specs.Chains.{off, off′, on, or-assoc, or-le, or-none, or-second, or-zero, right, when-le}
-use Rattle.code.specs.Calls.{judgeAnswer, pageVerdict, readAnswer, readLeaves, unlessRefused, writeAnswer, writeLeaves}
+use Rattle.code.specs.Calls.{judgeAnswer, pageVerdict, readLeaves, unlessRefused, writeAnswer, writeLeaves}
 use Rattle.code.specs.Code.{failing, failingNested, verdict}
 use Rattle.code.specs.Layout.{Bytes, Fits, IsPage, blank, blocksClear, dataBytes, dataOf, pageBytes, pageClear, pageOf, wordsOf}
 use Rattle.code.specs.Lists.{_orElse_, _when_, lastRefusal}

@@ -30,7 +30,7 @@ use Rattle.code.specs.Buffers.{bytes-at, divides-up, divisor-deg, diviso
 use Rattle.code.specs.Buffers.{nested-back, remainder-back, row-back, short-back, short-differ, short-lt, syndromes-at}
 use Rattle.code.specs.Calls.{Judged, QuoteMade, ReadOut, Written, asBytes, empty, judgeAnswer, leaves}
 use Rattle.code.specs.Calls.{nestedOf, nestedSyndromeList, outcome, quote, subWordOf, syndromeList}
-use Rattle.code.specs.Code.{IsMember, checkBits, degree, distance, gen, least, nested, newton, remainder, syndromes, verdict}
+use Rattle.code.specs.Code.{checkBits, degree, distance, gen, least, nested, newton, remainder, syndromes, verdict}
 use Rattle.code.specs.Degrees.{degree-exact}
 use Rattle.code.specs.Demands.{Alike, BlankReadLaws, BlankWriteLaws, BufferLaws, Demand2, Demand3, Demands, GeneratorLaws, GeneratorOf}
 use Rattle.code.specs.Demands.{JudgeLaws, QuoteLaws, QuotedPage, RegisterLaws, Rewrites, ShortLaws, Smallest, Sums, Vanishes, WriteLaws}

@@ -5,8 +5,8 @@
 --   wordOf p b x i                             sub-word i from its block and the later sub-words of the page x
 --   written p x i c                            the page x with c as sub-word i
 use mathlib.Core.Path.{_≡_, sym, ap, ap₂, _∙_}
-use mathlib.Core.List.{List, [], _∷_}
-use Prim.Native.Nat.{ℕ, zero, suc, _+_, _-_, _*_, _/_, _^_, _≤_, _<_}
+use mathlib.Core.List.{List}
+use Prim.Native.Nat.{ℕ, suc, _+_, _-_, _*_, _/_, _^_, _≤_, _<_}
 use native.Mathlib.Nat as Nat
 use native.Mathlib.Omega.{arith}
 use lib.Bits.{xor-shifted}
@@ -20,10 +20,10 @@ use Rattle.code.specs.declared.Parameters.{Parameters}
 use Rattle.code.specs.Accepted.{accepted, lawful}
 use Rattle.code.specs.Calls.{generators}
 use Rattle.code.specs.Code.{carried, checkBits, checked, gen, level, remainder}
-use Rattle.code.specs.Encode.{Sized}
 use Rattle.code.specs.Layout.{Fits, blockOffset, blocksClear, blocksOf, dataBits, dataBytes, pageBytes, wordsOf}
 use Rattle.code.specs.Pages.{blocks-blocks}
 use Rattle.code.specs.Parameters.{Accepted, subWordBytes}
+use Rattle.code.specs.Placement.{sized-at}
 use Rattle.code.specs.Steps.{checked-eq}
 use Rattle.layout.specs.Parts.{block-at}
 use Rattle.layout.specs.Replaced.{replaced}
@@ -56,11 +56,6 @@ abbrev pub written : Parameters → List ℕ → ℕ → ℕ → List ℕ
 written p page i c = replaced page (i * subWordBytes p) (digits 8 (subWordBytes p) c)
 
 -- ---- blocks
-sized-at : (p : Parameters) (j i : ℕ) (ds : List ℕ) → Sized p j ds → i < length ds → getD ds i 0 < 2 ^ dataBits p (j + i)
-sized-at p j i [] s h = absurd (Nat.not-suc-le-zero h)
-sized-at p j zero (d ∷ ds) s h = rw (Nat.add-zero j) (s .0)
-sized-at p j (suc i) (d ∷ ds) s h = rw (Nat.add-suc j i, ← Nat.suc-add j i) (sized-at p (suc j) i ds (s .1) (Nat.le-of-suc-le-suc h))
-
 module _ (p : Parameters) (w blocks : List ℕ) (R : Ready p w blocks) (b : (i : ℕ) → getD blocks i 0 < 2 ^ 8) where
   pub fits : Fits p blocks
   fits = record { bytes = at-all (λ d. d < 256) blocks (λ i h. b i); exact = R .exact; clear = R .clear }
@@ -68,7 +63,7 @@ module _ (p : Parameters) (w blocks : List ℕ) (R : Ready p w blocks) (b : (i :
   pub block-lt : (i : ℕ) → i < p .m → getD (blocksOf p blocks) i 0 < 2 ^ dataBits p i
   block-lt i h =
       let ds = blocks-blocks p (accepted p (R .accepts)) blocks fits in
-      rw (Nat.zero-add i) at (sized-at p 0 i (blocksOf p blocks) (ds .fits) (omega (arith, ds .many)))
+      rw (Nat.zero-add i) at (sized-at p 0 (blocksOf p blocks) (ds .fits) i (omega (arith, ds .many)))
 
 -- block i, as the program takes it
 pub block-part : (p : Parameters) (blocks : List ℕ) (i at size : ℕ) → i < p .m → at ≡ blockOffset p i → size ≡ (dataBits p i + 7) / 8

@@ -286,14 +286,7 @@ fn erased_rooms(p: Parameters, x: &[u8], k: usize)
     let mut blocks = [0x5au8; 1024];
     let mut again = [0xa5u8; 1024];
     let old = [0xa5u8; 1024];
-    erased(
-        p,
-        17,
-        x,
-        &mut blocks[..k],
-        &mut again[..n],
-        &old[..n],
-    );
+    erased(p, 17, x, &mut blocks[..k], &mut again[..n], &old[..n]);
 }
 
 // The laws on blocks a and b and on any page x. Is it a member?

@@ -18,7 +18,7 @@ use Rattle.polynomial.specs.Bits.{coefficient}
 use Rattle.polynomial.specs.Digits.{digits, value, value-coefficient}
 use Rattle.polynomial.specs.Sums.{all-drop, all-take, at-all}
 use Rattle.code.specs.Blank.{low-ones, ones-low}
-use Rattle.code.specs.Chains.{both-ways}
+use Rattle.code.specs.Chains.{both-ways, true-false}
 use Rattle.code.specs.Layout.{Bytes}
 use Rattle.code.specs.Lists.{fitsIn, join, onesIn, split, sum}
 use Rattle.code.specs.Placement.{high-coefficient}
@@ -138,9 +138,6 @@ ones-turn l at k s e =
     go : (i : ℕ) → at ≤ i → (i ≡ k) ⊎ (i < k) → getD l i 0 ≡ 255
     go i h (inl f) = rw f e
     go i h (inr f) = s .all i h f
-
-true-false : true ≡ false → ⊥
-true-false e = let z : _≡_ {A = ℕ} 0 1 = cc in Nat.suc-ne-zero 0 (sym z)
 
 pub ones-found : (l : List ℕ) (at k end : ℕ) → OnesSo l at k → k < end → (getD l k 0 ≡ 255 → ⊥) → OnesFound l at end false
 ones-found l at k end s h n = record { all = λ e. absurd (true-false (sym e)); none = λ f. absurd (n (f k (s .from) h)) }

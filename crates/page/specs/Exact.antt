@@ -11,7 +11,7 @@ use Rattle.code.specs.declared.Parameters.{Parameters}
 use Rattle.code.specs.declared.Verdict.{Verdict}
 use Rattle.code.specs.Answers.{judged-done, judged-refused, read-done, read-refused}
 use Rattle.code.specs.Calls.{Judged, ReadOut, judgeAnswer, pageVerdict, unlessRefused}
-use Rattle.code.specs.Chains.{left}
+use Rattle.code.specs.Chains.{left, true-false}
 use Rattle.code.specs.Code.{failing, failingNested, verdict}
 use Rattle.code.specs.Layout.{blank, dataOf, pageBytes, pageClear, wordsOf}
 use Rattle.code.specs.Parameters.{Accepted}
@@ -42,9 +42,6 @@ module _ (p : Parameters) (x : List ℕ) (A : Accepted p) (e : length x ≡ page
         (v ∙ sym (verdict-else p x (rw (← b) tt)))
 
 -- ---- read out, with a buffer b of exact length, by judge's answer: nothing where that is a refusal, else the blocks
-never : true ≡ false → ⊥
-never e = let z : _≡_ {A = ℕ} 0 1 = cc in Nat.suc-ne-zero 0 (sym z)
-
 said : (b c d : Bool) (f g : ℕ)
     → isRefused (cond b Verdict.Blank (cond c (Verdict.SubWord f) (cond d (Verdict.NestedWord g) Verdict.Member))) ≡ false
 said true c d f g = refl
@@ -71,7 +68,7 @@ module _ (p : Parameters) (x : List ℕ) where
     read-kept t = go (judgeRefusal p x) refl
       where
         go : (k : ℕ) → judgeRefusal p x ≡ k → ReadOut p x b b r
-        go zero z = absurd (never (sym t ∙ ap isRefused (by zero z) ∙ verdict-unrefused))
+        go zero z = absurd (true-false (sym t ∙ ap isRefused (by zero z) ∙ verdict-unrefused))
         go (suc k) z = rw (by (suc k) z) (read-refused p x b (suc k) (sym (read-judge p x b e ∙ z)) (Nat.suc-ne-zero k))
 
     pub read-given : (y : List ℕ) → isRefused r ≡ false → y ≡ dataOf p x → ReadOut p x b y r
@@ -79,4 +76,4 @@ module _ (p : Parameters) (x : List ℕ) where
       where
         go : (k : ℕ) → judgeRefusal p x ≡ k → ReadOut p x b y r
         go zero z = read-done p x b r y (read-judge p x b e ∙ z) (by zero z) f
-        go (suc k) z = absurd (never (sym (ap isRefused (by (suc k) z)) ∙ t))
+        go (suc k) z = absurd (true-false (sym (ap isRefused (by (suc k) z)) ∙ t))
