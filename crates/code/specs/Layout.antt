@@ -45,7 +45,7 @@ unfoldable pub storedOf : Parameters → List ℕ → List ℕ
 unfolding wordsOf
 storedOf p page = map (λ c. c % 2 ^ stored p) (wordsOf p page)
 
--- an erased chip reads as ones
+-- blank, in the requirement's word: every stored coefficient is 1. An erased chip reads as ones, its spare bits too
 unfoldable pub blank : Parameters → List ℕ → Bool
 unfolding each wordsOf
 blank p page = each onesIn (replicate (p .m) (stored p)) (wordsOf p page)
