@@ -3,7 +3,7 @@
 use mathlib.Core.Path.{_≡_, ap, _∙_}
 use mathlib.Core.Logic.{_≢_, _⊎_, inl, inr}
 use mathlib.Core.Bool.{Bool, true, false, not, _&&_, _||_, cond}
-use Prim.Native.Nat.{ℕ, zero, suc, _+_, _-_, _*_, _%_, _≤_, _<_}
+use Prim.Native.Nat.{ℕ, zero, suc, _+_, _-_, _*_, _%_, _≤_, _<_, zero-le}
 use native.Mathlib.Nat as Nat
 use native.Mathlib.Decide.{le-ind}
 use native.Mathlib.Omega.{arith}
@@ -16,10 +16,11 @@ use Rattle.generator.specs.Generator.{generator-deg, generator-iff, width-lt}
 use Rattle.generator.specs.Next.{width-le}
 use Rattle.code.specs.declared.Parameters.{Parameters}
 use Rattle.generator.specs.Generator as G
-use Rattle.code.specs.Chains.{either, last, neither, none, nonzero}
+use Rattle.code.specs.Chains.{either, last, neither, none, nonzero, or-none, unless}
 use Rattle.code.specs.Code.{degree, gen}
 use Rattle.code.specs.Lists.{_orElse_, _when_, any, range}
-use Rattle.code.specs.Parameters.{Accepted, clashes, fieldKnown, len, placeFits, shapeFits, sheetRefusal, strength, strengthsFit}
+use Rattle.code.specs.Parameters.{Accepted, clashes, fieldKnown, len, placeFits, shapeFits, sheetRefusal}
+use Rattle.code.specs.Parameters.{shortFits, stored, strength, strengthsFit}
 use Rattle.code.specs.Steps.{degree-eq, gen-eq}
 use Rattle.code.specs.Values.{Lawful}
 
@@ -49,6 +50,7 @@ pub record Rules (p : Parameters) : Type 0 where
   pub rises : (a : ℕ) → a < p .v → strength p a ≤ strength p (suc a)
   pub high : strength p (p .v) ≤ 64
   pub short : 2 * strength p (p .v) ≤ len p - 1
+  pub s-high : p .s ≤ len p - degree p (p .v) - 1
   pub clash : (d j : ℕ) → 0 < d → d < p .m → 0 < j → j ≤ 2 * strength p (p .v) → 0 < d * j % len p
 
 known : (p : Parameters) → T (fieldKnown p) → Known (p .q)
@@ -91,9 +93,17 @@ module _ (p : Parameters) where
   abbrev t-v : Bool
   t-v = leb (strength p (p .v)) 64
 
-  rules : T (fieldKnown p) → T (shapeFits p) → T (strengthsFit p) → T (not (clashes p)) → Rules p
+  s-fits : T (shortFits p) → p .s ≤ len p - degree p (p .v) - 1
+  unfolding shortFits
+  s-fits t = go (either (eqb (p .s) 0) (leb (p .s) (len p - degree p (p .v) - 1)) t)
+    where
+      go : T (eqb (p .s) 0) ⊎ T (leb (p .s) (len p - degree p (p .v) - 1)) → p .s ≤ len p - degree p (p .v) - 1
+      go (inl h) = rw (eqb→eq (p .s) 0 h) zero-le
+      go (inr h) = leb→le (p .s) (len p - degree p (p .v) - 1) h
+
+  rules : T (fieldKnown p) → T (shapeFits p) → T (strengthsFit p) → T (not (clashes p)) → T (shortFits p) → Rules p
   unfolding shapeFits strengthsFit clashes
-  rules f s t c =
+  rules f s t c e =
       let s3 = both (v-1 && v-3 && v-m) (leb (p .m) 8) s in
       let s2 = both (v-1 && v-3) v-m (s3 .0) in
       let s1 = both v-1 v-3 (s2 .0) in
@@ -112,18 +122,23 @@ module _ (p : Parameters) where
         rises = rise p (leb→le (p .v) 3 (s1 .1)) (ltb→lt (p .t0) (p .t1) (t1 .1)) (t2 .1) (t3 .1);
         high = leb→le (strength p (p .v)) 64 (t4 .1);
         short = leb→le (2 * strength p (p .v)) (len p - 1) (t5 .1);
+        s-high = s-fits e;
         clash = λ d j a b e h. nonzero (d * j % len p) (any-none (λ j. eqb (d * j % len p) 0) 1 (2 * strength p (p .v))
             (any-none (λ d. any (λ j. eqb (d * j % len p) 0) (range 1 (2 * strength p (p .v)))) 1 (p .m - 1) c d a (omega arith)) j e
             (omega arith));
       }
 
+  abbrev pub from-4 : ℕ
+  from-4 = 4 when clashes p orElse 14 when not (shortFits p)
+
   pub accepted : Accepted p → Rules p
   unfolding sheetRefusal
   accepted e =
-      let a = none 0 (fieldKnown p) (2 when not (shapeFits p) orElse 3 when not (strengthsFit p) orElse 4 when clashes p) e in
-      let b = none 1 (shapeFits p) (3 when not (strengthsFit p) orElse 4 when clashes p) (a .1) in
-      let c = none 2 (strengthsFit p) (4 when clashes p) (b .1) in
-      rules (a .0) (b .0) (c .0) (last 3 (clashes p) (c .1))
+      let a = none 0 (fieldKnown p) (2 when not (shapeFits p) orElse 3 when not (strengthsFit p) orElse from-4) e in
+      let b = none 1 (shapeFits p) (3 when not (strengthsFit p) orElse from-4) (a .1) in
+      let c = none 2 (strengthsFit p) from-4 (b .1) in
+      let d = or-none (4 when clashes p) (14 when not (shortFits p)) (c .1) in
+      rules (a .0) (b .0) (c .0) (last 3 (clashes p) (d .0)) (unless 13 (shortFits p) (d .1))
 
 pub q-high : (q : ℕ) → Known q → q ≤ 12
 q-high = by-known (λ q. q ≤ 12) (lit≤ tt) (lit≤ tt) (lit≤ tt)
@@ -143,6 +158,18 @@ module _ (p : Parameters) (R : Rules p) where
   pub width-below : (a : ℕ) → a ≤ p .v → degree p a ≤ len p - 1
   width-below a h =
       rw (degree-eq p a, ← n-is) (G.width-lt B (strength p a) (rw n-is (omega (arith, R .short, rising a (p .v) h (Nat.le-refl (p .v))))))
+
+  pub degree-rising : (a b : ℕ) → a ≤ b → b ≤ p .v → degree p a ≤ degree p b
+  degree-rising a b h l = rw (degree-eq p a, degree-eq p b) (G.width-mono B (strength p a) (strength p b) (rising a b h l))
+
+  -- every sub-word has room for its check bits and a data bit
+  pub stored-room : (a : ℕ) → a ≤ p .v → degree p a < stored p
+  stored-room a h =
+      let v-v : p .v ≤ p .v = Nat.le-refl (p .v) in
+      omega (arith, R .s-high, width-below (p .v) v-v, degree-rising a (p .v) h v-v, n-is, n-pos B)
+
+  pub stored-le : stored p ≤ len p
+  stored-le = Nat.sub-le (len p) (p .s)
 
   -- a generator has degree at most q t_a, so at most 768: 13 words of 64 bits hold it, and 12 a remainder
   pub degree-le : (a : ℕ) → degree p a ≤ p .q * strength p a

@@ -34,7 +34,7 @@ tested-number p zero = refl
 tested-number p (suc r) = refl
 
 tested-values : (p : Parameters) (r : ℕ)
-    → testedValues (testedOf p r) ≡ valuesBy r (p .q ∷ p .m ∷ p .v ∷ p .t0 ∷ p .t1 ∷ p .t2 ∷ p .t3 ∷ [])
+    → testedValues (testedOf p r) ≡ valuesBy r (p .q ∷ p .m ∷ p .v ∷ p .t0 ∷ p .t1 ∷ p .t2 ∷ p .t3 ∷ p .s ∷ [])
 tested-values p zero = refl
 tested-values p (suc r) = refl
 

@@ -1,35 +1,36 @@
--- Blank pages: when a page is blank, and which blocks would make one.
+-- Blank pages: when a page is blank, and which blocks would make one: at s = 0 those of ones, else none.
 --   ones z          the word of z coefficients that are 1
 --   OnesBlocks p a  every data bit of the blocks a is 1, literally over the bytes
 use mathlib.Core.Path.{_≡_, refl, sym, ap, ap₂, _∙_}
-use mathlib.Core.Logic.{_≢_, _↔_}
-use mathlib.Core.Bool.{Bool}
+use mathlib.Core.Logic.{_≢_, _↔_, _⊎_, inl, inr}
+use mathlib.Core.Bool.{Bool, _&&_}
 use mathlib.Core.List.{List, [], _∷_}
 use Prim.Native.Nat.{ℕ, zero, suc, _+_, _-_, _*_, _/_, _%_, _^_, _≤_, _<_, zero-le, suc-le-suc}
 use native.Mathlib.Nat as Nat
 use native.Mathlib.Omega.{arith}
-use lib.Dec.{T, eqb→eq, eqb-refl}
+use lib.Dec.{T, eqb, eqb→eq, eqb-refl}
 use lib.ListN.{length, getD, replicate, length-replicate, getD-replicate}
 use lib.Pow.{high, mod-pow-add, ones-lt, ones-split, pow-pos}
 use Rattle.polynomial.specs.Bits.{coefficient}
 use Rattle.polynomial.specs.Digits.{low-coefficient}
-use Rattle.polynomial.specs.Sums.{All}
+use Rattle.polynomial.specs.Sums.{All, all-at}
 use Rattle.field.specs.Eval.{eval, eval-ones}
-use Rattle.field.specs.Field.{Field2, add-eq-zero, add-self, mul-comm, mul-eq-zero, pow, ring}
+use Rattle.field.specs.Field.{Field2, add-eq-zero, add-self, mul-comm, mul-eq-zero, mul-zero, pow, pow-mul, ring}
 use Rattle.field.specs.Fields.{fieldOf}
 use Rattle.field.specs.Irreducible.{both}
 use Rattle.code.specs.declared.Parameters.{Parameters}
-use Rattle.code.specs.Accepted.{Rules, lawful}
+use Rattle.code.specs.Accepted.{Rules, lawful, stored-room}
 use Rattle.code.specs.Chains.{both-ways}
-use Rattle.code.specs.Code.{checkBits}
+use Rattle.code.specs.Code.{checkBits, encode}
 use Rattle.code.specs.Distance.{Passing, eval-nested-root, root-unity}
-use Rattle.code.specs.Encode.{member-encode}
+use Rattle.code.specs.Encode.{encode-member, member-encode}
 use Rattle.code.specs.Layout.{Bytes, Fits, IsBlank, IsPage, blank, blockBit, blockBits, blocksFull, blocksOf}
-use Rattle.code.specs.Layout.{dataBits, dataOf, pageOf, wordSizes, wordsOf}
+use Rattle.code.specs.Layout.{dataBits, dataOf, pageOf, storedOf, wordSizes, wordsOf}
 use Rattle.code.specs.Lists.{each, join, onesIn}
-use Rattle.code.specs.Pages.{IsWords, again-to, and-both, blocks-many, data-fit, length-bits, page-is, words-join, words-many, words-page}
+use Rattle.code.specs.Pages.{IsWords, again-to, and-both, blocks-many, data-fit, length-bits, page-has, page-is, stored-page}
+use Rattle.code.specs.Pages.{words-join, words-many, words-page}
 use Rattle.code.specs.Parameters.{len, stored, strength}
-use Rattle.code.specs.Placement.{bits-at, block-bit, blocks-same, data-room, read-bit, sub-word-bit, written-bit}
+use Rattle.code.specs.Placement.{bits-at, block-bit, blocks-same, data-room, read-bit, stored-at, sub-word-bit, written-bit}
 use Rattle.code.specs.Steps.{Divides}
 use Rattle.code.specs.Values.{Lawful, weigh, weigh-cons, weigh-nil}
 
@@ -126,6 +127,13 @@ module _ (F : Field2) where
           (ones-at j p (Nat.le-trans h (up (C.v - l) (Nat.sub-le C.v l)))) 0 k);
     }
 
+    -- a word of z ones, 0 < z < n, is no multiple of g_0: at α, times x + 1, its value is α^z + 1, and α^z is not 1
+    pub ones-stay : 1 ≤ strength C 0 → (z : ℕ) → 0 < z → z < len C → Divides C 0 (ones z) → ⊥
+    ones-stay t z p h d =
+        let v : eval F (ones z) (pow F α 1) ≡ 𝟘 = L .roots 0 zero-le (ones z) .0 d 1 (suc-le-suc zero-le) (omega arith) in
+        let e : pow F (pow F α 1) z ⊕ 𝟙 ≡ 𝟘 = sym (eval-ones F z (pow F α 1)) ∙ rw v (mul-zero F (pow F α 1 ⊕ 𝟙)) in
+        L .order z p h (ap (pow F α) (sym (Nat.one-mul z)) ∙ pow-mul F α 1 z ∙ add-eq-zero F (pow F (pow F α 1) z) 𝟙 e)
+
 -- ---- blank, and full, literally over the bytes
 abbrev pub OnesBlocks : Parameters → List ℕ → Type 0
 OnesBlocks p a = (i r : ℕ) → i < p .m → r < dataBits p i → blockBit p a i r ≡ 1
@@ -173,19 +181,44 @@ module _ (p : Parameters) (R : Rules p) where
           ↔ ((i k : ℕ) → i < length (blockBits p) → k < getD (blockBits p) i 0 → coefficient (getD (blocksOf p a) i 0) k ≡ 1)
       ones = ones-each (blockBits p) (blocksOf p a) (blocks-many p a ∙ sym (length-bits p))
 
-  -- ---- the page of ones, with clear spare bits, is the page of its blocks
+  -- ---- where coefficients are left out, a blank page is no member's, and no written page is blank
+  pub blank-word : (x : List ℕ) → Bytes x → IsBlank p x → (i : ℕ) → i < p .m → getD (storedOf p x) i 0 ≡ ones (stored p)
+  blank-word x h b i l =
+      stored-at p x i l ∙ ones-low (stored p) (getD (wordsOf p x) i 0) (λ k c. sub-word-bit p R x h i k l c ∙ b i k l c)
+
+  m-pos : 0 < p .m
+  m-pos = omega (arith, R .m-low)
+
+  pub blank-stays : 0 < p .s → (x : List ℕ) → Bytes x → IsBlank p x → Divides p 0 (getD (storedOf p x) 0 0) → ⊥
+  blank-stays s x h b d =
+      let l : 0 < stored p = omega (arith, stored-room p R 0 zero-le) in
+      ones-stay (fieldOf (p .q) .field) (fieldOf (p .q) .α) p (lawful p R) (R .t-low) (stored p) l (omega arith)
+      (rw (blank-word x h b 0 m-pos) at d)
+
+  written-stays : 0 < p .s → (a : List ℕ) → Fits p a → IsBlank p (pageOf p a) → ⊥
+  written-stays s a h b =
+      blank-stays s (pageOf p a) (page-is p R a h .bytes) b (rw words (all-at (λ c. Divides p 0 c) (encode p (blocksOf p a))
+      (encode-member (fieldOf (p .q) .field) (fieldOf (p .q) .α) p (lawful p R) (blocksOf p a) .words) 0 (rw many m-pos)))
+    where
+      words : storedOf p (pageOf p a) ≡ encode p (blocksOf p a)
+      words = stored-page p R (pageOf p a) (page-is p R a h) ∙ page-has p R a h
+
+      many : length (encode p (blocksOf p a)) ≡ p .m
+      many = ap length (sym (page-has p R a h)) ∙ words-many p (pageOf p a)
+
+  -- ---- the page of ones, with clear spare bits, is at s = 0 the page of its blocks
   abbrev onesWords : List ℕ
-  onesWords = replicate (p .m) (ones (len p))
+  onesWords = replicate (p .m) (ones (stored p))
 
   abbrev onesPage : List ℕ
   onesPage = join (wordSizes p) onesWords
 
   ones-words : IsWords p onesWords
-  ones-words = record { many = length-replicate (p .m) (ones (len p)); below = below (p .m) }
+  ones-words = record { many = length-replicate (p .m) (ones (stored p)); below = below (p .m) }
     where
-      below : (k : ℕ) → All (λ c. c < 2 ^ len p) (replicate k (ones (len p)))
+      below : (k : ℕ) → All (λ c. c < 2 ^ stored p) (replicate k (ones (stored p)))
       below zero = tt
-      below (suc k) = (ones-lt (len p), below k)
+      below (suc k) = (ones-lt (stored p), below k)
 
   ones-page : IsPage p onesPage
   ones-page = words-page p R onesWords ones-words
@@ -194,30 +227,40 @@ module _ (p : Parameters) (R : Rules p) where
   ones-blank i k l b =
       sym (sub-word-bit p R onesPage (ones-page .bytes) i k l b)
       ∙ ap (λ (c : ℕ). coefficient c k)
-      (ap (λ (cs : List ℕ). getD cs i 0) (words-join p R onesWords ones-words) ∙ getD-replicate (p .m) i (ones (len p)) 0 l)
-      ∙ ones-coefficient (len p) k b
+      (ap (λ (cs : List ℕ). getD cs i 0) (words-join p R onesWords ones-words) ∙ getD-replicate (p .m) i (ones (stored p)) 0 l)
+      ∙ ones-coefficient (stored p) k b
 
-  ones-written : pageOf p (dataOf p onesPage) ≡ onesPage
-  ones-written =
+  whole : p .s ≡ 0 → stored p ≡ len p
+  whole e = ap (λ (s : ℕ). len p - s) e ∙ Nat.sub-zero (len p)
+
+  ones-written : p .s ≡ 0 → pageOf p (dataOf p onesPage) ≡ onesPage
+  ones-written e =
       again-to p R onesPage ones-page (member-encode (fieldOf (p .q) .field) (fieldOf (p .q) .α) p (lawful p R) (wordsOf p onesPage) .0
-      (rw (words-join p R onesWords ones-words) (ones-pass (fieldOf (p .q) .field) (fieldOf (p .q) .α) p (lawful p R) (p .m))))
+      (rw (words-join p R onesWords ones-words, whole e) (ones-pass (fieldOf (p .q) .field) (fieldOf (p .q) .α) p (lawful p R) (p .m))))
 
-  -- ---- the blocks whose page would be blank: those whose data bits are all 1
+  -- ---- the blocks whose page would be blank: at s = 0 those whose data bits are all 1, else none
   module _ (a : List ℕ) (h : Fits p a) where
-    pub page-ones : IsBlank p (pageOf p a) ↔ OnesBlocks p a
+    pub page-ones : IsBlank p (pageOf p a) ↔ ((p .s ≡ 0) × OnesBlocks p a)
     page-ones = (
-      (λ b i r l c. sym (written-bit p R a h i r l c) ∙ b i (checkBits p i + r) l (data-room p R i r c)),
-      (λ o. rw (same o) ones-blank),
+      (λ b. (none b (Nat.eq-zero-or-pos (p .s)),
+          (λ i r l c. sym (written-bit p R a h i r l c) ∙ b i (checkBits p i + r) l (data-room p R i r c)))),
+      (λ o. rw (same (o .0) (o .1)) ones-blank),
     )
       where
-        same : OnesBlocks p a → pageOf p a ≡ onesPage
-        same o =
+        none : IsBlank p (pageOf p a) → (p .s ≡ 0) ⊎ (0 < p .s) → p .s ≡ 0
+        none b (inl e) = e
+        none b (inr l) = absurd (written-stays l a h b)
+
+        same : p .s ≡ 0 → OnesBlocks p a → pageOf p a ≡ onesPage
+        same e o =
             ap (pageOf p) (blocks-same p R a (dataOf p onesPage) h (data-fit p R onesPage)
             (λ i r l c. o i r l c ∙ sym (read-bit p R onesPage (ones-page .bytes) i r l c ∙ ones-blank i (checkBits p i + r) l (data-room p R i r c))))
-            ∙ ones-written
+            ∙ ones-written e
 
-    pub page-full : blank p (pageOf p a) ≡ blocksFull p a
+    pub page-full : blank p (pageOf p a) ≡ (eqb (p .s) 0 && blocksFull p a)
     page-full =
         let x = blank-iff (pageOf p a) (page-is p R a h .bytes) in
         let y = full-iff a (h .bytes) in
-        both-ways (blank p (pageOf p a)) (blocksFull p a) (λ t. y .1 (page-ones .0 (x .0 t))) (λ t. x .1 (page-ones .1 (y .0 t)))
+        both-ways (blank p (pageOf p a)) (eqb (p .s) 0 && blocksFull p a)
+        (λ t. (let o = page-ones .0 (x .0 t) in and-both (eqb (p .s) 0) (blocksFull p a) (rw (o .0) tt) (y .1 (o .1))))
+        (λ t. (let o = both (eqb (p .s) 0) (blocksFull p a) t in x .1 (page-ones .1 (eqb→eq (p .s) 0 (o .0), y .0 (o .1)))))

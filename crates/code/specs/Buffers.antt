@@ -3,7 +3,7 @@ use mathlib.Core.Path.{_≡_, refl, sym, ap, _∙_}
 use mathlib.Core.Logic.{_⊎_, inl, inr}
 use mathlib.Core.Bool.{Bool, true, false, cond}
 use mathlib.Core.List.{List, [], _∷_, _++_, map}
-use Prim.Native.Nat.{ℕ, zero, suc, _+_, _-_, _*_, _^_, _≤_, _<_, zero-le, suc-le-suc}
+use Prim.Native.Nat.{ℕ, zero, suc, _+_, _-_, _*_, _/_, _^_, _≤_, _<_, zero-le, suc-le-suc}
 use native.Mathlib.Nat as Nat
 use native.Mathlib.Omega.{arith}
 use lib.Dec.{T, leb, le→leb, lit≤}
@@ -18,7 +18,7 @@ use Rattle.polynomial.specs.Multiple.{Multiple, deg-pos, rem-differ}
 use Rattle.polynomial.specs.Xor.{xor, xor-zero-r}
 use Rattle.field.specs.Elements.{syndrome}
 use Rattle.field.specs.Field.{zero-add}
-use Rattle.field.specs.Fields.{fieldOf}
+use Rattle.field.specs.Fields.{Known, by-known, fieldOf}
 use Rattle.generator.specs.Generator.{generator-divides}
 use Rattle.code.specs.declared.Parameters.{Parameters}
 use Rattle.code.specs.Accepted.{Rules, degree-high, lawful, rising, degree-of}
@@ -27,7 +27,7 @@ use Rattle.code.specs.Calls.{remainderBytes, rowsBy, shortBytes, subWord
 use Rattle.code.specs.Code.{degree, divisor, gen, nested, nestedSum, remainder, shortRemainder, syndromes}
 use Rattle.code.specs.Layout.{wordsOf}
 use Rattle.code.specs.Lists.{range}
-use Rattle.code.specs.Pages.{length-range, room}
+use Rattle.code.specs.Pages.{length-range}
 use Rattle.code.specs.Parameters.{Accepted, len, nestedBytes, sheetRefusal, strength}
 use Rattle.code.specs.Placement.{getD-map-range}
 use Rattle.code.specs.Steps.{degree-eq, gen-eq, nested-eq}
@@ -113,13 +113,17 @@ module _ (p : Parameters) (R : Rules p) where
       (remainder p 0 (subWordOf p x i)) (Nat.lt-of-lt-of-le (rem-lt (gen p 0) (degree p 0) (degree-of p R 0 zero-le) (subWordOf p x i))
       (pow-mono (degree-high p R 0 zero-le)))
 
+  -- the bytes of a nested word hold its n places
+  nested-room : (q : ℕ) → Known q → 2 ^ q - 1 ≤ 8 * (2 ^ q / 8)
+  nested-room = by-known (λ q. 2 ^ q - 1 ≤ 8 * (2 ^ q / 8)) (lit≤ tt) (lit≤ tt) (lit≤ tt)
+
   pub nested-lt : (l : ℕ) (cs : List ℕ) → nested p l cs < 2 ^ len p
   nested-lt l cs = rw (nested-eq p l cs) (rem-lt (2 ^ len p + 1) (len p) (unity-deg (len p) (lawful p R .pos)) (nestedSum p l cs))
 
   pub nested-back : (x : List ℕ) (l : ℕ) → value 8 (nestedWordBytes p x l) ≡ nestedOf p x l
   unfolding nestedWordBytes
   nested-back x l =
-      value-digits 8 (nestedBytes p) (nestedOf p x l) (Nat.lt-of-lt-of-le (nested-lt l (wordsOf p x)) (pow-mono (room (p .q) (R .known))))
+      value-digits 8 (nestedBytes p) (nestedOf p x l) (Nat.lt-of-lt-of-le (nested-lt l (wordsOf p x)) (pow-mono (nested-room (p .q) (R .known))))
 
   -- a generator's row
   gen-lt : (a : ℕ) → a ≤ p .v → gen p a < 2 ^ (64 * 13)

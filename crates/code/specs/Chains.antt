@@ -18,6 +18,10 @@ pub last : (k : ℕ) (b : Bool) → (suc k when b) ≡ 0 → T (not b)
 last k true e = absurd (Nat.suc-ne-zero k e)
 last k false e = tt
 
+pub unless : (k : ℕ) (b : Bool) → (suc k when not b) ≡ 0 → T b
+unless k true e = tt
+unless k false e = absurd (Nat.suc-ne-zero k e)
+
 pub either : (a b : Bool) → T (a || b) → T a ⊎ T b
 either true b t = inl tt
 either false b t = inr t
@@ -52,7 +56,16 @@ pub when-none : (k : ℕ) (b : Bool) → (suc k when b) ≡ 0 → b ≡ false
 when-none k true e = absurd (Nat.suc-ne-zero k e)
 when-none k false e = refl
 
+pub given : (k : ℕ) (b : Bool) → (suc k when b) ≡ suc k → T b
+given k true e = tt
+given k false e = absurd (Nat.suc-ne-zero k (sym e))
+
 -- ---- links
+-- a chain's number, above the first link's, comes from behind it
+pub past : (k : ℕ) (b : Bool) (r n : ℕ) → suc k < n → ((suc k when b) orElse r) ≡ n → ((suc k when b) ≡ 0) × (r ≡ n)
+past k true r n h e = absurd (Nat.lt-irrefl n (rw e at h))
+past k false r n h e = (refl, e)
+
 pub or-first : (r s : ℕ) → 0 < r → (r orElse s) ≡ r
 or-first zero s h = absurd (Nat.not-suc-le-zero h)
 or-first (suc r) s h = refl
@@ -102,7 +115,7 @@ when-or c false b = refl
 
 -- a length that is not refused is exact
 pub exact-of : (c k exact : ℕ) → (suc c when notExact k exact) ≡ 0 → k ≡ exact
-exact-of c k exact z = eqb→eq k exact (none c (eqb k exact) 0 (or-zero (suc c when notExact k exact) 0 z refl) .0)
+exact-of c k exact z = eqb→eq k exact (unless c (eqb k exact) z)
 
 -- a number that is not 0, found at the first link, is the chain's
 pub first-of : (k r s : ℕ) → k ≡ r → (k ≡ 0 → ⊥) → k ≡ (r orElse s)

@@ -1,5 +1,5 @@
 -- The code on words. A word is a number whose bit k is the coefficient of x^k; a page's sub-words are a list of m words.
---   gen p a             g_a, the generator of level a; degree p a is its degree w_a
+--   gen p a             g_a, the generator of level a; degree p a is its degree w_a (Parameters)
 --   remainder p a c     the remainder of c by g_a
 --   level p i           the level of sub-word i: v - i, and 0 from i = v on; checkBits p i is its number w of check bits
 --   combine f i cs      Σ f(k) × c_k, the list's first word being c_i
@@ -24,21 +24,18 @@ use Rattle.polynomial.specs.Multiple.{Multiple}
 use Rattle.polynomial.specs.Xor.{xor}
 use Rattle.field.specs.Elements.{syndrome}
 use Rattle.field.specs.Fields.{fieldOf}
-use Rattle.generator.specs.Generator.{generator, width}
+use Rattle.generator.specs.Generator.{generator}
 use Rattle.code.specs.declared.Parameters.{Parameters}
 use Rattle.code.specs.declared.Verdict.{Verdict}
 use Rattle.code.specs.declared.Verdict.the-variants.{Member, SubWord, NestedWord}
 use Rattle.code.specs.Lists.{range, first}
 use Rattle.code.specs.Parameters.{len, strength}
+unfoldable pub use Rattle.code.specs.Parameters.{degree}
 
 -- ---- generators by level
 unfoldable pub gen : Parameters → ℕ → ℕ
 unfolding fieldOf generator
 gen p a = generator (fieldOf (p .q)) (strength p a)
-
-unfoldable pub degree : Parameters → ℕ → ℕ
-unfolding fieldOf width
-degree p a = width (fieldOf (p .q)) (strength p a)
 
 abbrev pub remainder : Parameters → ℕ → ℕ → ℕ
 remainder p a c = rem (gen p a) (degree p a) c

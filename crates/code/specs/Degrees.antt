@@ -1,4 +1,4 @@
--- The degree of a generator, exactly: how many different values j × 2^s modulo n there are, j from 1 to 2t, s from 0 to q - 1.
+-- The degree of a generator, exactly: how many different values j × 2^r modulo n there are, j from 1 to 2t, r from 0 to q - 1.
 --   isValue n q t e    e is one of them
 --   select n P         the numbers below n that pass the test P
 use mathlib.Core.Path.{_≡_, refl, sym, ap, ap₂, _∙_}
@@ -25,7 +25,7 @@ use Rattle.code.specs.Places.{addBelow-suc, addBelow-zero, countBelow-eq
 use Rattle.code.specs.Steps.{degree-eq}
 
 abbrev pub isValue : ℕ → ℕ → ℕ → ℕ → Bool
-isValue n q t e = any (λ j. any (λ s. eqb (j * 2 ^ s % n) e) (range 0 q)) (range 1 (2 * t))
+isValue n q t e = any (λ j. any (λ r. eqb (j * 2 ^ r % n) e) (range 0 q)) (range 1 (2 * t))
 
 -- ---- tests on ranges
 some-of : (P : ℕ → Bool) (i k x : ℕ) → i ≤ x → x < i + k → T (P x) → T (any P (range i k))

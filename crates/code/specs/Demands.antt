@@ -5,6 +5,7 @@
 --   Demand2 p            fields, generators, remainders, syndromes, registers, placement,
 --                        membership and written pages are those of the code
 --   Demand3 p            alike at every two widths; sums; members are what is written again; distance
+--   StoredLaws, WholeLaws, ShortenedLaws   what s leaves out; a sheet with s = 0; a shortened sheet beside the full one
 --   BlankReadLaws, BlankWriteLaws    what read out gives of a blank page, and write of blocks that would make one
 --   QuoteLaws p number   the numbers that the quote gives; QuotedPage p number blocks page: a written page has so many check and data bits
 --   Demand3C p           the same of the C calls: WrittenC, ReadOutC, JudgedC, whose answers are numbers, 0 for done and member
@@ -12,10 +13,11 @@
 --   QuotedC p            the quote of C, whose numbers are bytes
 use mathlib.Core.Path.{_≡_}
 use mathlib.Core.Logic.{_≢_, _↔_}
-use mathlib.Core.List.{List, []}
+use mathlib.Core.Bool.{cond}
+use mathlib.Core.List.{List, [], map}
 use Prim.Native.Nat.{ℕ, suc, _+_, _-_, _*_, _/_, _%_, _^_, _≤_, _<_}
 use lib.Dec.{eqb}
-use lib.ListN.{length, getD, take, drop}
+use lib.ListN.{length, getD, replicate, take, drop}
 use Rattle.polynomial.specs.Bits.{coefficient}
 use Rattle.polynomial.specs.Clmul.{clmul}
 use Rattle.polynomial.specs.Digits.{value}
@@ -31,13 +33,16 @@ use Rattle.code.specs.declared.Outcome.{Outcome}
 use Rattle.code.specs.declared.Verdict.{Verdict}
 use Rattle.code.specs.Calls.{Judged, JudgedC, QuoteMade, QuoteMadeC, ReadOut, ReadOutC, Written, WrittenC, asBytes}
 use Rattle.code.specs.Calls.{empty, generators, nestedOf, nestedSyndromeList, nestedWordBytes}
-use Rattle.code.specs.Calls.{opened, outcome, remainderBytes, shortBytes, subWordOf, syndromeList}
-use Rattle.code.specs.Code.{IsMember, N, carried, degree, distance, divisor, gen, nested, newton, remainder, shortRemainder}
-use Rattle.code.specs.Layout.{Bytes, Fits, IsBlank, IsPage, blockBit, blockSizes, blocksOf, coefficientOf, dataOf, differences, pageOf, wordsOf}
-use Rattle.code.specs.Lists.{any, countBelow, join, range, sum}
-use Rattle.code.specs.Parameters.{Accepted, full, len, stored, strength}
+use Rattle.code.specs.Calls.{opened, outcome, pageVerdict, remainderBytes, shortBytes, subWordOf, syndromeList}
+use Rattle.code.specs.Code.{IsMember, N, carried, dataWords, degree, distance, divisor, encode, gen}
+use Rattle.code.specs.Code.{nested, newton, remainder, shortRemainder, verdict}
+use Rattle.code.specs.Layout.{Bytes, Fits, IsBlank, IsPage, blockBit, blockSizes, blocksClear, blocksOf, coefficientOf, dataBytes}
+use Rattle.code.specs.Layout.{dataOf, differences, pageBytes, pageClear, pageOf, storedOf, wordsOf}
+use Rattle.code.specs.Lists.{any, countBelow, each, fitsIn, join, onesIn, range, split, sum}
+use Rattle.code.specs.Parameters.{Accepted, full, len, stored, strength, unshortened}
 use Rattle.code.specs.Refused.{BlocksBuffer, PageBuffer, Width}
 use Rattle.code.specs.Registers.{AllDone, cut, feedings}
+use Rattle.code.specs.Shortened.{fullBits, fullBlocks, fullSizes, lengthened}
 
 -- ---- demand 2: the field and the generators
 -- the field polynomial has degree q and no factor, and α has order n: no power repeats
@@ -61,9 +66,9 @@ pub record GeneratorLaws (p : Parameters) (a : ℕ) : Type 0 where
   pub alone : (f : ℕ) → Deg f (degree p a) → Vanishes (p .q) (strength p a) f → f ≡ gen p a
   pub of-degree : Deg (gen p a) (degree p a)
   pub degree-bound : degree p a ≤ p .q * strength p a
-  -- exactly, the number of different values of j × 2^s modulo n, j from 1 to 2t, s from 0 to q - 1
+  -- exactly, the number of different values of j × 2^r modulo n, j from 1 to 2t, r from 0 to q - 1
   pub degree-exact : degree p a
-      ≡ countBelow (len p) (λ e. any (λ j. any (λ s. eqb (j * 2 ^ s % len p) e) (range 0 (p .q))) (range 1 (2 * strength p a)))
+      ≡ countBelow (len p) (λ e. any (λ j. any (λ r. eqb (j * 2 ^ r % len p) e) (range 0 (p .q))) (range 1 (2 * strength p a)))
   pub degree-below : degree p a ≤ len p - 1
   pub multiples : (c : ℕ) → Multiple (gen p a) c ↔ Vanishes (p .q) (strength p a) c
   pub cyclic : Multiple (gen p a) (2 ^ len p + 1)
@@ -110,9 +115,9 @@ pub record BufferLaws (p : Parameters) (x : List ℕ) : Type 0 where
 
 -- ---- demand 2: placement, membership, written pages
 pub record PlacementLaws (p : Parameters) : Type 0 where
-  -- the coefficient of x^k of sub-word i is bit k mod 8 of byte i × 2^q / 8 + k div 8
+  -- the coefficient of x^k of sub-word i is bit k mod 8 of byte i × ((n - s + 7) / 8) + k div 8
   pub sub-word : (x : List ℕ) → IsPage p x → (i k : ℕ) → i < p .m → k < stored p
-      → coefficient (subWordOf p x i) k ≡ coefficient (getD x (i * (2 ^ p .q / 8) + k / 8) 0) (k % 8)
+      → coefficient (subWordOf p x i) k ≡ coefficient (getD x (i * ((2 ^ p .q - 1 - p .s + 7) / 8) + k / 8) 0) (k % 8)
   -- bit r of block i is the coefficient of x^(w + r) of sub-word i, in the written page and in what read out gives
   pub written : (b : List ℕ) → Fits p b → (i r : ℕ) → i < p .m → r < stored p - degree p (p .v - i)
       → coefficientOf p (pageOf p b) i (degree p (p .v - i) + r) ≡ blockBit p b i r
@@ -123,6 +128,32 @@ pub record PlacementLaws (p : Parameters) : Type 0 where
       → subWordOf p (pageOf p b) i % 2 ^ degree p (p .v - i)
       ≡ remainder p (p .v - i)
       (xor (getD (blocksOf p b) i 0 * 2 ^ degree p (p .v - i)) (carried (p .v - i) i (drop (suc i) (wordsOf p (pageOf p b)))))
+
+-- the top s coefficients of a sub-word are 0, and every block has a bit
+pub record StoredLaws (p : Parameters) : Type 0 where
+  pub top : (x : List ℕ) → IsPage p x → (i k : ℕ) → i < p .m → len p - p .s ≤ k → coefficient (subWordOf p x i) k ≡ 0
+  pub data-bit : (i : ℕ) → i < p .m → 1 ≤ len p - p .s - degree p (p .v - i)
+
+-- at s = 0 lengths, tests, pages, verdicts and blocks are those of full sub-words: n places and 2^q / 8 bytes each
+pub record WholeLaws (p : Parameters) : Type 0 where
+  pub page-bytes : pageBytes p ≡ p .m * (2 ^ p .q / 8)
+  pub data-bytes : dataBytes p ≡ sum (fullBlocks p)
+  pub full-count : full p ≡ len p
+  pub spare : (x : List ℕ) → pageClear p x ≡ each fitsIn (replicate (p .m) (len p)) (split (fullSizes p) x)
+  pub unused : (b : List ℕ) → blocksClear p b ≡ each fitsIn (fullBits p) (split (fullBlocks p) b)
+  pub page : (b : List ℕ) → pageOf p b ≡ join (fullSizes p) (encode p (split (fullBlocks p) b))
+  pub verdicts : (x : List ℕ)
+      → pageVerdict p x
+      ≡ cond (each onesIn (replicate (p .m) (len p)) (split (fullSizes p) x)) Verdict.Blank (verdict p (split (fullSizes p) x))
+  pub blocks : (x : List ℕ) → dataOf p x ≡ join (fullBlocks p) (dataWords p (map (λ c. c % 2 ^ len p) (split (fullSizes p) x)))
+
+-- the words of a shortened sheet are those of the full one, whose blocks are the same with s zeros above
+pub record ShortenedLaws (p : Parameters) (b : List ℕ) : Type 0 where
+  pub fits : Fits (unshortened p) (lengthened p b)
+  pub same : (i r : ℕ) → i < p .m → r < stored p - degree p (p .v - i) → blockBit (unshortened p) (lengthened p b) i r ≡ blockBit p b i r
+  pub zeros : (i r : ℕ) → i < p .m → stored p - degree p (p .v - i) ≤ r → r < len p - degree p (p .v - i)
+      → blockBit (unshortened p) (lengthened p b) i r ≡ 0
+  pub words : wordsOf p (pageOf p b) ≡ wordsOf (unshortened p) (pageOf (unshortened p) (lengthened p b))
 
 -- the quote, whose numbers are number 0 to number 11: w_0 to w_v, then the data bits of each block, spare places 0
 pub record QuoteLaws (p : Parameters) (number : ℕ → ℕ) : Type 0 where
@@ -171,11 +202,12 @@ pub record WriteLaws (p : Parameters) (blocks after : List ℕ) (r : Outcome) : 
   pub read : (old out : List ℕ) (j : Verdict) → BlocksBuffer p old → ReadOut p after old out j → (j ≡ Verdict.Member) × (out ≡ blocks)
 
 -- write's answer r for blocks that fit: 13 exactly when their page would be blank, and then the lent page is as it was;
--- that is so exactly when every data bit is 1
+-- that is so exactly when s is 0 and every data bit is 1
 pub record BlankWriteLaws (p : Parameters) (blocks old after : List ℕ) (r : Outcome) : Type 0 where
   pub refused : (r ≡ Outcome.Refused 13) ↔ IsBlank p (pageOf p blocks)
   pub kept : IsBlank p (pageOf p blocks) → after ≡ old
-  pub ones : IsBlank p (pageOf p blocks) ↔ ((i k : ℕ) → i < p .m → k < stored p - degree p (p .v - i) → blockBit p blocks i k ≡ 1)
+  pub ones : IsBlank p (pageOf p blocks)
+      ↔ ((p .s ≡ 0) × ((i k : ℕ) → i < p .m → k < stored p - degree p (p .v - i) → blockBit p blocks i k ≡ 1))
 
 -- the equal form is equal as a whole
 pub record EqualFormLaws (p : Parameters) : Type 0 where
@@ -193,10 +225,18 @@ pub record Demand2 (p : Parameters) : Type 0 where
   pub register-laws : (a : ℕ) → a ≤ p .v → (c : ℕ) (Ls : List ℕ) → All Width Ls → sum Ls ≤ full p → c < 2 ^ sum Ls → RegisterLaws p a c Ls
   pub buffer-laws : (x : List ℕ) → BufferLaws p x
   pub placement-laws : PlacementLaws p
+  pub stored-laws : StoredLaws p
+  pub whole-laws : p .s ≡ 0 → WholeLaws p
+  -- the full sheet is accepted too, and has the same members
+  pub full-sheet : Accepted (unshortened p) × ((cs : List ℕ) → IsMember p cs ↔ IsMember (unshortened p) cs)
+  pub shortened-laws : (b : List ℕ) → Fits p b → ShortenedLaws p b
   -- bytes of a page's length are judged blank exactly when every coefficient is 1, whatever the spare bits
   pub blank-laws : (x : List ℕ) (r : Verdict) → Bytes x → PageBuffer p x → Judged p x r → (r ≡ Verdict.Blank) ↔ IsBlank p x
   pub blank-read-laws : (x old out : List ℕ) (r : Verdict) → Bytes x → PageBuffer p x → BlocksBuffer p old → ReadOut p x old out r
       → BlankReadLaws p x out r
+  -- at s > 0 the words of a blank page are no member's, and whatever bytes are lent, write gives 13 at s = 0 only
+  pub blank-no-member : (x : List ℕ) → Bytes x → IsBlank p x → 0 < p .s → ¬ IsMember p (storedOf p x)
+  pub blank-whole : (L : ℕ) (blocks old after : List ℕ) → Bytes blocks → Written p L blocks old after (Outcome.Refused 13) → p .s ≡ 0
   pub blank-write-laws : (L : ℕ) (blocks old after : List ℕ) (r : Outcome) → Width L → Fits p blocks → PageBuffer p old
       → Written p L blocks old after r → BlankWriteLaws p blocks old after r
   pub judge-laws : (x : List ℕ) (r : Verdict) → IsPage p x → (¬ IsBlank p x) → Judged p x r → JudgeLaws p x r
@@ -294,6 +334,7 @@ pub record BlankC (p : Parameters) : Type 0 where
       → (r ≡ 13) ↔ IsBlank p (pageOf p blocks)
   pub kept : (L : ℕ) (blocks old after : List ℕ) (r : ℕ) → Width L → Fits p blocks → PageBuffer p old → WrittenC p L blocks old after r
       → IsBlank p (pageOf p blocks) → after ≡ old
+  pub whole : (L : ℕ) (blocks old after : List ℕ) → Bytes blocks → WrittenC p L blocks old after 13 → p .s ≡ 0
 
 -- ---- the quote of C: number k stands at bytes 2k and 2k + 1 of 24, low byte first
 abbrev pub numberAt : List ℕ → ℕ → ℕ

@@ -20,7 +20,7 @@ use Rattle.code.specs.Code.{N, carried, checked, combine, dataFrom, data
 use Rattle.code.specs.Distance.{Passing}
 use Rattle.code.specs.Layout.{dataBits}
 use Rattle.code.specs.Newton.{member-equal}
-use Rattle.code.specs.Parameters.{len}
+use Rattle.code.specs.Parameters.{stored, unshortened}
 use Rattle.code.specs.Steps.{Divides, N-first, N-start, N-step, carried-suc, carried-zero, checked-eq}
 use Rattle.code.specs.Steps.{combine-add, combine-cons, combine-nil, data-cons, data-nil, encode-cons, encode-nil}
 use Rattle.code.specs.Values.{Lawful}
@@ -121,11 +121,11 @@ module _ (C : Parameters) (deg : (a : ℕ) → a ≤ C.v → Deg (gen C a) (degr
         (rem-lt (gen C a) (degree C a) (deg a l) (xor (d * 2 ^ degree C a) f)))
         ∙ low d (degree C a) (rem-lt (gen C a) (degree C a) (deg a l) (xor (d * 2 ^ degree C a) f))
 
-    checked-lt : (d f : ℕ) → degree C a ≤ len C → d < 2 ^ (len C - degree C a) → checked C a (d * 2 ^ degree C a) f < 2 ^ len C
+    checked-lt : (d f : ℕ) → degree C a ≤ stored C → d < 2 ^ (stored C - degree C a) → checked C a (d * 2 ^ degree C a) f < 2 ^ stored C
     checked-lt d f h b =
         rw (checked-eq C a (d * 2 ^ degree C a) f)
-        (xor-lt (len C) (d * 2 ^ degree C a) (rem (gen C a) (degree C a) (xor (d * 2 ^ degree C a) f))
-        (rw (Nat.sub-add-cancel h) at (shl-lt (len C - degree C a) (degree C a) b))
+        (xor-lt (stored C) (d * 2 ^ degree C a) (rem (gen C a) (degree C a) (xor (d * 2 ^ degree C a) f))
+        (rw (Nat.sub-add-cancel h) at (shl-lt (stored C - degree C a) (degree C a) b))
         (Nat.lt-of-lt-of-le (rem-lt (gen C a) (degree C a) (deg a l) (xor (d * 2 ^ degree C a) f)) (pow-mono h)))
 
     checked-unique : (c f : ℕ) → Divides C a (xor c f) → checked C a (c / 2 ^ degree C a * 2 ^ degree C a) f ≡ c
@@ -186,8 +186,8 @@ module _ (C : Parameters) (deg : (a : ℕ) → a ≤ C.v → Deg (gen C a) (degr
   encode-dataFrom i [] h = rw (data-nil C i) (encode-nil C i)
   encode-dataFrom i (c ∷ cs) h = encode-data-step i c cs (encode-dataFrom (suc i) cs (h .1)) (h .0)
 
-  encode-lt-from : ((a : ℕ) → a ≤ C.v → degree C a ≤ len C) → (i : ℕ) (ds : List ℕ) → Sized C i ds
-      → All (λ c. c < 2 ^ len C) (encodeFrom C i ds)
+  encode-lt-from : ((a : ℕ) → a ≤ C.v → degree C a ≤ stored C) → (i : ℕ) (ds : List ℕ) → Sized C i ds
+      → All (λ c. c < 2 ^ stored C) (encodeFrom C i ds)
   encode-lt-from W i [] h = rw (encode-nil C i) tt
   encode-lt-from W i (d ∷ ds) h =
       rw (encode-cons C i d ds) (
@@ -254,10 +254,20 @@ module _ (C : Parameters) (deg : (a : ℕ) → a ≤ C.v → Deg (gen C a) (degr
   unfolding encode dataWords
   data-encode ds = data-encodeFrom 0 ds
 
-  -- blocks that fit give words of n places
-  pub encode-lt : ((a : ℕ) → a ≤ C.v → degree C a ≤ len C) → (ds : List ℕ) → Sized C 0 ds → All (λ c. c < 2 ^ len C) (encode C ds)
+  -- blocks that fit give words of the stored places
+  pub encode-lt : ((a : ℕ) → a ≤ C.v → degree C a ≤ stored C) → (ds : List ℕ) → Sized C 0 ds → All (λ c. c < 2 ^ stored C) (encode C ds)
   unfolding encode
   encode-lt W ds h = encode-lt-from W 0 ds h
+
+unshortened-from : (C : Parameters) (i : ℕ) (ds : List ℕ) → encodeFrom C i ds ≡ encodeFrom (unshortened C) i ds
+unfolding encodeFrom checked gen degree
+unshortened-from C i [] = refl
+unshortened-from C i (d ∷ ds) = rw (unshortened-from C (suc i) ds) refl
+
+-- s is nowhere read
+pub unshortened-words : (C : Parameters) (ds : List ℕ) → encode C ds ≡ encode (unshortened C) ds
+unfolding encode
+unshortened-words C ds = unshortened-from C 0 ds
 
 length-encode : (C : Parameters) (i : ℕ) (ds : List ℕ) → length (encodeFrom C i ds) ≡ length ds
 length-encode C i [] = rw (encode-nil C i) refl
@@ -267,17 +277,17 @@ pub encode-length : (C : Parameters) (ds : List ℕ) → length (encode C ds) �
 unfolding encode
 encode-length C ds = length-encode C 0 ds
 
-data-fits-from : (C : Parameters) → ((a : ℕ) → a ≤ C.v → degree C a ≤ len C) → (i : ℕ) (cs : List ℕ) → All (λ c. c < 2 ^ len C) cs
+data-fits-from : (C : Parameters) → ((a : ℕ) → a ≤ C.v → degree C a ≤ stored C) → (i : ℕ) (cs : List ℕ) → All (λ c. c < 2 ^ stored C) cs
     → Sized C i (dataFrom C i cs)
 data-fits-from C W i [] s = rw (data-nil C i) tt
 data-fits-from C W i (c ∷ cs) s =
     rw (data-cons C i c cs) (
-      shr-lt (len C - degree C (C.v - i)) (degree C (C.v - i)) (rw (Nat.sub-add-cancel (W (C.v - i) (Nat.sub-le C.v i))) (s .0)),
+      shr-lt (stored C - degree C (C.v - i)) (degree C (C.v - i)) (rw (Nat.sub-add-cancel (W (C.v - i) (Nat.sub-le C.v i))) (s .0)),
       data-fits-from C W (suc i) cs (s .1),
     )
 
--- words of n places give blocks that fit
-pub data-fits : (C : Parameters) → ((a : ℕ) → a ≤ C.v → degree C a ≤ len C) → (cs : List ℕ) → All (λ c. c < 2 ^ len C) cs
+-- words of the stored places give blocks that fit
+pub data-fits : (C : Parameters) → ((a : ℕ) → a ≤ C.v → degree C a ≤ stored C) → (cs : List ℕ) → All (λ c. c < 2 ^ stored C) cs
     → Sized C 0 (dataWords C cs)
 unfolding dataWords
 data-fits C W cs s = data-fits-from C W 0 cs s

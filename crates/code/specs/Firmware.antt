@@ -19,7 +19,7 @@ use Rattle.code.specs.Parameters.{Accepted}
 use Rattle.code.specs.Quote.{quote-length, quote-none, quote-small}
 use Rattle.code.specs.Refusals.{quoteRefusal, writeRefusal}
 use Rattle.code.specs.Refused.{BlocksBuffer, PageBuffer, Width}
-use Rattle.code.specs.Theorems.{demand2, demand3, quote-numbers}
+use Rattle.code.specs.Theorems.{demand2, demand3, quote-numbers, whole-13}
 
 module _ (p : Parameters) (A : Accepted p) where
   abbrev refusal : ℕ → List ℕ → List ℕ → ℕ
@@ -135,6 +135,7 @@ module _ (p : Parameters) (A : Accepted p) where
       (λ i. W .answers ∙ sym (outcome-number (refusal L b old)) ∙ ap outcomeNumber (made L b old after r w h e W .refused .1 i)),
     );
     kept = λ L b old after r w h e W. made L b old after r w h e W .kept;
+    whole = λ L b old after h W. whole-13 p A L b (length old) h (sym (W .answers));
   }
     where
       made : (L : ℕ) (b old after : List ℕ) (r : ℕ) → Width L → Fits p b → PageBuffer p old → WrittenC p L b old after r

@@ -25,6 +25,7 @@ pub mod Refused
 pub mod Answers
 pub mod Placement
 pub mod Blank
+pub mod Shortened
 pub mod Registers
 pub mod Buffers
 pub mod Degrees

@@ -79,4 +79,4 @@ valuesBy zero l = l
 valuesBy (suc r) l = []
 
 abbrev pub lastRefusal : ℕ
-lastRefusal = 13
+lastRefusal = 14

@@ -18,14 +18,14 @@ use Rattle.field.specs.Irreducible.{both}
 use Rattle.code.specs.declared.Parameters.{Parameters}
 use Rattle.code.specs.Code as P
 use Rattle.code.specs.Encode as E
-use Rattle.code.specs.Accepted.{Rules, lawful, width-below}
+use Rattle.code.specs.Accepted.{Rules, lawful, stored-room}
 use Rattle.code.specs.Bytes.{Small, bytes-join, join-add, join-split, length-join, length-split, split-join}
 use Rattle.code.specs.Code.{dataFrom, dataWords, degree, encode}
 use Rattle.code.specs.Encode.{Sized, data-encode, data-fits, encode-add, encode-length, encode-lt}
 use Rattle.code.specs.Layout.{Fits, IsPage, blockBits, blockSizes, blocksClear, blocksOf}
 use Rattle.code.specs.Layout.{dataBits, dataBytes, dataOf, pageClear, pageOf, storedOf, wordSizes, wordsOf}
 use Rattle.code.specs.Lists.{each, fitsIn, join, range, split, sum}
-use Rattle.code.specs.Parameters.{len, stored, subWordBytes}
+use Rattle.code.specs.Parameters.{stored, subWordBytes}
 
 pub and-both : (a b : Bool) → T a → T b → T (a && b)
 and-both true b h t = t
@@ -52,15 +52,15 @@ pub dataOf-eq : (p : Parameters) (x : List ℕ) → dataOf p x ≡ join (blockSi
 unfolding dataOf
 dataOf-eq p x = refl
 
-pageClear-eq : (p : Parameters) (x : List ℕ) → pageClear p x ≡ each fitsIn (replicate (p .m) (len p)) (wordsOf p x)
+pub pageClear-eq : (p : Parameters) (x : List ℕ) → pageClear p x ≡ each fitsIn (replicate (p .m) (stored p)) (wordsOf p x)
 unfolding pageClear
 pageClear-eq p x = refl
 
-blocksClear-eq : (p : Parameters) (x : List ℕ) → blocksClear p x ≡ each fitsIn (blockBits p) (blocksOf p x)
+pub blocksClear-eq : (p : Parameters) (x : List ℕ) → blocksClear p x ≡ each fitsIn (blockBits p) (blocksOf p x)
 unfolding blocksClear
 blocksClear-eq p x = refl
 
-dataBytes-eq : (p : Parameters) → dataBytes p ≡ sum (blockSizes p)
+pub dataBytes-eq : (p : Parameters) → dataBytes p ≡ sum (blockSizes p)
 unfolding dataBytes
 dataBytes-eq p = refl
 
@@ -104,12 +104,9 @@ all-small n k zero (c ∷ cs) l e h = absurd (Nat.suc-ne-zero (length cs) e)
 all-small n k (suc m) [] l e h = absurd (Nat.suc-ne-zero m (sym e))
 all-small n k (suc m) (c ∷ cs) l e h = (Nat.lt-of-lt-of-le (h .0) (pow-mono l), all-small n k m cs l (Nat.suc-inj e) (h .1))
 
-pub room : (q : ℕ) → Known q → 2 ^ q - 1 ≤ 8 * (2 ^ q / 8)
-room = by-known (λ q. 2 ^ q - 1 ≤ 8 * (2 ^ q / 8)) (lit≤ tt) (lit≤ tt) (lit≤ tt)
-
 pub record IsWords (p : Parameters) (cs : List ℕ) : Type 0 where
   pub many : length cs ≡ p .m
-  pub below : All (λ c. c < 2 ^ len p) cs
+  pub below : All (λ c. c < 2 ^ stored p) cs
 
 -- ---- blocks
 pub blockBits-eq : (p : Parameters) → blockBits p ≡ map (dataBits p) (range 0 (p .m))
@@ -194,12 +191,12 @@ stored-words p x =
 module _ (p : Parameters) (R : Rules p) where
   -- ---- pages
   small-words : (cs : List ℕ) → IsWords p cs → Small (wordSizes p) cs
-  small-words cs h = all-small (len p) (subWordBytes p) (p .m) cs (room (p .q) (R .known)) (h .many) (h .below)
+  small-words cs h = all-small (stored p) (subWordBytes p) (p .m) cs (whole (stored p)) (h .many) (h .below)
 
   pub page-words : (x : List ℕ) → IsPage p x → IsWords p (wordsOf p x)
   page-words x h =
       let e : length (wordsOf p x) ≡ p .m = words-many p x in
-      record { many = e; below = within-all (len p) (p .m) (wordsOf p x) e (rw (pageClear-eq p x) at (h .clear)) }
+      record { many = e; below = within-all (stored p) (p .m) (wordsOf p x) e (rw (pageClear-eq p x) at (h .clear)) }
 
   -- with clear spare bits a page has no other coefficients
   pub stored-page : (x : List ℕ) → IsPage p x → storedOf p x ≡ wordsOf p x
@@ -215,7 +212,7 @@ module _ (p : Parameters) (R : Rules p) where
   words-page cs h = record {
     bytes = bytes-join (wordSizes p) cs;
     exact = length-join (wordSizes p) cs (h .many ∙ sym (length-sizes p)) ∙ sum-replicate (p .m) (subWordBytes p);
-    clear = rw (pageClear-eq p (join (wordSizes p) cs), words-join cs h) (all-within (len p) (p .m) cs (h .below));
+    clear = rw (pageClear-eq p (join (wordSizes p) cs), words-join cs h) (all-within (stored p) (p .m) cs (h .below));
   }
 
   -- ---- blocks
@@ -241,8 +238,8 @@ module _ (p : Parameters) (R : Rules p) where
   }
 
   -- ---- encoding
-  W : (a : ℕ) → a ≤ p .v → degree p a ≤ len p
-  W a h = Nat.le-trans (width-below p R a h) (Nat.sub-le (len p) 1)
+  W : (a : ℕ) → a ≤ p .v → degree p a ≤ stored p
+  W a h = Nat.le-of-suc-le (stored-room p R a h)
 
   pub encode-words : (ds : List ℕ) → IsBlocks p ds → IsWords p (encode p ds)
   encode-words ds h =

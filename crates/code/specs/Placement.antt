@@ -9,7 +9,7 @@ use native.Mathlib.Omega.{arith}
 use lib.Arith.{lt-one}
 use lib.Bits as Bits
 use lib.ListN.{length, getD, set, take, drop, replicate, List·getD-append, getD-replicate}
-use lib.Pow.{shr-shr}
+use lib.Pow.{pow-mono, shr-shr}
 use lib.Seq.{ext-getD, getD-take, getD-drop, getD-append-add, getD-set-same, getD-set-other}
 use Rattle.polynomial.specs.Bits.{coefficient, half-lt}
 use Rattle.polynomial.specs.Digits.{digits, digits-coefficient, length-digits, low-coefficient, value-coefficient}
@@ -18,14 +18,14 @@ use Rattle.polynomial.specs.Sums.{all-drop, all-take}
 use Rattle.polynomial.specs.Xor.{xor}
 use Rattle.field.specs.Field.{add-assoc, add-zero, zero-add, zero-mul}
 use Rattle.code.specs.declared.Parameters.{Parameters}
-use Rattle.code.specs.Accepted.{Rules, lawful, width-below}
+use Rattle.code.specs.Accepted.{Rules, lawful, stored-room}
 use Rattle.code.specs.Code.{carried, checkBits, checked, dataFrom, dataWords, encode, encodeFrom, level, remainder}
 use Rattle.code.specs.Encode.{Sized, checked-data, checked-low}
 use Rattle.code.specs.Layout.{Bytes, Fits, bitFrom, blockBit, blockBits, blockOffset, blockSizes}
 use Rattle.code.specs.Layout.{blocksOf, coefficientOf, dataBits, dataOf, pageOf, storedOf, wordSizes, wordsOf}
 use Rattle.code.specs.Lists.{join, range, split, sum}
 use Rattle.code.specs.Pages.{IsBlocks, blockBits-eq, blockSizes-eq, blocks-blocks, blocks-fit, blocks-join, blocksOf-eq, dataOf-eq}
-use Rattle.code.specs.Pages.{join-blocks, length-bits, length-blocks, length-data, page-has, page-is, room}
+use Rattle.code.specs.Pages.{join-blocks, length-bits, length-blocks, length-data, page-has, page-is}
 use Rattle.code.specs.Pages.{stored-words, storedOf-eq, whole, words-many, wordsOf-eq}
 use Rattle.code.specs.Parameters.{stored, subWordBytes}
 use Rattle.code.specs.Steps.{data-cons, data-nil, encode-cons}
@@ -97,6 +97,10 @@ getD-map f (x ∷ l) (suc i) h = getD-map f l i (Nat.le-of-suc-le-suc h)
 pub high-coefficient : (c w r : ℕ) → coefficient c (w + r) ≡ coefficient (c / 2 ^ w) r
 high-coefficient c w r = ap (λ (y : ℕ). y % 2) (sym (shr-shr c w r))
 
+-- a word of z places has no coefficient beyond
+pub beyond : (c z k : ℕ) → c < 2 ^ z → z ≤ k → coefficient c k ≡ 0
+beyond c z k h l = ap (λ (y : ℕ). y % 2) (Nat.div-eq-of-lt (Nat.lt-of-lt-of-le h (pow-mono l)))
+
 -- the data of word j + i, for any i: past the end both are 0
 pub data-at : (p : Parameters) (j i : ℕ) (cs : List ℕ) → getD (dataFrom p j cs) i 0 ≡ getD cs i 0 / 2 ^ checkBits p (j + i)
 data-at p j i [] = ap (λ (l : List ℕ). getD l i 0) (data-nil p j) ∙ sym (Nat.zero-div (2 ^ checkBits p (j + i)))
@@ -142,7 +146,7 @@ module _ (p : Parameters) where
 
 module _ (p : Parameters) (R : Rules p) where
   word-room : (k : ℕ) → k < stored p → k < 8 * subWordBytes p
-  word-room k h = Nat.lt-of-lt-of-le h (room (p .q) (R .known))
+  word-room k h = Nat.lt-of-lt-of-le h (whole (stored p))
 
   page-offset : (i : ℕ) → i < p .m → sum (take i (wordSizes p)) ≡ i * subWordBytes p
   page-offset i h = offset-replicate (p .m) (subWordBytes p) i (Nat.le-of-suc-le h)
@@ -150,7 +154,7 @@ module _ (p : Parameters) (R : Rules p) where
   block-room : (i r : ℕ) → i < p .m → r < dataBits p i → r < 8 * getD (blockSizes p) i 0
   block-room i r h l = rw (block-size p i h) (Nat.lt-of-lt-of-le l (whole (dataBits p i)))
 
-  -- the coefficient of x^k of sub-word i is bit k mod 8 of byte i × 2^q / 8 + k div 8
+  -- the coefficient of x^k of sub-word i is bit k mod 8 of byte i × (n - s + 7) / 8 + k div 8
   pub sub-word-bit : (x : List ℕ) → Bytes x → (i k : ℕ) → i < p .m → k < stored p
       → coefficient (getD (wordsOf p x) i 0) k ≡ coefficientOf p x i k
   sub-word-bit x h i k l b =
@@ -168,7 +172,7 @@ module _ (p : Parameters) (R : Rules p) where
 
   -- check and data bits lie within the stored places
   pub data-room : (i r : ℕ) → r < dataBits p i → checkBits p i + r < stored p
-  data-room i r h = omega (arith, width-below p R (level p i) (level-low i))
+  data-room i r h = omega (arith, stored-room p R (level p i) (level-low i))
 
   module _ (x : List ℕ) (h : Fits p x) where
     encoded-at : (i : ℕ) → i < p .m → getD (encode p (blocksOf p x)) i 0
@@ -244,7 +248,7 @@ at-sized p k (d ∷ ds) h = (
 module _ (p : Parameters) (R : Rules p) where
   -- the places of a sub-word are its check and its data bits
   pub all-places : (i : ℕ) → checkBits p i + dataBits p i ≡ stored p
-  all-places i = omega (arith, width-below p R (level p i) (Nat.sub-le (p .v) i))
+  all-places i = omega (arith, stored-room p R (level p i) (Nat.sub-le (p .v) i))
 
   -- blocks that fit are known by their bits
   pub blocks-same : (a b : List ℕ) → Fits p a → Fits p b → ((i r : ℕ) → i < p .m → r < dataBits p i → blockBit p a i r ≡ blockBit p b i r)

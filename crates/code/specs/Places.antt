@@ -9,6 +9,7 @@ use native.Mathlib.Omega.{arith}
 use lib.Arith.{lt-one}
 use lib.Dec.{eqb}
 use lib.ListN.{length, getD}
+use lib.Pow.{pow-mono}
 use Rattle.polynomial.specs.Bits.{coefficient, half-lt}
 use Rattle.polynomial.specs.Division.{shr-half, xor-lt, xor-shr}
 use Rattle.polynomial.specs.Sums.{All, add}
@@ -89,10 +90,15 @@ pages-differ n (c ∷ cs) (d ∷ ds) e a b =
     addBelow-front (length cs) (differing n (c ∷ cs) (d ∷ ds))
     ∙ ap₂ _+_ (words-differ n c d (a .0) (b .0)) (pages-differ n cs ds (Nat.suc-inj e) (a .1) (b .1))
 
--- two pages of the code that differ do so in at least the distance of places
-pub distance-places : (F : Field2) (α : F .K) (C : Parameters) → Lawful F α C → (cs ds : List ℕ) → length cs ≡ C.m → length ds ≡ C.m
-    → All (λ c. c < 2 ^ len C) cs → All (λ c. c < 2 ^ len C) ds → Passing C cs → Passing C ds → cs ≢ ds
-    → distance C ≤ addBelow C.m (differing (len C) cs ds)
-distance-places F α C L cs ds e f a b M M′ h =
-    Nat.le-trans (distance-member F α C L cs ds (e ∙ sym f) (Nat.le-of-eq e) a b M M′ h)
-    (Nat.le-of-eq (sym (pages-differ (len C) cs ds (e ∙ sym f) a b) ∙ ap (λ (k : ℕ). addBelow k (differing (len C) cs ds)) e))
+all-higher : (z n : ℕ) (cs : List ℕ) → z ≤ n → All (λ c. c < 2 ^ z) cs → All (λ c. c < 2 ^ n) cs
+all-higher z n [] h a = tt
+all-higher z n (c ∷ cs) h a = (Nat.lt-of-lt-of-le (a .0) (pow-mono h), all-higher z n cs h (a .1))
+
+-- two pages of the code that differ, both within z places, do so in at least the distance of these places
+pub distance-places : (F : Field2) (α : F .K) (C : Parameters) → Lawful F α C → (z : ℕ) → z ≤ len C → (cs ds : List ℕ)
+    → length cs ≡ C.m → length ds ≡ C.m → All (λ c. c < 2 ^ z) cs → All (λ c. c < 2 ^ z) ds → Passing C cs → Passing C ds → cs ≢ ds
+    → distance C ≤ addBelow C.m (differing z cs ds)
+distance-places F α C L z l cs ds e f a b M M′ h =
+    Nat.le-trans
+    (distance-member F α C L cs ds (e ∙ sym f) (Nat.le-of-eq e) (all-higher z (len C) cs l a) (all-higher z (len C) ds l b) M M′ h)
+    (Nat.le-of-eq (sym (pages-differ z cs ds (e ∙ sym f) a b) ∙ ap (λ (k : ℕ). addBelow k (differing z cs ds)) e))

@@ -19,7 +19,7 @@ use Rattle.code.specs.Code.{checkBits, degree}
 use Rattle.code.specs.Layout.{dataBits}
 use Rattle.code.specs.Lists.{_orElse_, _when_, lastRefusal, range}
 use Rattle.code.specs.Pages.{length-range}
-use Rattle.code.specs.Parameters.{Accepted, sheetRefusal, stored}
+use Rattle.code.specs.Parameters.{Accepted, len, sheetRefusal, stored}
 use Rattle.code.specs.Placement.{getD-map-range}
 use Rattle.code.specs.Refusals.{notExact, quoteRefusal}
 use Rattle.code.specs.Refused.{sheet-le}
@@ -97,7 +97,8 @@ module _ (p : Parameters) where
 module _ (p : Parameters) (R : Rules p) where
   -- every number is below 2^16
   stored-small : stored p < 2 ^ 16
-  stored-small = by-known (λ q. 2 ^ q - 1 < 2 ^ 16) (lit< tt) (lit< tt) (lit< tt) (p .q) (R .known)
+  stored-small =
+      Nat.lt-of-le-of-lt (Nat.sub-le (len p) (p .s)) (by-known (λ q. 2 ^ q - 1 < 2 ^ 16) (lit< tt) (lit< tt) (lit< tt) (p .q) (R .known))
 
   pub quote-lt : (j : ℕ) → j < 12 → getD (quote p) j 0 < 2 ^ 16
   quote-lt j = by-place j (ltb j 4) refl

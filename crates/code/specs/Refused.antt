@@ -9,18 +9,19 @@ use mathlib.Core.List.{List}
 use Prim.Native.Nat.{ℕ, zero, suc, _≤_}
 use native.Mathlib.Nat as Nat
 use native.Mathlib.Omega.{arith}
-use lib.Dec.{T, eqb, leb, ltb, eqb→eq, ltb→lt, nltb→le, lit≤, not-T}
+use lib.Dec.{T, eqb, leb, ltb, eqb→eq, ltb→lt, nltb→le, lit≤, lit<, not-T}
 use lib.ListN.{length}
 use Rattle.code.specs.declared.Parameters.{Parameters}
 use Rattle.code.specs.declared.Outcome.{Outcome}
 use Rattle.code.specs.declared.Verdict.{Verdict}
-use Rattle.code.specs.Chains.{either, exact-none, exact-of, left, neither, none, nonzero}
-use Rattle.code.specs.Chains.{off, off′, on, or-assoc, or-le, or-none, or-second, or-zero, right, when-le}
+use Rattle.code.specs.Accepted.{from-4}
+use Rattle.code.specs.Chains.{either, exact-none, exact-of, given, left, neither, nonzero}
+use Rattle.code.specs.Chains.{off, off′, on, or-assoc, or-le, or-none, or-second, or-zero, past, right, unless, when-le}
 use Rattle.code.specs.Calls.{judgeAnswer, pageVerdict, readLeaves, unlessRefused, writeAnswer, writeLeaves}
 use Rattle.code.specs.Code.{failing, failingNested, verdict}
 use Rattle.code.specs.Layout.{Bytes, Fits, IsPage, blank, blocksClear, dataBytes, dataOf, pageBytes, pageClear, pageOf, wordsOf}
 use Rattle.code.specs.Lists.{_orElse_, _when_, lastRefusal}
-use Rattle.code.specs.Parameters.{Accepted, clashes, fieldKnown, shapeFits, sheetRefusal, strengthsFit}
+use Rattle.code.specs.Parameters.{Accepted, clashes, fieldKnown, shapeFits, sheetRefusal, shortFits, strengthsFit}
 use Rattle.code.specs.Refusals.{badWidth, judgeLengths, judgeRefusal, notExact, pageRefusal, readLengths}
 use Rattle.code.specs.Refusals.{readRefusal, stray, wordRefusal, writeLengths, writeRefusal}
 
@@ -62,10 +63,11 @@ width-of L e = width-is L (rw (← e) tt)
 pub sheet-le : (p : Parameters) → sheetRefusal p ≤ lastRefusal
 unfolding sheetRefusal
 sheet-le p =
-    or-le (1 when not (fieldKnown p)) (2 when not (shapeFits p) orElse 3 when not (strengthsFit p) orElse 4 when clashes p)
+    or-le (1 when not (fieldKnown p)) (2 when not (shapeFits p) orElse 3 when not (strengthsFit p) orElse from-4 p)
     (when-le 1 (not (fieldKnown p)) (lit≤ tt))
-    (or-le (2 when not (shapeFits p)) (3 when not (strengthsFit p) orElse 4 when clashes p) (when-le 2 (not (shapeFits p)) (lit≤ tt))
-    (or-le (3 when not (strengthsFit p)) (4 when clashes p) (when-le 3 (not (strengthsFit p)) (lit≤ tt)) (when-le 4 (clashes p) (lit≤ tt))))
+    (or-le (2 when not (shapeFits p)) (3 when not (strengthsFit p) orElse from-4 p) (when-le 2 (not (shapeFits p)) (lit≤ tt))
+    (or-le (3 when not (strengthsFit p)) (from-4 p) (when-le 3 (not (strengthsFit p)) (lit≤ tt))
+    (or-le (4 when clashes p) (14 when not (shortFits p)) (when-le 4 (clashes p) (lit≤ tt)) (when-le 14 (not (shortFits p)) (lit≤ tt)))))
 
 module _ (p : Parameters) where
   abbrev page-7 : ℕ → ℕ
@@ -207,6 +209,18 @@ module _ (p : Parameters) where
         → writeRefusal p L a (length old) ≡ 13
     write-made L a old w h e n = write-left L a old w h e ∙ on 13 (blank p (pageOf p a)) n
 
+    -- what 13 shows
+    pub write-13 : (L : ℕ) (a : List ℕ) (k : ℕ) → writeRefusal p L a k ≡ 13
+        → (length a ≡ dataBytes p) × T (blocksClear p a) × T (blank p (pageOf p a))
+    write-13 L a k e =
+        let a5 = sym (or-second (sheetRefusal p) (5 when badWidth L orElse blocks-6 (length a) orElse page-7 k orElse unused-8 a orElse made-13 a) A)
+        ∙ sym (write-links L a k) ∙ e in
+        let a6 = past 4 (badWidth L) (blocks-6 (length a) orElse page-7 k orElse unused-8 a orElse made-13 a) 13 (lit< tt) a5 in
+        let a7 = past 5 (notExact (length a) (dataBytes p)) (page-7 k orElse unused-8 a orElse made-13 a) 13 (lit< tt) (a6 .1) in
+        let a8 = past 6 (notExact k (pageBytes p)) (unused-8 a orElse made-13 a) 13 (lit< tt) (a7 .1) in
+        let a13 = past 7 (not (blocksClear p a)) (made-13 a) 13 (lit< tt) (a8 .1) in
+        (exact-of 5 (length a) (dataBytes p) (a7 .0), unless 7 (blocksClear p a) (a13 .0), given 12 (blank p (pageOf p a)) (a13 .1))
+
   -- ---- what is said of a page, and what shows of it
   never : {X : Type 0} → _≡_ {A = ℕ} 0 1 → X
   never e = absurd (Nat.suc-ne-zero 0 (sym e))
@@ -289,7 +303,7 @@ module _ (p : Parameters) where
         record {
           bytes = h;
           exact = exact-of 6 (length x) (pageBytes p) (b .1);
-          clear = clear-of (pageClear p x) (blank p x) (none 7 (pageClear p x || blank p x) 0 (or-zero (stray-8 x) 0 (a .1) refl) .0) judged-else;
+          clear = clear-of (pageClear p x) (blank p x) (unless 7 (pageClear p x || blank p x) (a .1)) judged-else;
         }
 
   -- ---- the answers where nothing is refused

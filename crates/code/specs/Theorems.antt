@@ -12,7 +12,7 @@ use lib.Pow.{pow-mono}
 use Rattle.polynomial.specs.Bits.{coefficient}
 use Rattle.polynomial.specs.Digits.{value}
 use Rattle.polynomial.specs.Division.{rem-lt}
-use Rattle.polynomial.specs.Sums.{All, add, at-all}
+use Rattle.polynomial.specs.Sums.{All, add, all-at, at-all}
 use Rattle.polynomial.specs.Multiple.{Multiple, multiple-same, rem-differ}
 use Rattle.field.specs.Elements.{power-full, power-order, syndrome, syndrome-iff, syndrome-lt, syndrome-sum}
 use Rattle.field.specs.Fields.{BinaryField, fieldOf, irreducible, polynomial-degree, polynomial-irreducible}
@@ -24,34 +24,38 @@ use Rattle.code.specs.declared.Verdict.{Verdict}
 use Rattle.code.specs.Register.{Register}
 use Rattle.generator.specs.Generator as G
 use Rattle.code.specs.Answers.{read-as-judge}
-use Rattle.code.specs.Accepted.{Rules, accepted, degree-le, lawful, n-is, q-high, width-below, degree-of}
-use Rattle.code.specs.Blank.{blank-iff, page-ones}
+use Rattle.code.specs.Accepted.{Rules, accepted, degree-le, degree-of, lawful, n-is, q-high, stored-le, stored-room, width-below}
+use Rattle.code.specs.Blank.{blank-iff, blank-stays, page-ones}
 use Rattle.code.specs.Buffers.{bytes-at, divides-up, divisor-deg, divisor-degree, divisor-times, length-syndromes}
 use Rattle.code.specs.Buffers.{nested-back, remainder-back, row-back, short-back, short-differ, short-lt, syndromes-at}
 use Rattle.code.specs.Calls.{Judged, QuoteMade, ReadOut, Written, asBytes, empty, judgeAnswer, leaves}
 use Rattle.code.specs.Calls.{nestedOf, nestedSyndromeList, outcome, quote, subWordOf, syndromeList}
-use Rattle.code.specs.Code.{checkBits, degree, distance, gen, least, nested, newton, remainder, syndromes, verdict}
+use Rattle.code.specs.Code.{IsMember, checkBits, degree, distance, gen, least, nested, newton, remainder, syndromes, verdict}
 use Rattle.code.specs.Degrees.{degree-exact}
 use Rattle.code.specs.Demands.{Alike, BlankReadLaws, BlankWriteLaws, BufferLaws, Demand2, Demand3, Demands, GeneratorLaws, GeneratorOf}
-use Rattle.code.specs.Demands.{JudgeLaws, QuoteLaws, QuotedPage, RegisterLaws, Rewrites, ShortLaws, Smallest, Sums, Vanishes, WriteLaws}
+use Rattle.code.specs.Demands.{JudgeLaws, QuoteLaws, QuotedPage, RegisterLaws, Rewrites, ShortLaws, ShortenedLaws, Smallest}
+use Rattle.code.specs.Demands.{StoredLaws, Sums, Vanishes, WholeLaws, WriteLaws}
 use Rattle.code.specs.Distance.{Passing, least-few, least-many}
 use Rattle.code.specs.Encode.{N-above, encode-member, member-encode}
 use Rattle.code.specs.Judge.{member-passing, multiple-iff, passing-member, verdict-member, verdict-nested, verdict-sub}
 use Rattle.code.specs.Layout.{Bytes, Fits, IsBlank, IsPage, blank, blocksOf, coefficientOf, dataBits, dataOf, differences}
-use Rattle.code.specs.Layout.{pageOf, wordSizes, wordsOf}
+use Rattle.code.specs.Layout.{pageOf, storedOf, wordSizes, wordsOf}
 use Rattle.code.specs.Lists.{addBelow, countBelow, join, sum}
 use Rattle.code.specs.Newton.{nesteds-of, newtons-of}
-use Rattle.code.specs.Pages.{IsWords, again-from, again-to, data-fit, join-words}
+use Rattle.code.specs.Pages.{IsWords, again-from, again-to, data-fit, dataBytes-eq, join-words}
 use Rattle.code.specs.Pages.{page-back, page-has, page-is, page-words, sum-fits, sum-page}
 use Rattle.code.specs.Parameters.{Accepted, full, len, stored, strength}
-use Rattle.code.specs.Placement.{all-places, any-fit, any-has, blocks-same, check-bits, data-room, read-bit, sub-word-bit, written-bit}
+use Rattle.code.specs.Placement.{all-places, any-fit, any-has, beyond, blocks-same, check-bits, data-room, read-bit, sub-word-bit, written-bit}
 use Rattle.code.specs.Places.{addBelow-ext, countBelow-ext, distance-places}
 use Rattle.code.specs.Quote.{quote-bits, quote-degree, quote-length, quote-none, quote-past-m, quote-past-v}
 use Rattle.code.specs.Refusals.{quoteRefusal, writeRefusal}
 use Rattle.code.specs.Refused.{BlocksBuffer, PageBuffer, Width, blank-judgeable, judge-is, judged-blank, judged-else, judged-page}
 use Rattle.code.specs.Refused.{page-judgeable, read-leaves, verdict-blank, verdict-else, write-alike, write-done, write-keeps}
-use Rattle.code.specs.Refused.{write-leaves, write-refused}
+use Rattle.code.specs.Refused.{write-13, write-leaves, write-refused}
 use Rattle.code.specs.Registers.{cut, fed-done, fed-holds, feedings, holding, opened-empty, register-back}
+use Rattle.code.specs.Shortened.{lengthened-fits, lengthened-keeps, lengthened-zero, same-degree, same-members, same-words}
+use Rattle.code.specs.Shortened.{unshortened-accepted, whole, whole-blocks, whole-bytes, whole-clear, whole-data}
+use Rattle.code.specs.Shortened.{whole-page, whole-unused, whole-verdict}
 use Rattle.code.specs.Steps.{Divides, degree-eq, gen-eq}
 
 -- ---- the distance is the smallest of its formulas
@@ -166,6 +170,34 @@ module _ (p : Parameters) (A : Accepted p) where
       in-bytes : (k c j : ℕ) → j < k → value 8 (take 2 (drop (2 * j) (asBytes (syndromes p k c)))) ≡ syndrome (p .q) c (suc j)
       in-bytes k c j h = bytes-at (syndromes p k c) (all-small k c) j (rw (length-syndromes p k c) h) ∙ syndromes-at p k c j h
 
+  -- ---- shortened sheets
+  stored-are : StoredLaws p
+  stored-are = record {
+    top = λ x h i k l b. beyond (subWordOf p x i) (stored p) k
+        (all-at (λ c. c < 2 ^ stored p) (wordsOf p x) (page-words p R x h .below) i (rw (page-words p R x h .many) l)) b;
+    data-bit = λ i l. omega (arith, stored-room p R (p .v - i) (Nat.sub-le (p .v) i));
+  }
+
+  wholes-are : p .s ≡ 0 → WholeLaws p
+  wholes-are e = record {
+    page-bytes = ap (λ (b : ℕ). p .m * b) (whole-bytes p e (R .known));
+    data-bytes = dataBytes-eq p ∙ ap sum (whole-blocks p e);
+    full-count = whole p e;
+    spare = whole-clear p e (R .known);
+    unused = whole-unused p e;
+    page = whole-page p e (R .known);
+    verdicts = whole-verdict p e (R .known);
+    blocks = whole-data p e (R .known);
+  }
+
+  shortened-are : (b : List ℕ) → Fits p b → ShortenedLaws p b
+  shortened-are b h = record {
+    fits = lengthened-fits p A b h;
+    same = lengthened-keeps p A b h;
+    zeros = λ i r l c d. lengthened-zero p A b h i r l c (omega (arith, same-degree p (p .v - i)));
+    words = same-words p A b h;
+  }
+
   -- ---- blank pages
   unblank : (x : List ℕ) → Bytes x → (¬ IsBlank p x) → T (not (blank p x))
   unblank x b n = not-T (blank p x) (λ t. n (blank-iff p R x b .0 t))
@@ -186,6 +218,18 @@ module _ (p : Parameters) (A : Accepted p) where
     where
       given : IsBlank p x → out ≡ dataOf p x
       given h = O .buffer ∙ read-leaves p A x old (blank-judgeable p x e (blank-iff p R x b .1 h)) f
+
+  m-pos : 0 < p .m
+  m-pos = omega (arith, R .m-low)
+
+  unmember : (x : List ℕ) → Bytes x → IsBlank p x → 0 < p .s → ¬ IsMember p (storedOf p x)
+  unmember x h b s M = blank-stays p R s x h b (multiple-iff p R 0 zero-le (getD (storedOf p x) 0 0) .1 (M .sub-words 0 m-pos))
+
+  pub whole-13 : (L : ℕ) (a : List ℕ) (k : ℕ) → Bytes a → writeRefusal p L a k ≡ 13 → p .s ≡ 0
+  whole-13 L a k b e =
+      let t = write-13 p A L a k e in
+      let h : Fits p a = record { bytes = b; exact = t .0; clear = t .1 } in
+      page-ones p R a h .0 (blank-iff p R (pageOf p a) (page-is p R a h .bytes) .0 (t .2)) .0
 
   -- ---- members
   unblanked : (x : List ℕ) → IsPage p x → T (not (blank p x)) → judgeAnswer p x ≡ verdict p (wordsOf p x)
@@ -351,6 +395,12 @@ module _ (p : Parameters) (A : Accepted p) where
       read = read-bit p R;
       checks = check-bits p R;
     };
+    stored-laws = stored-are;
+    whole-laws = wholes-are;
+    full-sheet = (unshortened-accepted p A, same-members p);
+    shortened-laws = shortened-are;
+    blank-no-member = unmember;
+    blank-whole = λ L a old after b W. whole-13 L a (length old) b (sym (W .number));
     blank-laws = λ x r b e J. rw (J .answers) (blank-judged x b e);
     blank-read-laws = blanks-read;
     blank-write-laws = blanks-written;
@@ -439,7 +489,7 @@ module _ (p : Parameters) (A : Accepted p) where
       let k : IsPage p y = judged-page p y f c in
       let u : IsWords p (wordsOf p x) = page-words p R x h in
       let w : IsWords p (wordsOf p y) = page-words p R y k in
-      rw (differences-are x y h k) (distance-places (B .field) (B .α) p (lawful p R) (wordsOf p x) (wordsOf p y) (u .many) (w .many)
+      rw (differences-are x y h k) (distance-places (B .field) (B .α) p (lawful p R) (stored p) (stored-le p R) (wordsOf p x) (wordsOf p y) (u .many) (w .many)
       (u .below) (w .below) (judged-passing x h e) (judged-passing y k f)
       (λ s. n (sym (join-words p R x h) ∙ ap (join (wordSizes p)) s ∙ join-words p R y k)))
 

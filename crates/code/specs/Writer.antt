@@ -34,6 +34,7 @@ sheetGiven input = record {
   t1 = strengthGiven input 1;
   t2 = strengthGiven input 2;
   t3 = strengthGiven input 3;
+  s = 0;
 }
 
 unfoldable pub blocksGiven : List ℕ → List ℕ

@@ -1,6 +1,7 @@
 // The code's parameters and the answers of its calls, as types. Definitions and theorems stand in specs/.
 
 // The parameters of a code: the requirement's sheet. Its strengths t0 to t3 are the errors each level corrects; places past v are 0.
+// The top s coefficients of every sub-word are 0 and not stored.
 pub struct Parameters {
     pub q: u32,
     pub m: u32,
@@ -9,6 +10,7 @@ pub struct Parameters {
     pub t1: u32,
     pub t2: u32,
     pub t3: u32,
+    pub s: u32,
 }
 
 // Tested parameters: their numbers, or the number of the refusal.
@@ -21,6 +23,7 @@ pub enum Tested {
         t1: u32,
         t2: u32,
         t3: u32,
+        s: u32,
     },
     Refused(u8),
 }

@@ -20,7 +20,7 @@ use Rattle.field.specs.Eval.{eval, eval-xor, eval-root, eval-unity, eval-ones}
 use Rattle.field.specs.Field.{Field2, ring, add-self, mul-comm, mul-eq-zero, add-eq-zero, pow, pow-swap, pow-one}
 use Rattle.field.specs.Fields.{BinaryField}
 use Rattle.field.specs.Powers.{pow-mod, n-pos, eval-double}
-use Rattle.generator.specs.Exponents.{coset, coset-self, coset-ind, exponents, exponents-ind, exponents-pos, exponents-self}
+use Rattle.generator.specs.Exponents.{coset, coset-self, coset-ind, exponents, exponents-ind, exponents-mono, exponents-pos, exponents-self}
 use Rattle.generator.specs.Exponents.{Orbit, orbit-coset, orbit-exponents, orbit-join, upto, upto-mem, length-upto}
 use Rattle.generator.specs.Distinct.{Mem, mem-join, mem-map, map-mem}
 use Rattle.generator.specs.Monic.{mval, product, product-root, length-product, at-most}
@@ -221,6 +221,12 @@ module _ (B : BinaryField) where
           (mul-comm field (eval field (2 ^ n - 1) (pow field α j)) (pow field α j ⊕ 𝟙) ∙ eval-ones field n (pow field α j)
           ∙ rw (unity-at j) (add-self field 𝟙))
           (λ e. order j p h (add-eq-zero field (pow field α j) 𝟙 e))
+
+  -- ---- degrees do not fall
+  pub width-mono : (t t′ : ℕ) → t ≤ t′ → width B t ≤ width B t′
+  width-mono t t′ h =
+      rw (width-eq B t, width-eq B t′)
+      (length-le B (exponents n q t) (orbit-exponents n q size (n-pos B) t) (exponents n q t′) (exponents-mono n q t t′ h))
 
   -- ---- below n: no exponent is 0
   pub width-lt : (t : ℕ) → 2 * t ≤ n - 1 → width B t ≤ n - 1
