@@ -121,10 +121,12 @@ module _ (p : Parameters) (e : p .s ≡ 0) where
         (ap (dataWords p) (storedOf-eq p x ∙ ap₂ (λ (z : ℕ) (l : List ℕ). map (λ c. c % 2 ^ z) l) whole (whole-words x)))
 
 -- ---- at any s
-pub unshortened-accepted : (p : Parameters) → Accepted p → Accepted (unshortened p)
+pub unshortened-refusal : (p : Parameters) → sheetRefusal (unshortened p) ≡ fullRefusal p
 unfolding fieldKnown shapeFits strengthsFit clashes
-unshortened-accepted p A =
-    whole-refusal (unshortened p) refl ∙ or-none (fullRefusal p) (14 when not (shortFits p)) (sym (refusal-links p) ∙ A) .0
+unshortened-refusal p = whole-refusal (unshortened p) refl
+
+pub unshortened-accepted : (p : Parameters) → Accepted p → Accepted (unshortened p)
+unshortened-accepted p A = unshortened-refusal p ∙ or-none (fullRefusal p) (14 when not (shortFits p)) (sym (refusal-links p) ∙ A) .0
 
 -- membership does not read s
 pub same-members : (p : Parameters) (cs : List ℕ) → IsMember p cs ↔ IsMember (unshortened p) cs

@@ -7,45 +7,30 @@ use native.Mathlib.Omega.{arith}
 use lib.ListN.{length, getD, replicate, getD-replicate}
 use borrow.Author.Tests.{le-leb, lt-leb}
 use Rattle.polynomial.specs.Digits.{length-digits}
-use Rattle.field.specs.Fields.{Known, fieldOf}
+use Rattle.field.specs.Fields.{fieldOf}
 use Rattle.generator.specs.Generator.{generator}
 use Rattle.code.specs.Answers.{tested-eq}
 use Rattle.code.specs.Buffers.{range-four, rows-eq}
 use Rattle.code.specs.declared.Parameters.{Parameters}
 use Rattle.code.specs.declared.Tested.{Tested}
-use Rattle.code.specs.Accepted.{Rules, accepted, rising}
+use Rattle.code.specs.Accepted.{accepted}
 use Rattle.code.specs.Calls.{generatorRow, generators, rowsBy}
 use Rattle.code.specs.Lists.{range}
 use Rattle.code.specs.Parameters.{Accepted, strength, sheetRefusal, testedOf, Tests}
 use Rattle.code.specs.Steps.{gen-eq}
-use Rattle.tables.specs.Generators.{strengths}
 use Rattle.element.specs.declared.Field.{Field}
 use Rattle.element.specs.Fields.{fieldAt}
-use Rattle.levels.specs.Rows.{row, row-zero}
+use Rattle.generator_rows.specs.Rows.{row, row-zero}
+use Rattle.generator_rows.specs.Within.{q-is}
 
 module _ (p : Parameters) (A : Accepted p) where
-  rules : Rules p
-  rules = accepted p A
-
   pub v-pos : 1 ≤ p .v
-  v-pos = rules .v-low
+  v-pos = accepted p A .v-low
 
   -- ---- level by level, f being the field of q
   module _ (f : Field) (e : f ≡ fieldAt (p .q)) (a : ℕ) (h : a ≤ p .v) where
-    q-is : f .q ≡ p .q
-    q-is = ap (λ (f : Field). f .q) e
-
-    -- what generator_row requires
-    pub level-within : Known (f .q) × (1 ≤ strength p a) × (strength p a ≤ strengths (f .q))
-    level-within =
-        rw q-is (
-          rules .known,
-          omega (arith, rules .t-low, rising p rules 0 a zero-le h),
-          omega (arith, rules .high, rules .short, rising p rules a (p .v) h (Nat.le-refl (p .v))),
-        )
-
     pub level-row : (r : List ℕ) → r ≡ row (generator (fieldOf (f .q)) (strength p a)) → r ≡ generatorRow p a
-    level-row r g = g ∙ ap row (ap (λ (q : ℕ). generator (fieldOf q) (strength p a)) q-is ∙ sym (gen-eq p a)) ∙ simp (le-leb a (p .v) h)
+    level-row r g = g ∙ ap row (ap (λ (q : ℕ). generator (fieldOf q) (strength p a)) (q-is p A f e a h) ∙ sym (gen-eq p a)) ∙ simp (le-leb a (p .v) h)
 
   -- rows past v are 0
   pub row-past : (a : ℕ) → p .v < a → replicate 13 0 ≡ generatorRow p a

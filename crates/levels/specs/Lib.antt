@@ -1,4 +1,3 @@
 -- A sheet's levels: the rows of their generators, what the loops that make them know, and levels made ready for remainders.
-pub mod Rows
 pub mod Levels
 pub mod Ready

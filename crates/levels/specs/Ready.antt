@@ -21,7 +21,7 @@ use Rattle.code.specs.Calls.{generators}
 use Rattle.code.specs.Code.{gen, degree, remainder}
 use Rattle.code.specs.Parameters.{Accepted}
 use Rattle.layout.specs.Sizes.{Degrees, check-low}
-use Rattle.levels.specs.Rows.{Filled, filled-start, filled-next}
+use Rattle.generator_rows.specs.Rows.{Filled, filled-start, filled-next}
 
 pub record RowOf (p : Parameters) (a : ℕ) (g : List ℕ) : Type 0 where
   pub words : length g ≡ 13

@@ -4,49 +4,12 @@ ghost use Prim.Native.Nat.{_+_, _*_, _≤_};
 ghost use lib.ListN.{length};
 ghost use Rattle.code.specs.Calls.{generators};
 ghost use Rattle.code.specs.Parameters.{Accepted};
-ghost use Rattle.field.specs.Fields.{Known, fieldOf};
-ghost use Rattle.generator.specs.Generator.{generator};
-ghost use Rattle.tables.specs.Generators.{strengths};
-ghost use Rattle.levels.specs.Rows.{row, Row};
 ghost use Rattle.code.specs.Code.{degree};
 ghost use Rattle.layout.specs.Sizes.{Degrees};
 ghost use Rattle.levels.specs.Ready.{Prepared};
 use code::Parameters;
 use code::Tested;
 use element::Field;
-
-// Row k of a table with w words a row, and zeros above.
-fn row_of(table: &[u64], w: usize, k: usize) -> [u64; 13]
-    requires { ⌜ (w ≤ 13) × (w * k + w ≤ length (now table)) ⌝ }
-    ensures { λ r. ⌜ Row (now (table .entry)) (w * k) w r ⌝ }
-{
-    let mut g = [0u64; 13];
-    let s = w * k;
-    let mut j: usize = 0;
-    while j < w {
-        g[j] = table[s + j];
-        j += 1;
-    }
-    g
-}
-
-// The row of the generator of strength t.
-fn generator_row(f: Field, t: usize) -> [u64; 13]
-    requires { ⌜ Known (f .q) × (1 ≤ t) × (t ≤ strengths (f .q)) ⌝ }
-    ensures { λ r. ⌜ r ≡ row (generator (fieldOf (f .q)) t) ⌝ }
-{
-    let k = t - 1;
-    if f.q == 4 {
-        let g = tables::generators4();
-        return row_of(&g, 1, k);
-    }
-    if f.q == 8 {
-        let g = tables::generators8(k / 16);
-        return row_of(&g, 4, k % 16);
-    }
-    let g = tables::generators12(k / 16);
-    row_of(&g, 12, k % 16)
-}
 
 // The rows of an accepted sheet's generators, by level; rows past v are 0.
 pub fn rows(p: Parameters) -> [[u64; 13]; 4]
@@ -55,16 +18,16 @@ pub fn rows(p: Parameters) -> [[u64; 13]; 4]
 {
     let f = Field::of(p.q);
     let mut out = [[0u64; 13]; 4];
-    out[0] = generator_row(f, p.t0 as usize);
-    out[1] = generator_row(f, p.t1 as usize);
+    out[0] = generator_rows::generator_row(f, p.t0 as usize);
+    out[1] = generator_rows::generator_row(f, p.t1 as usize);
     if p.v < 2 {
         return out;
     }
-    out[2] = generator_row(f, p.t2 as usize);
+    out[2] = generator_rows::generator_row(f, p.t2 as usize);
     if p.v < 3 {
         return out;
     }
-    out[3] = generator_row(f, p.t3 as usize);
+    out[3] = generator_rows::generator_row(f, p.t3 as usize);
     out
 }
 

@@ -1,20 +1,27 @@
 -- The rules on the parameters, test by test: what a program's tests show of each definition.
 use mathlib.Core.Path.{_≡_, refl, sym, ap, _∙_}
-use mathlib.Core.Bool.{Bool, true, false, not, _&&_}
+use mathlib.Core.Bool.{Bool, true, false, not, _&&_, _||_}
 use Prim.Native.Nat.{ℕ, zero, suc, _-_, _*_, _^_, _≤_, _<_}
+use native.Mathlib.Nat as Nat
 use native.Mathlib.Omega.{arith}
 use lib.Dec.{T, eqb, leb, ltb, leb→le, ltb→lt}
-use borrow.Author.Tests.{lt-ltb, le-ltb, le-leb, lt-leb}
+use borrow.Author.Tests.{lt-ltb, le-ltb, le-leb, lt-leb, ne-eqb}
+use Rattle.field.specs.Fields.{fieldOf}
 use Rattle.field.specs.Irreducible.{both}
+use Rattle.generator.specs.Generator.{width}
 use Rattle.code.specs.declared.Parameters.{Parameters}
 use Rattle.code.specs.declared.Tested.{Tested}
 use Rattle.code.specs.Lists.{_when_, _orElse_}
+use Rattle.code.specs.Accepted.{accepted, width-below}
 use Rattle.code.specs.Answers.{tests}
-use Rattle.code.specs.Parameters.{len, strength, fieldKnown, shapeFits, placeFits}
-use Rattle.code.specs.Parameters.{strengthsFit, clashes, sheetRefusal, tested, testedOf, Tests}
+use Rattle.code.specs.Code.{degree}
+use Rattle.code.specs.Parameters.{Accepted, len, strength, fieldKnown, shapeFits, placeFits}
+use Rattle.code.specs.Parameters.{strengthsFit, clashes, shortFits, sheetRefusal, tested, testedOf, unshortened, Tests}
+use Rattle.code.specs.Shortened.{same-degree, unshortened-refusal}
 use Rattle.element.specs.declared.Field.{Field}
 use Rattle.element.specs.declared.Made.{Made}
-use Rattle.element.specs.Fields.{known, MadeOf, made-known, made-field, known-is, size-least, size-most}
+use Rattle.element.specs.Fields.{fieldAt, known, MadeOf, made-known, made-field, known-is, size-least, size-most}
+use Rattle.generator_rows.specs.Within.{level-degree}
 
 module _ (p : Parameters) where
   -- ---- the shape
@@ -82,6 +89,29 @@ module _ (p : Parameters) where
       let l : strength p (p .v) ≤ 64 = rw e at h in
       sym (strengths-eq ∙ simp (le-leb 1 (p .t0) a, lt-ltb (p .t0) (p .t1) b, ← c, ← d, le-leb (strength p (p .v)) 64 l) (rw (e, f) refl))
 
+  -- ---- the places left out
+  pub short-none : p .s ≡ 0 → true ≡ shortFits p
+  unfolding shortFits
+  short-none e = sym (ap (λ (s : ℕ). eqb s 0 || leb s (len p - degree p (p .v) - 1)) e)
+
+  -- the degree leaves a place
+  pub short-room : Accepted (unshortened p) → degree p (p .v) < len p
+  short-room A =
+      let R = accepted (unshortened p) A in
+      omega (arith, width-below (unshortened p) R (p .v) (Nat.le-refl (p .v)), same-degree p (p .v), size-least (p .q) (R .known))
+
+  pub short-order : (f : Field) → f ≡ fieldAt (p .q) → f .order ≡ len p
+  short-order f e = ap (λ (f : Field). f .order) e
+
+  pub short-degree : Accepted (unshortened p) → (f : Field) → f ≡ fieldAt (p .q) → (t w : ℕ) → t ≡ strength p (p .v)
+      → w ≡ width (fieldOf (f .q)) t → w ≡ degree p (p .v)
+  short-degree A f e t w h k =
+      k ∙ ap (λ (t : ℕ). width (fieldOf (f .q)) t) h ∙ level-degree (unshortened p) A f e (p .v) (Nat.le-refl (p .v)) ∙ same-degree p (p .v)
+
+  pub short-some : (n w : ℕ) → (p .s ≡ 0 → ⊥) → n ≡ len p → w ≡ degree p (p .v) → leb (p .s) (n - w - 1) ≡ shortFits p
+  unfolding shortFits
+  short-some n w h e f = rw (e, f) (simp (ne-eqb (p .s) 0 h))
+
 -- ---- what a passed test says
 holds : (b : Bool) → true ≡ b → T b
 holds true e = tt
@@ -129,10 +159,12 @@ field-facts q r f h e =
     let high = size-most q (known-is q k) in
     record { is-known = k; order = o; order-low = omega arith; order-high = omega arith }
 
--- ---- the whole test: the refusal by its four links
+-- ---- the whole test: the refusal by its five links
 module _ (p : Parameters) where
   tested-eq : tested p
-      ≡ testedOf p (1 when not (fieldKnown p) orElse 2 when not (shapeFits p) orElse 3 when not (strengthsFit p) orElse 4 when clashes p)
+      ≡ testedOf p
+      (1 when not (fieldKnown p) orElse 2 when not (shapeFits p) orElse 3 when not (strengthsFit p) orElse 4 when clashes p
+      orElse 14 when not (shortFits p))
   unfolding tested sheetRefusal
   tested-eq = refl
 
@@ -152,7 +184,16 @@ module _ (p : Parameters) where
   pub test-clash : known (p .q) ≡ true → true ≡ shapeFits p → true ≡ strengthsFit p → true ≡ clashes p → Tests p (Tested.Refused 4)
   test-clash k s t h = tests p (Tested.Refused 4) (sym (tested-eq ∙ simp (known-eq, k, ← s, ← t, ← h)))
 
-  pub test-accepted : known (p .q) ≡ true → true ≡ shapeFits p → true ≡ strengthsFit p → false ≡ clashes p
-      → Tests p (Tested.Accepted (p .q) (p .m) (p .v) (p .t0) (p .t1) (p .t2) (p .t3))
-  test-accepted k s t h =
-      tests p (Tested.Accepted (p .q) (p .m) (p .v) (p .t0) (p .t1) (p .t2) (p .t3)) (sym (tested-eq ∙ simp (known-eq, k, ← s, ← t, ← h)))
+  module _ (k : known (p .q) ≡ true) (s : true ≡ shapeFits p) (t : true ≡ strengthsFit p) (c : false ≡ clashes p) where
+    -- but for s the sheet is accepted
+    pub full-accepted : Accepted (unshortened p)
+    full-accepted = unshortened-refusal p ∙ simp (known-eq, k, ← s, ← t, ← c)
+
+    pub test-short : false ≡ shortFits p → Tests p (Tested.Refused 14)
+    test-short h = tests p (Tested.Refused 14) (sym (tested-eq ∙ simp (known-eq, k, ← s, ← t, ← c, ← h)))
+
+    pub test-accepted : true ≡ shortFits p
+        → Tests p (Tested.Accepted (p .q) (p .m) (p .v) (p .t0) (p .t1) (p .t2) (p .t3) (p .s))
+    test-accepted h =
+        tests p (Tested.Accepted (p .q) (p .m) (p .v) (p .t0) (p .t1) (p .t2) (p .t3) (p .s))
+        (sym (tested-eq ∙ simp (known-eq, k, ← s, ← t, ← c, ← h)))

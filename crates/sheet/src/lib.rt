@@ -3,7 +3,8 @@ ghost use mathlib.Core.Path.{_≡_};
 ghost use Prim.Native.Nat.{_<_, _≤_};
 ghost use Rattle.code.specs.Code.{N};
 ghost use Rattle.code.specs.Calls.{NestingMade};
-ghost use Rattle.code.specs.Parameters.{len, strength, shapeFits, placeFits, strengthsFit, clashes, Tests};
+ghost use Rattle.code.specs.Parameters.{Accepted, unshortened, len, strength, shapeFits, placeFits, strengthsFit, clashes, shortFits, Tests};
+ghost use Rattle.element.specs.Fields.{fieldAt};
 ghost use Rattle.sheet.specs.Clashes.{hits, anyFrom};
 use code::Nesting;
 use code::Parameters;
@@ -120,6 +121,19 @@ fn clashes_at(p: Parameters, n: u32) -> bool
     false
 }
 
+// s leaves every block a bit. The other rules hold; at s = 0 the degree w_v is not asked for.
+fn short_fits(p: Parameters, f: Field) -> bool
+    requires { ⌜ Accepted (unshortened p) × (f ≡ fieldAt (p .q)) ⌝ }
+    ensures { λ r. ⌜ r ≡ shortFits p ⌝ }
+{
+    if p.s == 0 {
+        return true;
+    }
+    let t = strength_at(p, p.v);
+    let w = generator_rows::degree(f, t as usize);
+    p.s <= f.order - w - 1
+}
+
 // The parameters, or the number of the first rule that they break.
 pub fn test(p: Parameters) -> Tested
     ensures { λ r. ⌜ Tests p r ⌝ }
@@ -137,6 +151,9 @@ pub fn test(p: Parameters) -> Tested
     if clashes_at(p, n) {
         return Tested::Refused(4);
     }
+    if !short_fits(p, f) {
+        return Tested::Refused(14);
+    }
     Tested::Accepted {
         q: p.q,
         m: p.m,
@@ -145,6 +162,7 @@ pub fn test(p: Parameters) -> Tested
         t1: p.t1,
         t2: p.t2,
         t3: p.t3,
+        s: p.s,
     }
 }
 

@@ -2,7 +2,8 @@ use Prim.Native.Nat.{zero-le}
 use native.Mathlib.Omega.{arith}
 use borrow.Author.Needs.{needs}
 use Rattle.code.specs.Accepted.{accepted}
-use Rattle.levels.specs.Levels.{v-pos, level-within, level-row, row-past, rows-are}
+use Rattle.generator_rows.specs.Within.{level-within}
+use Rattle.levels.specs.Levels.{v-pos, level-row, row-past, rows-are}
 use Rattle.levels.proofs.rows.Statement.{statement}
 use Rattle.levels.proofs.rows.Tie as tie
 

@@ -2,8 +2,8 @@ use borrow.Author.Needs.{needs}
 use borrow.Author.Tests.{not-true, not-false}
 use mathlib.Core.Path.{sym, _∙_}
 use native.Mathlib.Omega.{arith}
-use Rattle.element.specs.Fields.{made-none}
-use Rattle.sheet.specs.Rules.{shape-facts, strength-high, field-facts, test-field, test-shape, test-strengths, test-clash, test-accepted}
+use Rattle.element.specs.Fields.{made-field, made-none}
+use Rattle.sheet.specs.Rules.{shape-facts, strength-high, field-facts, test-field, test-shape, test-strengths, test-clash, test-short, test-accepted, full-accepted}
 use Rattle.sheet.proofs.test.Statement.{statement}
 use Rattle.sheet.proofs.test.Tie as tie
 
@@ -62,13 +62,35 @@ returns-4 c =
     test-clash _ (f .is-known) (sym (not-false _ (d .before .before .if1 .left)) ∙ d .before .before .before .shape-fits .ensures)
     (sym (not-false _ (d .if2 .left)) ∙ d .before .strengths-fit .ensures) (sym (c .if3 .taken) ∙ c .before .clashes-at .ensures)
 
-returns-5 : tie.Need-returns-5
-returns-5 c =
+short-fits-requires : tie.Need-short-fits-requires
+short-fits-requires c κs =
     let k = c .before .before .before .before .before .before .before in
     let f = field-facts _ _ (k .f .given .0 .0) (k .before .before .make .ensures) (k .f .given .1) in
-    let d = c .before .before in
+    let d = c .before .before in (
+      full-accepted _ (f .is-known) (sym (not-false _ (d .before .before .if1 .left)) ∙ d .before .before .before .shape-fits .ensures)
+          (sym (not-false _ (d .if2 .left)) ∙ d .before .strengths-fit .ensures) (sym (c .if3 .left) ∙ c .before .clashes-at .ensures),
+      made-field _ _ (k .before .before .make .ensures) _ (k .f .given .1),
+    )
+
+returns-5 : tie.Need-returns-5
+returns-5 c =
+    let e = c .before .before in
+    let k = e .before .before .before .before .before .before .before in
+    let f = field-facts _ _ (k .f .given .0 .0) (k .before .before .make .ensures) (k .f .given .1) in
+    let d = e .before .before in
+    test-short _ (f .is-known) (sym (not-false _ (d .before .before .if1 .left)) ∙ d .before .before .before .shape-fits .ensures)
+    (sym (not-false _ (d .if2 .left)) ∙ d .before .strengths-fit .ensures) (sym (e .if3 .left) ∙ e .before .clashes-at .ensures)
+    (sym (not-true _ (c .if4 .taken)) ∙ c .before .short-fits .ensures)
+
+returns-6 : tie.Need-returns-6
+returns-6 c =
+    let e = c .before .before in
+    let k = e .before .before .before .before .before .before .before in
+    let f = field-facts _ _ (k .f .given .0 .0) (k .before .before .make .ensures) (k .f .given .1) in
+    let d = e .before .before in
     test-accepted _ (f .is-known) (sym (not-false _ (d .before .before .if1 .left)) ∙ d .before .before .before .shape-fits .ensures)
-    (sym (not-false _ (d .if2 .left)) ∙ d .before .strengths-fit .ensures) (sym (c .if3 .left) ∙ c .before .clashes-at .ensures)
+    (sym (not-false _ (d .if2 .left)) ∙ d .before .strengths-fit .ensures) (sym (e .if3 .left) ∙ e .before .clashes-at .ensures)
+    (sym (not-false _ (c .if4 .left)) ∙ c .before .short-fits .ensures)
 
 pub test-spec : {M : Type 1} → statement M
 test-spec =
@@ -84,4 +106,6 @@ test-spec =
     returns-3
     clashes-at-requires
     returns-4
-    returns-5)
+    short-fits-requires
+    returns-5
+    returns-6)

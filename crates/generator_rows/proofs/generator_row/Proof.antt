@@ -4,9 +4,9 @@ use lib.Dec.{lit≤}
 use borrow.Author.Needs.{needs}
 use Rattle.tables.specs.Generators.{strengths}
 use Rattle.element.specs.Fields.{known-last}
-use Rattle.levels.specs.Rows.{row-is}
-use Rattle.levels.proofs.generator_row.Statement.{statement}
-use Rattle.levels.proofs.generator_row.Tie as tie
+use Rattle.generator_rows.specs.Rows.{row-is}
+use Rattle.generator_rows.proofs.generator_row.Statement.{statement}
+use Rattle.generator_rows.proofs.generator_row.Tie as tie
 
 sub-k : tie.Need-sub-k
 sub-k c = search needs

@@ -2,9 +2,9 @@ use mathlib.Core.Path.{_≡_}
 use Prim.Native.Nat.{_≤_, _-_}
 use native.Mathlib.Omega.{arith}
 use borrow.Author.Needs.{needs}
-use Rattle.levels.specs.Rows.{Row, row-start, row-next}
-use Rattle.levels.proofs.row_of.Statement.{statement}
-use Rattle.levels.proofs.row_of.Tie as tie
+use Rattle.generator_rows.specs.Rows.{Row, row-start, row-next}
+use Rattle.generator_rows.proofs.row_of.Statement.{statement}
+use Rattle.generator_rows.proofs.row_of.Tie as tie
 
 abbrev Inv-loop : tie.InvT-loop
 Inv-loop table w k g₀ s j₀ g j = Row table s j g × (j ≤ w)

@@ -1,0 +1,4 @@
+-- Rows of generators, and their degrees.
+pub mod Rows
+pub mod Degree
+pub mod Within
