@@ -183,7 +183,7 @@ pub fn raise(a: &mut [u8], b: &[u8], s: usize)
 }
 
 // The bytes from `from` on are set to 0.
-fn clear_bytes(acc: &mut [u8], from: usize)
+pub fn clear_bytes(acc: &mut [u8], from: usize)
     requires { ⌜ from ≤ length (now acc) ⌝ }
     ensures { λ x. ⌜ value 8 (now (acc .exit)) ≡ value 8 (take from (now (acc .entry))) ⌝ }
 {

@@ -1,4 +1,4 @@
--- Pages and blocks by their parts: sub-word i stands from byte i × 2^q / 8 on, block i from byte blockOffset p i on.
+-- Pages and blocks by their parts: sub-word i stands from byte i × ((n - s + 7) / 8) on, block i from byte blockOffset p i on.
 --   Summed p i at j    the sizes of the first j blocks of i make at
 use mathlib.Core.Path.{_≡_, refl, sym, ap, ap₂, _∙_}
 use mathlib.Core.List.{List}

@@ -13,7 +13,7 @@ use Rattle.generator.specs.Exponents.{exponents, exponents-mem}
 use Rattle.generator.specs.Generator.{width, width-eq}
 use Rattle.generator.specs.Distinct.{Mem}
 use Rattle.code.specs.declared.Parameters.{Parameters}
-use Rattle.code.specs.Accepted.{Rules, accepted, rising, width-below}
+use Rattle.code.specs.Accepted.{Rules, accepted, rising, stored-le, stored-room}
 use Rattle.code.specs.Code.{checkBits, degree, level}
 use Rattle.code.specs.Layout.{dataBits, pageBytes}
 use Rattle.code.specs.Parameters.{Accepted, len, nestedBytes, stored, strength, subWordBytes}
@@ -48,10 +48,11 @@ module _ (p : Parameters) (A : Accepted p) where
   q-fits = by-known (λ q. q < 64) (lit< tt) (lit< tt) (lit< tt) (p .q) (R .known)
 
   pub stored-low : 1 ≤ stored p
-  stored-low = by-known (λ q. 1 ≤ 2 ^ q - 1) (lit≤ tt) (lit≤ tt) (lit≤ tt) (p .q) (R .known)
+  stored-low = omega (arith, stored-room p R 0 zero-le)
 
-  pub stored-high : stored p < 4096
-  stored-high = by-known (λ q. 2 ^ q - 1 < 4096) (lit< tt) (lit< tt) (lit< tt) (p .q) (R .known)
+  -- s is below n
+  pub short-below : p .s < len p
+  short-below = omega (arith, stored-low)
 
   pub length-high : len p < 4096
   length-high = by-known (λ q. 2 ^ q - 1 < 4096) (lit< tt) (lit< tt) (lit< tt) (p .q) (R .known)
@@ -59,19 +60,21 @@ module _ (p : Parameters) (A : Accepted p) where
   pub length-low : 15 ≤ len p
   length-low = by-known (λ q. 15 ≤ 2 ^ q - 1) (lit≤ tt) (lit≤ tt) (lit≤ tt) (p .q) (R .known)
 
-  -- a sub-word's bytes have one bit more than the cyclic length
-  pub bits-all : 8 * subWordBytes p ≡ len p + 1
+  pub stored-high : stored p < 4096
+  stored-high = Nat.lt-of-le-of-lt (stored-le p R) length-high
+
+  -- a nested word's bytes have one bit more than the cyclic length, and a sub-word has no more bytes
+  pub bits-all : 8 * nestedBytes p ≡ len p + 1
   bits-all = by-known (λ q. 8 * (2 ^ q / 8) ≡ 2 ^ q - 1 + 1) refl refl refl (p .q) (R .known)
 
-  -- a sub-word takes the bytes of its stored coefficients
-  pub stored-bytes : (stored p + 7) / 8 ≡ subWordBytes p
-  stored-bytes = by-known (λ q. (2 ^ q - 1 + 7) / 8 ≡ 2 ^ q / 8) refl refl refl (p .q) (R .known)
-
-  pub word-high : subWordBytes p ≤ 512
-  word-high = by-known (λ q. 2 ^ q / 8 ≤ 512) (lit≤ tt) (lit≤ tt) (lit≤ tt) (p .q) (R .known)
+  pub word-nested : subWordBytes p ≤ nestedBytes p
+  word-nested = omega (arith, bits-all)
 
   pub nested-high : nestedBytes p ≤ 512
   nested-high = by-known (λ q. 2 ^ q / 8 ≤ 512) (lit≤ tt) (lit≤ tt) (lit≤ tt) (p .q) (R .known)
+
+  pub word-high : subWordBytes p ≤ 512
+  word-high = Nat.le-trans word-nested nested-high
 
   pub page-high : pageBytes p ≤ 4096
   page-high = Nat.mul-le-mul {n₂ = 8} {m₂ = 512} (R .m-high) word-high
@@ -88,7 +91,7 @@ module _ (p : Parameters) (A : Accepted p) where
 
   -- no block is empty
   pub check-below : (i : ℕ) → checkBits p i < stored p
-  check-below i = omega (arith, width-below p R (level p i) (level-low p i), stored-low)
+  check-below i = stored-room p R (level p i) (level-low p i)
 
   pub data-low : (i : ℕ) → 1 ≤ dataBits p i
   data-low i = omega (arith, check-below i)

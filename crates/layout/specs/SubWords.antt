@@ -1,21 +1,21 @@
 -- Sub-words as parts of a page, and the numbers they are.
-use mathlib.Core.Path.{_≡_, sym, ap, _∙_}
+use mathlib.Core.Path.{_≡_, ap, _∙_}
 use mathlib.Core.List.{List}
 use Prim.Native.Nat.{ℕ, _+_, _-_, _*_, _^_, _≤_, _<_}
 use native.Mathlib.Nat as Nat
 use native.Mathlib.Omega.{arith}
-use lib.Dec.{T, lt→ltb, ltb→lt}
-use lib.ListN.{length, getD, take, drop}
+use lib.Dec.{T}
+use lib.ListN.{length, getD, take, drop, length-drop}
 use Rattle.polynomial.specs.Digits.{value}
 use Rattle.polynomial.specs.Sums.{all-at, at-all}
 use Rattle.code.specs.declared.Parameters.{Parameters}
 use Rattle.code.specs.Accepted.{accepted}
 use Rattle.code.specs.Layout.{IsPage, pageBytes, pageClear, wordsOf}
 use Rattle.code.specs.Pages.{page-words}
-use Rattle.code.specs.Parameters.{Accepted, len, stored, subWordBytes}
+use Rattle.code.specs.Parameters.{Accepted, stored, subWordBytes}
+use Rattle.kernels.specs.Value.{bounded-drop, take-lt}
 use Rattle.layout.specs.Parts.{word-at, word-room}
-use Rattle.layout.specs.Runs.{run-test}
-use Rattle.layout.specs.Sizes.{bits-all, page-high}
+use Rattle.layout.specs.Sizes.{page-high}
 
 -- a page's bytes
 pub is-page : (p : Parameters) (x : List ℕ) → ((i : ℕ) → getD x i 0 < 2 ^ 8) → length x ≡ pageBytes p → T (pageClear p x) → IsPage p x
@@ -27,18 +27,15 @@ module _ (p : Parameters) (A : Accepted p) where
       → value 8 (take (subWordBytes p) (drop (i * subWordBytes p) x)) < 2 ^ stored p
   part-is x h i l =
       let w = page-words p (accepted p A) x h in
-      rw (word-at p x i l) at (all-at (λ c. c < 2 ^ len p) (wordsOf p x) (w .below) i (omega (arith, w .many)))
+      rw (word-at p x i l) at (all-at (λ c. c < 2 ^ stored p) (wordsOf p x) (w .below) i (omega (arith, w .many)))
 
   -- sub-word i of any bytes, as a number
   pub word-lt : (x : List ℕ) → ((i : ℕ) → getD x i 0 < 2 ^ 8) → length x ≡ pageBytes p → (i : ℕ) → i < p .m
-      → getD (wordsOf p x) i 0 < 2 ^ (len p + 1)
+      → getD (wordsOf p x) i 0 < 2 ^ (8 * subWordBytes p)
   word-lt x b e i h =
       let k = subWordBytes p in
-      let a = bits-all p A in
-      let s : 8 - (8 * k - (len p + 1)) ≡ 8 = omega arith in
-      let room : i * k + k ≤ length x = rw e (word-room p i h) in
-      let test = run-test x (i * k) k (len p + 1) (2 ^ 8) b (omega arith) (omega arith) room (ap (λ (n : ℕ). 2 ^ n) (sym s)) in
-      rw (word-at p x i h) (ltb→lt _ (2 ^ (len p + 1)) (rw test at (lt→ltb _ (2 ^ 8) (b (i * k + k - 1)))))
+      rw (word-at p x i h)
+      (take-lt 8 (drop (i * k) x) (bounded-drop 8 x b (i * k)) k (rw (length-drop (i * k) x, e) (omega (arith, word-room p i h))))
 
   -- sub-word i of k bytes lies within the page, which is small
   pub part-room : (i k : ℕ) → k ≡ subWordBytes p → i < p .m → i * k + k ≤ pageBytes p

@@ -20,7 +20,7 @@ use Rattle.code.specs.Parameters.{Accepted, stored, subWordBytes}
 use Rattle.code.specs.Placement.{bits-at}
 use Rattle.layout.specs.Parts.{block-at, block-room, offset-next, offset-zero, word-at, word-room}
 use Rattle.layout.specs.Runs.{runPasses, testOf}
-use Rattle.layout.specs.Sizes.{data-high, data-low, stored-high, stored-low, stored-bytes}
+use Rattle.layout.specs.Sizes.{data-high, data-low, stored-high, stored-low}
 
 abbrev pub passes : (ℕ → ℕ → Bool) → List ℕ → List ℕ → ℕ → Bool
 passes P bs xs i = P (getD bs i 0) (getD xs i 0)
@@ -60,7 +60,7 @@ WordsPassed P p x i = Passed P (wordBits p) (wordsOf p x) i
 
 pub word-there : (p : Parameters) (x : List ℕ) → Accepted p → (i n b : ℕ) → i < p .m → n ≡ stored p → b ≡ subWordBytes p → length x ≡ pageBytes p
     → (1 ≤ n) × (n < 4096) × (b ≡ (n + 7) / 8) × (i * b + b ≤ length x)
-word-there p x A i n b h e f l = rw (e, f, l) (stored-low p A, stored-high p A, sym (stored-bytes p A), word-room p i h)
+word-there p x A i n b h e f l = rw (e, f, l) (stored-low p A, stored-high p A, refl, word-room p i h)
 
 module _ (P : ℕ → ℕ → Bool) (p : Parameters) (x : List ℕ) where
   length-word-bits : length (wordBits p) ≡ p .m

@@ -13,7 +13,7 @@ ghost use Rattle.layout.specs.Tested.{wordBits};
 use code::Parameters;
 use element::Field;
 
-// ---- lengths. Some are one number today and need not stay so: each has a name of its own.
+// ---- lengths
 
 // The cyclic length n: the places of a nested word.
 pub fn length_of(p: Parameters) -> usize
@@ -24,13 +24,12 @@ pub fn length_of(p: Parameters) -> usize
     f.order as usize
 }
 
-// The coefficients of a sub-word that are stored.
+// The coefficients of a sub-word that are stored: all but the top s.
 pub fn stored_of(p: Parameters) -> usize
     requires { ⌜ Accepted p ⌝ }
     ensures { λ r. ⌜ r ≡ stored p ⌝ }
 {
-    let f = Field::of(p.q);
-    f.order as usize
+    length_of(p) - p.s as usize
 }
 
 // The bytes of a sub-word in a page.
@@ -38,8 +37,7 @@ pub fn sub_word_bytes(p: Parameters) -> usize
     requires { ⌜ Accepted p ⌝ }
     ensures { λ r. ⌜ r ≡ subWordBytes p ⌝ }
 {
-    let f = Field::of(p.q);
-    f.size as usize / 8
+    (stored_of(p) + 7) / 8
 }
 
 // The bytes of a nested word.
@@ -56,8 +54,7 @@ pub fn full_count(p: Parameters) -> u64
     requires { ⌜ Accepted p ⌝ }
     ensures { λ r. ⌜ r ≡ full p ⌝ }
 {
-    let f = Field::of(p.q);
-    f.order as u64
+    stored_of(p) as u64
 }
 
 // The bytes of a page.

@@ -1,18 +1,13 @@
 use borrow.Author.Needs.{needs}
-use mathlib.Core.Path.{ap}
-use Rattle.element.specs.declared.Field.{Field}
-use Rattle.code.specs.Accepted.{accepted}
+use native.Mathlib.Omega.{arith}
 use Rattle.layout.proofs.full_count.Statement.{statement}
 use Rattle.layout.proofs.full_count.Tie as tie
 
-of-requires : tie.Need-of-requires
-of-requires c κs = accepted _ (c .pre) .known
-
-cast-result : tie.Need-cast-result
-cast-result c = search needs
+stored-of-requires : tie.Need-stored-of-requires
+stored-of-requires c κs = search needs
 
 returns : tie.Need-returns
-returns c = ap (λ (f : Field). f .order) (c .before .of .ensures)
+returns c = omega arith
 
 pub full-count-spec : {M : Type 1} → statement M
-full-count-spec = tie.close (tie.spec of-requires cast-result returns)
+full-count-spec = tie.close (tie.spec stored-of-requires returns)

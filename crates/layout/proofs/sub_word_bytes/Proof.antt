@@ -1,19 +1,17 @@
 use borrow.Author.Needs.{needs}
-use mathlib.Core.Path.{ap}
-use Prim.Native.Nat.{_/_}
-use Rattle.element.specs.declared.Field.{Field}
-use Rattle.code.specs.Accepted.{accepted}
+use native.Mathlib.Omega.{arith}
+use Rattle.layout.specs.Sizes.{stored-high}
 use Rattle.layout.proofs.sub_word_bytes.Statement.{statement}
 use Rattle.layout.proofs.sub_word_bytes.Tie as tie
 
-of-requires : tie.Need-of-requires
-of-requires c κs = accepted _ (c .pre) .known
+stored-of-requires : tie.Need-stored-of-requires
+stored-of-requires c κs = search needs
 
-cast-result : tie.Need-cast-result
-cast-result c = search needs
+add-result : tie.Need-add-result
+add-result c = omega (arith, stored-high _ (c .before .pre))
 
 returns : tie.Need-returns
-returns c = ap (λ (f : Field). f .size / 8) (c .before .of .ensures)
+returns c = omega arith
 
 pub sub-word-bytes-spec : {M : Type 1} → statement M
-sub-word-bytes-spec = tie.close (tie.spec of-requires cast-result returns)
+sub-word-bytes-spec = tie.close (tie.spec stored-of-requires add-result returns)

@@ -1,115 +1,87 @@
--- The loop: the first i sub-words are added up.
 use borrow.Author.Needs.{needs}
-use mathlib.Core.Path.{_≡_, _∙_}
+use mathlib.Core.Path.{_≡_, sym, ap, _∙_}
 use native.Mathlib.Omega.{arith}
-use Prim.Native.Nat.{_+_, _-_}
+use Prim.Native.Nat.{ℕ, _+_, _^_, _≤_}
 use lib.ListN.{length}
-use Rattle.polynomial.specs.Digits.{value}
-use Rattle.code.specs.Accepted.{accepted}
-use Rattle.code.specs.Parameters.{nestedBytes}
-use Rattle.layout.specs.Sizes.{nested-high}
-use Rattle.nested.specs.Turned.{Turned, place-high, turned-first, turned-turn, turned-fold, turned-done}
+use lib.Seq.{length-take-le}
+use Rattle.polynomial.specs.Division.{rem}
+use Rattle.layout.specs.Sizes.{word-high, word-nested}
+use Rattle.nested.specs.Turned.{front-length, front-value, summed-fold, summed-folded}
 use Rattle.nested.proofs.nested_into.Statement.{statement}
 use Rattle.nested.proofs.nested_into.Tie as tie
 
-abbrev Inv-loop : tie.InvT-loop
-Inv-loop acc₀ p page l n i₀ acc i = (length acc ≡ nestedBytes p + 8) × Turned p l page (value 8 acc) i
+-- the sum has room
+room : (c : tie.After-sub-word-bytes) → (c .sub-word-bytes .result) + 8 ≤ length (c .before .before .before .before .args .acc .now)
+room c =
+    let s = c .before .before .before .before in
+    omega (arith, c .sub-word-bytes .ensures, s .pre .3, word-nested _ (s .pre .0))
 
-abbrev μ-loop : tie.MeasureT-loop
-μ-loop acc₀ p page l n i₀ acc i = p .m - i
-
-length-of-requires : tie.Need-length-of-requires Inv-loop μ-loop
+length-of-requires : tie.Need-length-of-requires
 length-of-requires c κs = search needs
 
-sub-word-requires : tie.Need-sub-word-requires Inv-loop μ-loop
-sub-word-requires c κs =
-    let s = c .before .before .before in
-    (s .pre .0, s .pre .1, omega (arith, accepted _ (s .pre .0) .m-low))
+sub-word-bytes-requires : tie.Need-sub-word-bytes-requires
+sub-word-bytes-requires c κs = search needs
 
-copy-up-requires : tie.Need-copy-up-requires Inv-loop μ-loop
-copy-up-requires c κs =
-    let s = c .before .before .before .before .before in
-    omega (arith, s .pre .3, nested-high _ (s .pre .0))
+add-k : tie.Need-add-k
+add-k c = let s = c .before .before .before .before in omega (arith, c .sub-word-bytes .ensures, word-high _ (s .pre .0))
 
-loop-holds : tie.Need-loop-holds Inv-loop μ-loop
-loop-holds c =
-    let k = c .before .before in
-    let t = k .before .before in
-    let s = t .before .before .before .before in
-    (k .copy-up .kept .0 ∙ s .pre .3, turned-first _ (s .pre .0) _ _ _ _ _ (s .pre .2) (λ i. t .before .before .shared-slice-known .given i .fits) (s .pre .1) (t .sub-word .ensures) (s .pre .3) (k .copy-up .ensures))
+slice-relend-prefix-sum-into : tie.Need-slice-relend-prefix-sum-into
+slice-relend-prefix-sum-into c = room c
 
-cast-if1 : tie.Need-cast-if1 Inv-loop μ-loop
-cast-if1 c = search needs
+slice-aggregate-sum-into : tie.Need-slice-aggregate-sum-into
+slice-aggregate-sum-into c = sym (length-take-le _ _ (room (c .before)))
 
-sub-word-requires-2 : tie.Need-sub-word-requires-2 Inv-loop μ-loop
-sub-word-requires-2 c κs = search needs
+sum-into-requires : tie.Need-sum-into-requires
+sum-into-requires c κs =
+    let b = c .before in
+    let s = b .before .before .before .before in
+    (s .pre .0, s .pre .1, s .pre .2, length-take-le _ _ (room b) ∙ ap (λ (k : ℕ). k + 8) (b .sub-word-bytes .ensures))
 
-mul-add-up : tie.Need-mul-add-up Inv-loop μ-loop
-mul-add-up c =
-    let l = c .before .before .before .before in
-    let s = l .before .before .before .before .before .before .before .before .before in
-    omega (arith, place-high _ (s .pre .0) (s .args .l) (l .loop .i) (s .pre .2) (c .before .before .if1 .taken))
+clear-bytes-requires : tie.Need-clear-bytes-requires
+clear-bytes-requires c κs =
+    let t = c .before .before .before in
+    let b = t .before .before in
+    rw (front-length (t .sum-into .last .0) _ _ (t .sum-into .kept .0) (room b)) (room b)
 
-add-up-requires : tie.Need-add-up-requires Inv-loop μ-loop
-add-up-requires c κs =
-    let l = c .before .before .before .before in
-    let s = l .before .before .before .before .before .before .before .before .before in
-    omega (arith, l .loop .inv .0, nested-high _ (s .pre .0))
-
-add-i : tie.Need-add-i Inv-loop μ-loop
-add-i c = search needs
-
-loop-less : tie.Need-loop-less Inv-loop μ-loop
-loop-less c = search needs
-
-loop-again : tie.Need-loop-again Inv-loop μ-loop
-loop-again c =
-    let k = c .before .before in
-    let x = k .before .before in
-    let l = x .before .before .before in
-    let o = l .before .before .before .before .before .before in
-    let s = o .before .before .before in
-    (k .add-up .kept .0 ∙ l .loop .inv .0, turned-turn _ (s .pre .0) _ _ (s .pre .2) (λ i. o .before .shared-slice-known .given i .fits) (s .pre .1) _ (l .loop .i) _ (x .before .if1 .taken) (x .sub-word2 .ensures) (l .loop .inv .0) _ _ (k .add-up .ensures) (l .loop .inv .1))
-
-fold-cyclic-requires : tie.Need-fold-cyclic-requires Inv-loop μ-loop
+fold-cyclic-requires : tie.Need-fold-cyclic-requires
 fold-cyclic-requires c κs =
-    let l = c .before .before .before in
-    let o = l .before .before .before .before .before .before in
-    let s = o .before .before .before in
-    turned-fold _ (s .pre .0) _ _ (l .loop .acc) _ (l .loop .i) (o .length-of .ensures) (l .loop .inv .0) (l .loop .inv .1)
+    let k = c .before .before .before in
+    let t = k .before .before .before .before in
+    let b = t .before .before in
+    let s = b .before .before .before .before in
+    summed-fold _ (s .pre .0) _ _ (k .clear-bytes .last .0) _ _ (b .before .length-of .ensures)
+    (k .clear-bytes .kept .0 ∙ front-length (t .sum-into .last .0) _ _ (t .sum-into .kept .0) (room b) ∙ s .pre .3)
+    (k .clear-bytes .ensures ∙ front-value (t .sum-into .last .0) _ _ (t .sum-into .kept .0) (room b)) (t .sum-into .ensures)
 
-same-length : tie.Need-same-length Inv-loop μ-loop
+same-length : tie.Need-same-length
 same-length c =
-    let k = c .before .before in
-    let l = k .before .before .before .before in
-    let s = l .before .before .before .before .before .before .before .before .before in
-    omega (arith, k .fold-cyclic .kept .0, l .loop .inv .0, s .pre .3)
+    let f = c .before .before in
+    let k = f .before .before .before .before in
+    let t = k .before .before .before .before in
+    f .fold-cyclic .kept .0 ∙ k .clear-bytes .kept .0 ∙ front-length (t .sum-into .last .0) _ _ (t .sum-into .kept .0) (room (t .before .before))
 
-returns : tie.Need-returns Inv-loop μ-loop
+returns : tie.Need-returns
 returns c =
-    let k = c .before .before in
-    let l = k .before .before .before .before in
-    let o = l .before .before .before .before .before .before in
-    let s = o .before .before .before in
-    turned-done _ (s .pre .0) _ _ _ _ _ (l .loop .i) (o .length-of .ensures) (k .before .before .if1 .left) (k .fold-cyclic .ensures) (l .loop .inv .1)
+    let f = c .before .before in
+    let k = f .before .before .before .before in
+    let t = k .before .before .before .before in
+    let b = t .before .before in
+    let s = b .before .before .before .before in
+    summed-folded _ (s .pre .0) _ _ _ _ _ (b .before .length-of .ensures)
+    (f .fold-cyclic .ensures ∙ ap (rem (2 ^ b .before .length-of .result + 1) (b .before .length-of .result)) (k .clear-bytes .ensures ∙ front-value (t .sum-into .last .0) _ _ (t .sum-into .kept .0) (room b)))
+    (t .sum-into .ensures)
 
 pub nested-into-spec : {M : Type 1} → statement M
 nested-into-spec =
     tie.close
     (tie.spec
-    Inv-loop
-    μ-loop
     length-of-requires
-    sub-word-requires
-    copy-up-requires
-    loop-holds
-    cast-if1
-    sub-word-requires-2
-    mul-add-up
-    add-up-requires
-    add-i
-    loop-less
-    loop-again
+    sub-word-bytes-requires
+    add-k
+    slice-relend-prefix-sum-into
+    slice-aggregate-sum-into
+    sum-into-requires
+    clear-bytes-requires
     fold-cyclic-requires
     same-length
     returns)
