@@ -44,9 +44,6 @@ module _ (p : Parameters) (A : Accepted p) where
   R : Rules p
   R = accepted p A
 
-  pub q-fits : p .q < 64
-  q-fits = by-known (λ q. q < 64) (lit< tt) (lit< tt) (lit< tt) (p .q) (R .known)
-
   pub stored-low : 1 ≤ stored p
   stored-low = omega (arith, stored-room p R 0 zero-le)
 

@@ -5,9 +5,9 @@ use mathlib.Core.List.{List}
 use Prim.Native.Nat.{ℕ, suc, _+_, _-_, _*_, _/_, _%_, _^_, _≤_, _<_, zero-le}
 use native.Mathlib.Nat as Nat
 use native.Mathlib.Omega.{arith}
-use lib.Dec.{eqb, leb, ltb}
+use lib.Dec.{eqb, leb, ltb, lit≤}
 use lib.ListN.{length, getD, take, drop, length-drop}
-use lib.Pow.{pow-pos, pow-lt, pow-mono, shr-shr, shr-mono, high}
+use lib.Pow.{pow-pos, pow-mono, shr-shr, shr-mono, high}
 use lib.Seq.{take-all}
 use borrow.Author.Tests.{lt-ltb, le-ltb, le-leb, lt-leb, eq-eqb, ne-eqb, ltb-true, ltb-false, leb-true, eqb-true, not-true}
 use Rattle.polynomial.specs.Digits.{value}
@@ -16,7 +16,7 @@ use Rattle.kernels.specs.Value.{Bounded, value-lt, drop-shr, digit-at}
 use Rattle.code.specs.declared.Parameters.{Parameters}
 use Rattle.code.specs.Parameters.{Accepted, full}
 use Rattle.code.specs.Refusals.{badWidth}
-use Rattle.layout.specs.Sizes.{q-fits}
+use Rattle.layout.specs.Sizes.{stored-high}
 
 -- two tests that pass together are one
 same : (a b : Bool) → (a ≡ true → b ≡ true) → (b ≡ true → a ≡ true) → a ≡ b
@@ -49,7 +49,7 @@ below-pow u L h =
 -- ---- the count
 module _ (p : Parameters) (A : Accepted p) where
   pub full-lt : full p < 2 ^ 64
-  full-lt = Nat.lt-of-le-of-lt (Nat.sub-le (2 ^ p .q) 1) (pow-lt (q-fits p A))
+  full-lt = Nat.lt-of-lt-of-le (stored-high p A) (lit≤ tt)
 
 pub room-none : (k L n : ℕ) → n < k → false ≡ leb (k + L) n
 room-none k L n h = sym (lt-leb (k + L) n (omega arith))

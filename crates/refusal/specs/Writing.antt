@@ -1,22 +1,29 @@
 -- Write's chain: what its tests show, and what its end shows. The lent page has k bytes.
 --   Writable p L b k    a width, blocks of exact length without a stray bit, a page of exact length
 use mathlib.Core.Path.{_≡_, refl, sym, ap, _∙_}
-use mathlib.Core.Bool.{Bool, true, false, not}
+use mathlib.Core.Bool.{Bool, true, false, not, _&&_}
 use mathlib.Core.List.{List}
 use Prim.Native.Nat.{ℕ, _^_, _<_}
-use lib.Dec.{T}
+use lib.Dec.{T, eqb}
 use lib.ListN.{length, getD}
 use borrow.Author.Tests.{eq-eqb, ne-eqb, not-true, not-false}
 use Rattle.polynomial.specs.Sums.{at-all}
 use Rattle.code.specs.declared.Parameters.{Parameters}
 use Rattle.code.specs.Accepted as Rules
 use Rattle.code.specs.Blank.{page-full}
-use Rattle.code.specs.Chains.{exact-of, first-of, none, or-none, or-second, or-zero, when-none}
+use Rattle.code.specs.Chains.{exact-of, first-of, or-none, or-second, unless, when-none}
 use Rattle.code.specs.Layout.{Fits, blank, blocksClear, blocksFull, dataBytes, pageBytes, pageOf}
 use Rattle.code.specs.Lists.{_when_, _orElse_}
 use Rattle.code.specs.Parameters.{Accepted, sheetRefusal}
 use Rattle.code.specs.Refusals.{badWidth, notExact, writeRefusal}
 use Rattle.code.specs.Refused.{Width, width-of, write-links}
+
+-- ---- a blank page is made at s = 0 only
+pub ones-short : (s : ℕ) (b : Bool) → (s ≡ 0 → ⊥) → false ≡ (eqb s 0 && b)
+ones-short s b h = sym (simp (ne-eqb s 0 h))
+
+pub ones-whole : (s : ℕ) (b c : Bool) → s ≡ 0 → c ≡ b → c ≡ (eqb s 0 && b)
+ones-whole s b c e f = f ∙ rw e refl
 
 pub record Writable (p : Parameters) (L : ℕ) (b : List ℕ) (k : ℕ) : Type 0 where
   pub width : Width L
@@ -71,20 +78,20 @@ module _ (p : Parameters) (L : ℕ) (b : List ℕ) (k : ℕ) where
           pub write-stray : false ≡ blocksClear p b → 8 ≡ writeRefusal p L b k
           write-stray h = sym (left ∙ ap (λ (c : Bool). (8 when not c) orElse made-13) (sym h))
 
-          -- blocks without a stray bit fit: their page would be blank exactly when all their data bits are 1
+          -- blocks without a stray bit fit: their page would be blank exactly when s is 0 and all their data bits are 1
           module _ (y : (i : ℕ) → getD b i 0 < 2 ^ 8) (h : true ≡ blocksClear p b) where
             fits : Fits p b
             fits = record { bytes = at-all (λ d. d < 256) b (λ i l. y i); exact = f; clear = rw (← h) tt }
 
-            by-data : writeRefusal p L b k ≡ (13 when blocksFull p b)
+            by-data : writeRefusal p L b k ≡ (13 when (eqb (p .s) 0 && blocksFull p b))
             by-data =
                 left ∙ ap (λ (c : Bool). (8 when not c) orElse made-13) (sym h)
                 ∙ ap (λ (c : Bool). 13 when c) (page-full p (Rules.accepted p A) b fits)
 
-            pub write-full : true ≡ blocksFull p b → 13 ≡ writeRefusal p L b k
+            pub write-full : true ≡ (eqb (p .s) 0 && blocksFull p b) → 13 ≡ writeRefusal p L b k
             write-full o = sym (by-data ∙ ap (λ (c : Bool). 13 when c) (sym o))
 
-            pub write-else : false ≡ blocksFull p b → 0 ≡ writeRefusal p L b k
+            pub write-else : false ≡ (eqb (p .s) 0 && blocksFull p b) → 0 ≡ writeRefusal p L b k
             write-else o = sym (by-data ∙ ap (λ (c : Bool). 13 when c) (sym o))
 
     -- a chain that ends in 0
@@ -98,5 +105,5 @@ module _ (p : Parameters) (L : ℕ) (b : List ℕ) (k : ℕ) where
           width = width-of L (rw (when-none 4 (badWidth L) (s .0)) refl);
           blocks = exact-of 5 (length b) (dataBytes p) (t .0);
           page = exact-of 6 k (pageBytes p) (u .0);
-          clear = none 7 (blocksClear p b) 0 (or-zero stray-8 0 (o .0) refl) .0;
+          clear = unless 7 (blocksClear p b) (o .0);
         }

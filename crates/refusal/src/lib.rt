@@ -1,9 +1,11 @@
 // The refusal of every call: the number of the first condition that it meets, 0 for none. Each function tests in the order of its chain.
 ghost use mathlib.Core.Path.{_≡_};
-ghost use mathlib.Core.Bool.{not};
+ghost use mathlib.Core.Bool.{not, _&&_};
 ghost use Prim.Native.Nat.{_+_, _^_, _≤_};
-ghost use lib.Dec.{leb, ltb};
+ghost use lib.Dec.{eqb, leb, ltb};
+ghost use lib.ListN.{length};
 ghost use Rattle.polynomial.specs.Digits.{value};
+ghost use Rattle.code.specs.Layout.{blocksFull, dataBytes};
 ghost use Rattle.code.specs.Parameters.{Accepted, sheetRefusal};
 ghost use Rattle.code.specs.Refusals.{badWidth, judgeLengths, openRefusal, pageRefusal, quoteRefusal, readLengths, wordRefusal, writeRefusal};
 ghost use Rattle.layout.specs.Sizes.{Degrees};
@@ -11,7 +13,7 @@ ghost use Rattle.refusal.specs.Feeding.{numbersRefusal};
 use code::Parameters;
 use code::Tested;
 
-// For any numbers: 1 to 4, or 0.
+// For any numbers: 1 to 4, 14, or 0.
 pub fn sheet_refusal(p: Parameters) -> u8
     ensures { λ r. ⌜ r ≡ sheetRefusal p ⌝ }
 {
@@ -41,7 +43,7 @@ pub fn page_refusal(p: Parameters, page: &[u8]) -> u8
 
 // Judge and read out look for a blank page between 7 and 8, so their chains stop at the lengths.
 
-// For any numbers, and a page of `page` bytes: 1 to 4, 7, or 0.
+// For any numbers, and a page of `page` bytes: 1 to 4, 14, 7, or 0.
 pub fn judge_lengths(p: Parameters, page: usize) -> u8
     ensures { λ r. ⌜ r ≡ judgeLengths p page ⌝ }
 {
@@ -79,7 +81,19 @@ fn width_good(width: u32) -> bool
     width <= 64
 }
 
-// For accepted parameters, whose degrees are w, and a buffer of `page` bytes: 5, 6, 7, 8 for an unused bit, 13 where every data bit is 1, or 0.
+// The page of the blocks would be blank: every data bit is 1. At s > 0 none would.
+fn page_ones(p: Parameters, w: &[u32], blocks: &[u8]) -> bool
+    requires { ⌜ Accepted p × Degrees p (now w) × (length (now blocks) ≡ dataBytes p) ⌝ }
+    ensures { λ r. ⌜ r ≡ (eqb (p .s) 0 && blocksFull p (now (blocks .entry))) ⌝ }
+{
+    if p.s != 0 {
+        return false;
+    }
+    layout::blocks_full(p, w, blocks)
+}
+
+// For accepted parameters, whose degrees are w, and a buffer of `page` bytes: 5, 6, 7, 8 for an unused bit, 13 where the page would be blank,
+// or 0.
 pub fn write_refusal(p: Parameters, w: &[u32], width: u32, blocks: &[u8], page: usize) -> u8
     requires { ⌜ Accepted p × Degrees p (now w) ⌝ }
     ensures { λ r. ⌜ r ≡ writeRefusal p width (now (blocks .entry)) page ⌝ }
@@ -96,7 +110,7 @@ pub fn write_refusal(p: Parameters, w: &[u32], width: u32, blocks: &[u8], page: 
     if !layout::blocks_clear(p, w, blocks) {
         return 8;
     }
-    if layout::blocks_full(p, w, blocks) {
+    if page_ones(p, w, blocks) {
         return 13;
     }
     0
@@ -130,7 +144,7 @@ pub fn index_refusal(
     0
 }
 
-// For any numbers: 1 to 4 before these.
+// For any numbers: 1 to 4, 14 before these.
 pub fn word_refusal(
     p: Parameters,
     page: &[u8],
@@ -150,7 +164,7 @@ pub fn word_refusal(
 
 // ---- the quote
 
-// For any numbers, and a list of `out`: 1 to 4, 10, or 0.
+// For any numbers, and a list of `out`: 1 to 4, 14, 10, or 0.
 pub fn quote_refusal(p: Parameters, out: usize) -> u8
     ensures { λ r. ⌜ r ≡ quoteRefusal 1 p out ⌝ }
 {
@@ -166,7 +180,7 @@ pub fn quote_refusal(p: Parameters, out: usize) -> u8
 
 // ---- registers
 
-// For any numbers: 1 to 4, 9, or 0.
+// For any numbers: 1 to 4, 14, 9, or 0.
 pub fn open_refusal(p: Parameters, level: u32) -> u8
     ensures { λ r. ⌜ r ≡ openRefusal p level ⌝ }
 {

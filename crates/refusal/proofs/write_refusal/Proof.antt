@@ -51,8 +51,8 @@ returns-4 c =
     let a = s .args in
     write-stray (a .p) (a .width) (a .blocks .now) (a .page) (s .pre .0) (sym (not-false _ (e .if1 .left)) ∙ e .before .width-good .ensures) (f .if2 .left ∙ f .before .data-bytes .ensures) (g .if3 .left ∙ g .before .page-bytes .ensures) (sym (not-true _ (c .if4 .taken)) ∙ c .before .blocks-clear .ensures)
 
-blocks-full-requires : tie.Need-blocks-full-requires
-blocks-full-requires c κs =
+page-ones-requires : tie.Need-page-ones-requires
+page-ones-requires c κs =
     let f = c .before .before .before .before in
     let s = f .before .before .before .before .before .before in
     (s .pre .0, s .pre .1, f .if2 .left ∙ f .before .data-bytes .ensures)
@@ -66,7 +66,7 @@ returns-5 c =
     let k = e .before .before in
     let s = k .before .before in
     let a = s .args in
-    write-full (a .p) (a .width) (a .blocks .now) (a .page) (s .pre .0) (sym (not-false _ (e .if1 .left)) ∙ e .before .width-good .ensures) (f .if2 .left ∙ f .before .data-bytes .ensures) (g .if3 .left ∙ g .before .page-bytes .ensures) (λ i. k .shared-slice-known2 .given i .fits) (sym (not-false _ (h .if4 .left)) ∙ h .before .blocks-clear .ensures) (sym (c .if5 .taken) ∙ c .before .blocks-full .ensures)
+    write-full (a .p) (a .width) (a .blocks .now) (a .page) (s .pre .0) (sym (not-false _ (e .if1 .left)) ∙ e .before .width-good .ensures) (f .if2 .left ∙ f .before .data-bytes .ensures) (g .if3 .left ∙ g .before .page-bytes .ensures) (λ i. k .shared-slice-known2 .given i .fits) (sym (not-false _ (h .if4 .left)) ∙ h .before .blocks-clear .ensures) (sym (c .if5 .taken) ∙ c .before .page-ones .ensures)
 
 returns-6 : tie.Need-returns-6
 returns-6 c =
@@ -77,7 +77,7 @@ returns-6 c =
     let k = e .before .before in
     let s = k .before .before in
     let a = s .args in
-    write-else (a .p) (a .width) (a .blocks .now) (a .page) (s .pre .0) (sym (not-false _ (e .if1 .left)) ∙ e .before .width-good .ensures) (f .if2 .left ∙ f .before .data-bytes .ensures) (g .if3 .left ∙ g .before .page-bytes .ensures) (λ i. k .shared-slice-known2 .given i .fits) (sym (not-false _ (h .if4 .left)) ∙ h .before .blocks-clear .ensures) (sym (c .if5 .left) ∙ c .before .blocks-full .ensures)
+    write-else (a .p) (a .width) (a .blocks .now) (a .page) (s .pre .0) (sym (not-false _ (e .if1 .left)) ∙ e .before .width-good .ensures) (f .if2 .left ∙ f .before .data-bytes .ensures) (g .if3 .left ∙ g .before .page-bytes .ensures) (λ i. k .shared-slice-known2 .given i .fits) (sym (not-false _ (h .if4 .left)) ∙ h .before .blocks-clear .ensures) (sym (c .if5 .left) ∙ c .before .page-ones .ensures)
 
 pub write-refusal-spec : {M : Type 1} → statement M
-write-refusal-spec = tie.close (tie.spec width-good-requires returns data-bytes-requires returns-2 page-bytes-requires returns-3 blocks-clear-requires returns-4 blocks-full-requires returns-5 returns-6)
+write-refusal-spec = tie.close (tie.spec width-good-requires returns data-bytes-requires returns-2 page-bytes-requires returns-3 blocks-clear-requires returns-4 page-ones-requires returns-5 returns-6)
