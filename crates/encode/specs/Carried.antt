@@ -14,9 +14,8 @@ use Rattle.code.specs.Accepted.{Rules, accepted}
 use Rattle.code.specs.Code.{N, combine}
 use Rattle.code.specs.Layout.{pageBytes, wordsOf}
 use Rattle.code.specs.Pages.{words-many}
-use Rattle.code.specs.Parameters.{Accepted, len, subWordBytes}
+use Rattle.code.specs.Parameters.{Accepted, subWordBytes}
 use Rattle.layout.specs.Parts.{word-at}
-use Rattle.layout.specs.Sizes.{bits-all}
 use Rattle.layout.specs.SubWords.{word-lt}
 use Rattle.sheet.specs.Nesting.{N-lt}
 use Rattle.kernels.specs.Value.{Bounded, value-cons, value-nil}
@@ -64,7 +63,7 @@ pub carried-fits : (p : Parameters) (A : Accepted p) (page : List ℕ) (i j x₀
     → x ≡ xor x₀ (weighted i (suc i) (drop (suc i) (wordsOf p page)) % 2 ^ (8 * j))
     → x ≡ xor x₀ (combine (λ k. N k i) (suc i) (drop (suc i) (wordsOf p page)))
 carried-fits p A page i j x₀ x h b e f g =
-    g ∙ ap (xor x₀) (Nat.mod-eq-of-lt (Nat.lt-of-lt-of-le small (pow-mono (omega (arith, bits-all p A)))))
+    g ∙ ap (xor x₀) (Nat.mod-eq-of-lt (Nat.lt-of-lt-of-le small (pow-mono (omega arith))))
   where
     R : Rules p
     R = accepted p A
@@ -72,9 +71,9 @@ carried-fits p A page i j x₀ x h b e f g =
     many : length (drop (suc i) (wordsOf p page)) ≡ p .m - suc i
     many = length-drop (suc i) (wordsOf p page) ∙ ap (λ (n : ℕ). n - suc i) (words-many p page)
 
-    small : weighted i (suc i) (drop (suc i) (wordsOf p page)) < 2 ^ (50 + (len p + 1))
+    small : weighted i (suc i) (drop (suc i) (wordsOf p page)) < 2 ^ (50 + 8 * subWordBytes p)
     small =
-        combine-lt (λ k. N k i) 50 (len p + 1) (suc i) 8 (drop (suc i) (wordsOf p page))
+        combine-lt (λ k. N k i) 50 (8 * subWordBytes p) (suc i) 8 (drop (suc i) (wordsOf p page))
         (λ k l. Nat.lt-of-lt-of-le (N-lt k i (omega (arith, R .v-high))) (pow-mono {j = 50} (omega arith)))
         (omega (arith, many, R .m-high, R .m-low))
         (λ k l. rw (getD-drop (suc i) (wordsOf p page) k 0) (word-lt p A page b e (suc i + k) (omega (arith, many))))

@@ -15,12 +15,11 @@ use Rattle.code.specs.declared.Parameters.{Parameters}
 use Rattle.code.specs.Accepted.{Rules, accepted}
 use Rattle.code.specs.Code.{carried, checkBits, checked, encode, encodeFrom, level}
 use Rattle.code.specs.Layout.{Fits, blocksOf, pageBytes, pageOf, wordsOf}
-use Rattle.code.specs.Pages.{IsWords, blocks-blocks, encode-words, pageOf-eq, words-many}
-use Rattle.code.specs.Parameters.{Accepted, len, subWordBytes}
+use Rattle.code.specs.Pages.{IsWords, blocks-blocks, encode-words, pageOf-eq, whole, words-many}
+use Rattle.code.specs.Parameters.{Accepted, stored, subWordBytes}
 use Rattle.code.specs.Placement.{encode-at}
 use Rattle.layout.specs.Parts.{page-parts, word-at, word-room}
 use Rattle.layout.specs.Replaced.{replaced, replaced-after, replaced-length, replaced-part}
-use Rattle.layout.specs.Sizes.{bits-all}
 use Rattle.encode.specs.Encoding.{wordOf, written}
 
 pub record Encoded (p : Parameters) (blocks : List ℕ) (i : ℕ) (x : List ℕ) : Type 0 where
@@ -60,8 +59,8 @@ module _ (p : Parameters) (A : Accepted p) (blocks : List ℕ) (F : Fits p block
 
   word-small : (j : ℕ) → j < p .m → getD cs j 0 < 2 ^ (8 * subWordBytes p)
   word-small j h =
-      Nat.lt-of-lt-of-le (all-at (λ c. c < 2 ^ len p) cs (words .below) j (omega (arith, words .many)))
-      (pow-mono (omega (arith, bits-all p A)))
+      Nat.lt-of-lt-of-le (all-at (λ c. c < 2 ^ stored p) cs (words .below) j (omega (arith, words .many)))
+      (pow-mono (whole (stored p)))
 
   -- the later sub-words, as numbers
   later : (x : List ℕ) (i : ℕ) → Encoded p blocks i x → drop i (wordsOf p x) ≡ drop i cs

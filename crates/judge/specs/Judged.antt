@@ -13,7 +13,7 @@ use Rattle.code.specs.declared.Parameters.{Parameters}
 use Rattle.code.specs.Calls.{generators}
 use Rattle.code.specs.Code.{degree, remainder, nested, failing, failingNested}
 use Rattle.code.specs.Layout.{pageBytes, pageClear}
-use Rattle.code.specs.Parameters.{Accepted, len, nestedBytes}
+use Rattle.code.specs.Parameters.{Accepted, nestedBytes}
 use Rattle.levels.specs.Ready.{Prepared, table-remainder}
 use Rattle.judge.specs.Search.{firstFrom}
 
@@ -47,7 +47,7 @@ unfolding failingNested firstFrom
 failingNested-eq p cs = refl
 
 module _ (p : Parameters) (A : Accepted p) where
-  pub passes-is : (t : List ℕ) (a w f r : ℕ) (z : Bool) → a ≤ p .v → w ≡ degree p a → Prepared p a t → f < 2 ^ len p
-      → RemainderBy t (768 - w) (f % 2 ^ len p) r → z ≡ eqb r 0 → z ≡ eqb (remainder p a f) 0
-  passes-is t a w f r z h e P l Q s =
-      s ∙ ap (λ (y : ℕ). eqb y 0) (table-remainder p A a w (f % 2 ^ len p) r t h e P Q ∙ ap (remainder p a) (Nat.mod-eq-of-lt l))
+  pub passes-is : (t : List ℕ) (a w n f r : ℕ) (z : Bool) → a ≤ p .v → w ≡ degree p a → Prepared p a t → f < 2 ^ n
+      → RemainderBy t (768 - w) (f % 2 ^ n) r → z ≡ eqb r 0 → z ≡ eqb (remainder p a f) 0
+  passes-is t a w n f r z h e P l Q s =
+      s ∙ ap (λ (y : ℕ). eqb y 0) (table-remainder p A a w (f % 2 ^ n) r t h e P Q ∙ ap (remainder p a) (Nat.mod-eq-of-lt l))

@@ -7,18 +7,17 @@ ghost use Rattle.polynomial.specs.Digits.{value};
 ghost use Rattle.code.specs.Calls.{Named, generators};
 ghost use Rattle.code.specs.Code.{degree, remainder, nested, failing, failingNested};
 ghost use Rattle.code.specs.Layout.{pageBytes, pageClear, wordsOf};
-ghost use Rattle.code.specs.Parameters.{Accepted, len};
+ghost use Rattle.code.specs.Parameters.{Accepted};
 ghost use Rattle.levels.specs.Ready.{Prepared};
 ghost use Rattle.judge.specs.Judged.{Judging, JudgingNested};
 use code::Parameters;
 use code::Verdict;
 
-// Is the word s a multiple of level a's generator, whose table is t?
-pub fn passes(t: &[u64], s: &[u8], p: Parameters, a: usize, w: usize) -> bool
-    requires { ⌜ Accepted p × (a ≤ p .v) × (w ≡ degree p a) × Prepared p a (now t) × (value 8 (now s) < 2 ^ len p) ⌝ }
+// Is the word s, of n places at most, a multiple of level a's generator, whose table is t?
+pub fn passes(t: &[u64], s: &[u8], n: usize, p: Parameters, a: usize, w: usize) -> bool
+    requires { ⌜ Accepted p × (a ≤ p .v) × (w ≡ degree p a) × Prepared p a (now t) × (n < 4096) × (value 8 (now s) < 2 ^ n) ⌝ }
     ensures { λ r. ⌜ r ≡ eqb (remainder p a (value 8 (now (s .entry)))) 0 ⌝ }
 {
-    let n = layout::length_of(p);
     let mut r = [0u64; 13];
     kernels::remainder::remainder_of(&mut r, t, s, n, 64, 768 - w);
     kernels::row::is_zero(&r)
@@ -30,7 +29,8 @@ fn sub_word_passes(p: Parameters, page: &[u8], i: usize, t: &[u64], w: usize) ->
     ensures { λ r. ⌜ r ≡ eqb (remainder p 0 (getD (wordsOf p (now (page .entry))) i 0)) 0 ⌝ }
 {
     let s = layout::sub_word(p, page, i);
-    passes(t, s, p, 0, w)
+    let n = layout::stored_of(p);
+    passes(t, s, n, p, 0, w)
 }
 
 // The lowest sub-word that is no multiple of g_0; m if there is none.
@@ -65,7 +65,8 @@ fn nested_passes(
     let w = levels::degree_at(p, rows, a) as usize;
     levels::prepare(t, p, rows, a, w);
     nested::nested_into(acc, p, page, l);
-    passes(t, acc, p, a, w)
+    let n = layout::nested_places(p);
+    passes(t, acc, n, p, a, w)
 }
 
 // The lowest nested word that is no multiple of its generator; v if there is none.

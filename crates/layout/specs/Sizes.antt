@@ -1,8 +1,9 @@
 -- The numbers of accepted parameters: degrees, check and data bits, and their bounds.
+--   nestedPlaces p the places of a nested word that can be other than 0, all others being so
 --   Degrees p w    w holds the degrees w_0 to w_v of the generators, in four places; those past v are 0
 use mathlib.Core.Path.{_≡_, refl, _∙_}
 use mathlib.Core.List.{List, [], _∷_}
-use Prim.Native.Nat.{ℕ, _+_, _-_, _*_, _/_, _%_, _^_, _≤_, _<_, zero-le, suc-le-suc}
+use Prim.Native.Nat.{ℕ, _+_, _-_, _*_, _/_, _%_, _^_, _≤_, _<_, min, zero-le, suc-le-suc}
 use native.Mathlib.Nat as Nat
 use native.Mathlib.Omega.{arith}
 use lib.Dec.{lit≤, lit<}
@@ -23,6 +24,9 @@ pub record Degrees (p : Parameters) (w : List ℕ) : Type 0 where
   pub four : length w ≡ 4
   pub at : (a : ℕ) → a ≤ p .v → getD w a 0 ≡ degree p a
   pub past : (a : ℕ) → p .v < a → getD w a 0 ≡ 0
+
+abbrev pub nestedPlaces : Parameters → ℕ
+nestedPlaces p = min (len p) (8 * subWordBytes p + 14)
 
 pub level-low : (p : Parameters) (i : ℕ) → level p i ≤ p .v
 level-low p i = Nat.sub-le (p .v) i
@@ -75,6 +79,9 @@ module _ (p : Parameters) (A : Accepted p) where
 
   pub page-high : pageBytes p ≤ 4096
   page-high = Nat.mul-le-mul {n₂ = 8} {m₂ = 512} (R .m-high) word-high
+
+  pub places-high : nestedPlaces p < 4096
+  places-high = omega (arith, length-high)
 
   -- ---- check and data bits of sub-word i
   strength-low : (a : ℕ) → a ≤ p .v → 1 ≤ strength p a

@@ -7,7 +7,7 @@ ghost use Rattle.code.specs.Parameters.{Accepted, len, stored, subWordBytes, ne
 ghost use Rattle.code.specs.Code.{level, checkBits};
 ghost use Rattle.code.specs.Layout.{pageBytes, dataBits, dataBytes, blockOffset, blockBits, blocksOf, blocksClear, blocksFull, wordsOf, pageClear, blank};
 ghost use Rattle.code.specs.Lists.{each, fitsIn, onesIn};
-ghost use Rattle.layout.specs.Sizes.{Degrees};
+ghost use Rattle.layout.specs.Sizes.{Degrees, nestedPlaces};
 ghost use Rattle.layout.specs.Runs.{OnesFound, runPasses, testOf};
 ghost use Rattle.layout.specs.Tested.{wordBits};
 use code::Parameters;
@@ -47,6 +47,19 @@ pub fn nested_bytes(p: Parameters) -> usize
 {
     let f = Field::of(p.q);
     f.size as usize / 8
+}
+
+// The places of a nested word that can be other than 0: sub-words are moved up by at most 14 places.
+pub fn nested_places(p: Parameters) -> usize
+    requires { ⌜ Accepted p ⌝ }
+    ensures { λ r. ⌜ r ≡ nestedPlaces p ⌝ }
+{
+    let n = length_of(p);
+    let k = 8 * sub_word_bytes(p) + 14;
+    if n < k {
+        return n;
+    }
+    k
 }
 
 // The count at which a register is full.

@@ -3,16 +3,19 @@
 --                          more than a sub-word's bytes
 --   Summed p l page y      all of them do
 use mathlib.Core.Path.{_≡_, refl, sym, ap, ap₂, _∙_}
+use mathlib.Core.Bool.{Bool, true, false}
 use mathlib.Core.List.{List, _++_}
-use Prim.Native.Nat.{ℕ, _+_, _-_, _*_, _%_, _^_, _≤_, _<_}
+use Prim.Native.Nat.{ℕ, _+_, _-_, _*_, _%_, _^_, _≤_, _<_, min}
 use native.Mathlib.Nat as Nat
 use native.Mathlib.Omega.{arith}
+use lib.Dec.{leb}
 use lib.ListN.{length, getD, take, drop, length-append, length-drop}
 use lib.Pow.{pow-mono, pow-pos, shl-lt}
 use lib.Seq.{length-take-le, take-append-seam}
+use borrow.Author.Tests.{leb-true, leb-false}
 use Rattle.polynomial.specs.Clmul.{clmul, clmul-pow}
 use Rattle.polynomial.specs.Digits.{digits, digits-value, value}
-use Rattle.polynomial.specs.Division.{rem, xor-lt}
+use Rattle.polynomial.specs.Division.{Deg, rem, rem-lt, rem-small, unity-deg, xor-lt}
 use Rattle.polynomial.specs.Xor.{xor, xor-zero-l}
 use Rattle.code.specs.declared.Parameters.{Parameters}
 use Rattle.code.specs.Accepted.{accepted}
@@ -23,7 +26,7 @@ use Rattle.code.specs.Pages.{words-many}
 use Rattle.code.specs.Parameters.{Accepted, len, nestedBytes, subWordBytes}
 use Rattle.code.specs.Steps.{nested-eq}
 use Rattle.layout.specs.Parts.{word-at}
-use Rattle.layout.specs.Sizes.{bits-all, length-high, length-low, word-nested}
+use Rattle.layout.specs.Sizes.{bits-all, length-high, length-low, nestedPlaces, word-nested}
 use Rattle.layout.specs.SubWords.{word-lt}
 use Rattle.kernels.specs.Value.{Bounded, bounded-all, bounded-take, take-mod}
 use Rattle.nested.specs.Sums.{Combined, combined-start, combined-turn, combined-done}
@@ -102,6 +105,19 @@ module _ (p : Parameters) (A : Accepted p) (l : ℕ) (page : List ℕ) where
 
   pub summed-folded : (x y n : ℕ) → n ≡ len p → y ≡ rem (2 ^ n + 1) n x → Summed p l page x → y ≡ nested p l (wordsOf p page)
   summed-folded x y n e f s = f ∙ ap₂ (λ (k z : ℕ). rem (2 ^ k + 1) k z) e (s .is) ∙ sym (nested-eq p l (wordsOf p page))
+
+  -- what is not moved past x^n stays
+  pub summed-places : (x y n : ℕ) → n ≡ len p → y ≡ rem (2 ^ n + 1) n x → Summed p l page x → y < 2 ^ nestedPlaces p
+  summed-places x y n e f s = go (f ∙ ap (λ (k : ℕ). rem (2 ^ k + 1) k x) e) (leb (len p) (8 * subWordBytes p + 14)) refl
+    where
+      deg : Deg (2 ^ len p + 1) (len p)
+      deg = unity-deg (len p) (omega (arith, length-low p A))
+
+      go : y ≡ rem (2 ^ len p + 1) (len p) x → (b : Bool) → leb (len p) (8 * subWordBytes p + 14) ≡ b → y < 2 ^ nestedPlaces p
+      go g true t = rw (g, Nat.min-eq-left (leb-true (len p) (8 * subWordBytes p + 14) t)) (rem-lt (2 ^ len p + 1) (len p) deg x)
+      go g false t =
+          let h : 8 * subWordBytes p + 14 ≤ len p = Nat.le-of-suc-le (leb-false (len p) (8 * subWordBytes p + 14) t) in
+          rw (g ∙ rem-small (2 ^ len p + 1) (len p) deg x (Nat.lt-of-lt-of-le (s .low) (pow-mono h)), Nat.min-eq-right h) (s .low)
 
 -- ---- a part in front, altered
 module _ (a x : List ℕ) (k : ℕ) (e : length a ≡ length (take k x)) (h : k ≤ length x) where

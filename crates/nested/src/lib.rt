@@ -1,11 +1,12 @@
 // Nested words: sums of sub-words moved up.
 ghost use mathlib.Core.Path.{_≡_};
-ghost use Prim.Native.Nat.{_+_, _<_};
+ghost use Prim.Native.Nat.{_+_, _^_, _<_};
 ghost use lib.ListN.{length};
 ghost use Rattle.polynomial.specs.Digits.{value};
 ghost use Rattle.code.specs.Code.{nested};
 ghost use Rattle.code.specs.Layout.{pageBytes, wordsOf};
 ghost use Rattle.code.specs.Parameters.{Accepted, nestedBytes, subWordBytes};
+ghost use Rattle.layout.specs.Sizes.{nestedPlaces};
 ghost use Rattle.nested.specs.Turned.{Summed};
 use code::Parameters;
 use layout::length_of;
@@ -30,7 +31,7 @@ fn sum_into(acc: &mut [u8], p: Parameters, page: &[u8], l: usize)
 // Nested word l of the page: the sum folded modulo x^n + 1. acc has 8 bytes above the nested word, which end as 0.
 pub fn nested_into(acc: &mut [u8], p: Parameters, page: &[u8], l: usize)
     requires { ⌜ Accepted p × (length (now page) ≡ pageBytes p) × (l < p .v) × (length (now acc) ≡ nestedBytes p + 8) ⌝ }
-    ensures { λ x. ⌜ value 8 (now (acc .exit)) ≡ nested p l (wordsOf p (now (page .entry))) ⌝ }
+    ensures { λ x. ⌜ (value 8 (now (acc .exit)) ≡ nested p l (wordsOf p (now (page .entry)))) × (value 8 (now (acc .exit)) < 2 ^ nestedPlaces p) ⌝ }
 {
     let n = length_of(p);
     let k = sub_word_bytes(p) + 8;

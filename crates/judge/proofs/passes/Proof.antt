@@ -2,33 +2,29 @@ use borrow.Author.Needs.{needs}
 use native.Mathlib.Omega.{arith}
 use Prim.Native.Nat.{_-_}
 use Rattle.polynomial.specs.Digits.{value}
-use Rattle.layout.specs.Sizes.{length-high}
 use Rattle.code.specs.Accepted.{accepted, degree-high}
 use Rattle.levels.specs.Ready.{degree-low, prepared-up}
 use Rattle.judge.specs.Judged.{passes-is}
 use Rattle.judge.proofs.passes.Statement.{statement}
 use Rattle.judge.proofs.passes.Tie as tie
 
-length-of-requires : tie.Need-length-of-requires
-length-of-requires c κs = c .before .before .pre .0
-
 slice-aggregate-remainder-of : tie.Need-slice-aggregate-remainder-of
 slice-aggregate-remainder-of c = search needs
 
 sub-remainder-of : tie.Need-sub-remainder-of
 sub-remainder-of c =
-    let s = c .before .before .before .before in
+    let s = c .before .before .before in
     omega (arith, s .pre .2, degree-high (s .args .p) (accepted (s .args .p) (s .pre .0)) (s .args .a) (s .pre .1))
 
 remainder-of-requires : tie.Need-remainder-of-requires
 remainder-of-requires c κs =
-    let s = c .before .before .before .before in (
+    let s = c .before .before .before in (
       search needs,
       s .pre .3 .words,
       omega arith,
       omega arith,
       omega (arith, s .pre .2, degree-high (s .args .p) (accepted (s .args .p) (s .pre .0)) (s .args .a) (s .pre .1), degree-low (s .args .p) (s .pre .0) (s .args .a) (s .pre .1)),
-      omega (arith, c .before .length-of .ensures, length-high (s .args .p) (s .pre .0)),
+      omega (arith, s .pre .4),
       prepared-up (s .args .p) (s .args .a) (s .args .w) (s .args .t .now) (s .pre .2) (s .pre .3),
     )
 
@@ -41,16 +37,15 @@ is-zero-requires c κs = search needs
 returns : tie.Need-returns
 returns c =
     let r = c .before .before .before in
-    let s = r .before .before .before .before .before in
+    let s = r .before .before .before .before in
     let a = s .args in
-    passes-is (a .p) (s .pre .0) (a .t .now) (a .a) (a .w) (value 8 (a .s .now)) (value 64 (r .remainder-of .last .0)) _ (s .pre .1) (s .pre .2) (s .pre .3) (s .pre .4)
-    (rw (r .before .before .length-of .ensures) at (r .remainder-of .ensures)) (c .is-zero .ensures)
+    passes-is (a .p) (s .pre .0) (a .t .now) (a .a) (a .w) (a .n) (value 8 (a .s .now)) (value 64 (r .remainder-of .last .0)) _ (s .pre .1) (s .pre .2) (s .pre .3) (s .pre .5)
+    (r .remainder-of .ensures) (c .is-zero .ensures)
 
 pub passes-spec : {M : Type 1} → statement M
 passes-spec =
     tie.close
     (tie.spec
-    length-of-requires
     slice-aggregate-remainder-of
     sub-remainder-of
     remainder-of-requires

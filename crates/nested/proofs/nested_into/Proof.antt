@@ -6,7 +6,7 @@ use lib.ListN.{length}
 use lib.Seq.{length-take-le}
 use Rattle.polynomial.specs.Division.{rem}
 use Rattle.layout.specs.Sizes.{word-high, word-nested}
-use Rattle.nested.specs.Turned.{front-length, front-value, summed-fold, summed-folded}
+use Rattle.nested.specs.Turned.{front-length, front-value, summed-fold, summed-folded, summed-places}
 use Rattle.nested.proofs.nested_into.Statement.{statement}
 use Rattle.nested.proofs.nested_into.Tie as tie
 
@@ -67,9 +67,9 @@ returns c =
     let t = k .before .before .before .before in
     let b = t .before .before in
     let s = b .before .before .before .before in
-    summed-folded _ (s .pre .0) _ _ _ _ _ (b .before .length-of .ensures)
-    (f .fold-cyclic .ensures ∙ ap (rem (2 ^ b .before .length-of .result + 1) (b .before .length-of .result)) (k .clear-bytes .ensures ∙ front-value (t .sum-into .last .0) _ _ (t .sum-into .kept .0) (room b)))
-    (t .sum-into .ensures)
+    let n = b .before .length-of in
+    let e = f .fold-cyclic .ensures ∙ ap (rem (2 ^ n .result + 1) (n .result)) (k .clear-bytes .ensures ∙ front-value (t .sum-into .last .0) _ _ (t .sum-into .kept .0) (room b)) in
+    (summed-folded _ (s .pre .0) _ _ _ _ _ (n .ensures) e (t .sum-into .ensures), summed-places _ (s .pre .0) _ _ _ _ _ (n .ensures) e (t .sum-into .ensures))
 
 pub nested-into-spec : {M : Type 1} → statement M
 nested-into-spec =
