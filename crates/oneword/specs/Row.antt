@@ -13,9 +13,8 @@ use Rattle.kernels.specs.Row.{D, D-is}
 use Rattle.kernels.specs.Table.{Table, MovedUp, moved-up, RemainderBy}
 
 -- the row and its degree as they are defined, of a polynomial below x^n
-pub row-as : (g w x k c n m r : ℕ) → g ≡ x → w ≡ k → n ≡ m → c < 2 ^ m → r ≡ rem g w (c % 2 ^ n) → r ≡ rem x k c
-row-as g w x k c n m r eg ew en l f =
-    f ∙ ap₂ (λ (y d : ℕ). rem y d (c % 2 ^ n)) eg ew ∙ ap (rem x k) (ap (λ (i : ℕ). c % 2 ^ i) en ∙ Nat.mod-eq-of-lt l)
+pub row-as : (g w x k c n r : ℕ) → g ≡ x → w ≡ k → c < 2 ^ n → r ≡ rem g w (c % 2 ^ n) → r ≡ rem x k c
+row-as g w x k c n r eg ew l f = f ∙ ap₂ (λ (y d : ℕ). rem y d (c % 2 ^ n)) eg ew ∙ ap (rem x k) (Nat.mod-eq-of-lt l)
 
 module _ (g w : ℕ) (d : Deg g w) where
   pub row-lt : g < 2 ^ (w + 1)

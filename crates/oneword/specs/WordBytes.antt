@@ -1,30 +1,45 @@
 -- A word in bytes.
 --   WordIs p c s    the bytes s are the polynomial c, which is below x^n
-use mathlib.Core.Path.{_≡_, sym, ap, ap₂, _∙_}
+use mathlib.Core.Path.{_≡_, refl, sym, ap, ap₂, _∙_}
+use mathlib.Core.Bool.{Bool, true, false}
 use mathlib.Core.List.{List, _++_}
-use Prim.Native.Nat.{ℕ, zero, suc, _+_, _-_, _*_, _/_, _%_, _^_, _≤_, _<_}
+use Prim.Native.Nat.{ℕ, zero, suc, _+_, _-_, _*_, _/_, _%_, _^_, _≤_, _<_, min}
 use native.Mathlib.Nat as Nat
 use native.Mathlib.Omega.{arith}
+use lib.Dec.{leb}
 use lib.ListN.{length, take, drop, replicate, length-replicate}
 use lib.Pow.{pow-mono}
 use lib.Seq.{length-take-le}
+use borrow.Author.Tests.{leb-true, leb-false}
 use Rattle.polynomial.specs.Digits.{digits, digits-value, value}
 use Rattle.polynomial.specs.Division.{deg, rem}
 use Rattle.polynomial.specs.Sums.{all-at}
-use Rattle.kernels.specs.Value.{Bounded, bounded-all, value-append, value-cons, value-nil}
+use Rattle.kernels.specs.Value.{Bounded, bounded-all, value-append, value-cons, value-lt, value-nil}
 use Rattle.code.specs.declared.Parameters.{Parameters}
-use Rattle.code.specs.Accepted.{accepted}
+use Rattle.code.specs.Accepted.{accepted, stored-le}
 use Rattle.code.specs.Buffers.{nested-lt}
 use Rattle.code.specs.Calls.{nestedOf, nestedSyndromeList, nestedWordBytes, remainderBytes, shortBytes, subWordOf, syndromeList}
 use Rattle.code.specs.Code.{divisor, remainder, shortRemainder, syndromes}
 use Rattle.code.specs.Layout.{IsPage, wordsOf}
-use Rattle.code.specs.Pages.{page-words, room}
-use Rattle.code.specs.Parameters.{Accepted, len, nestedBytes, strength, subWordBytes}
+use Rattle.code.specs.Pages.{page-words}
+use Rattle.code.specs.Parameters.{Accepted, len, nestedBytes, stored, strength, subWordBytes}
 use Rattle.layout.specs.Parts.{word-at}
+use Rattle.layout.specs.Sizes.{bits-all}
 
 pub record WordIs (p : Parameters) (c : ℕ) (s : List ℕ) : Type 0 where
   pub is : value 8 s ≡ c
   pub below : c < 2 ^ len p
+
+-- ---- places: below x^n, and within its bytes
+below-min : (c a b : ℕ) → c < 2 ^ a → c < 2 ^ b → c < 2 ^ min a b
+below-min c a b h l = go (leb a b) refl
+  where
+    go : (t : Bool) → leb a b ≡ t → c < 2 ^ min a b
+    go true e = rw (Nat.min-eq-left (leb-true a b e)) h
+    go false e = rw (Nat.min-eq-right (Nat.le-of-suc-le (leb-false a b e))) l
+
+pub in-places : (s : List ℕ) (k n : ℕ) → Bounded 8 s → k ≡ min n (8 * length s) → value 8 s < 2 ^ n → value 8 s < 2 ^ k
+in-places s k n b e h = rw e (below-min (value 8 s) n (8 * length s) h (value-lt 8 s b))
 
 -- ---- sub-word i of a page
 pub sub-word-is : (p : Parameters) → Accepted p → (x : List ℕ) → IsPage p x → (i : ℕ) → i < p .m → (s : List ℕ)
@@ -33,7 +48,8 @@ sub-word-is p A x h i l s e =
     let w = page-words p (accepted p A) x h in
     record {
       is = ap (value 8) e ∙ sym (word-at p x i l);
-      below = all-at (λ c. c < 2 ^ len p) (wordsOf p x) (w .below) i (rw (w .many) l);
+      below = Nat.lt-of-lt-of-le (all-at (λ c. c < 2 ^ stored p) (wordsOf p x) (w .below) i (rw (w .many) l))
+          (pow-mono (stored-le p (accepted p A)));
     }
 
 -- ---- nested word l, in b + 8 bytes of 520, the others 0
@@ -80,6 +96,6 @@ module _ (p : Parameters) (x : List ℕ) (l : ℕ) (s : List ℕ) (W : WordIs p 
       → value 8 y ≡ value 8 s / 2 ^ 0 % 2 ^ (8 * k) → y ≡ nestedWordBytes p x l
   unfolding nestedWordBytes
   nested-made A y k b n m e =
-      let c : value 8 s < 2 ^ (8 * k) = rw (W .is, m) (Nat.lt-of-lt-of-le (W .below) (pow-mono (room (p .q) (accepted p A .known)))) in
+      let c : value 8 s < 2 ^ (8 * k) = rw (W .is, m) (Nat.lt-of-lt-of-le (W .below) (pow-mono (omega (arith, bits-all p A)))) in
       sym (digits-value 8 y (bounded-all 8 y b))
       ∙ ap₂ (digits 8) (n ∙ m) (e ∙ ap (λ (z : ℕ). z % 2 ^ (8 * k)) (Nat.div-one (value 8 s)) ∙ Nat.mod-eq-of-lt c ∙ W .is)

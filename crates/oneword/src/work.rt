@@ -1,6 +1,6 @@
 // The work of the calls on one word, for accepted parameters. A word is a polynomial in bytes s, below x^n.
 ghost use mathlib.Core.Path.{_≡_};
-ghost use Prim.Native.Nat.{_*_, _^_, _≤_, _<_};
+ghost use Prim.Native.Nat.{_*_, _^_, _≤_, _<_, min};
 ghost use lib.ListN.{length};
 ghost use Rattle.polynomial.specs.Digits.{value, digits};
 ghost use Rattle.polynomial.specs.Division.{deg, rem};
@@ -25,6 +25,18 @@ pub fn nested_of(p: Parameters, page: &[u8], l: usize) -> [u8; 520]
     acc
 }
 
+// The places of a word below x^n that stands in so many bytes.
+fn places_in(p: Parameters, bytes: usize) -> usize
+    requires { ⌜ Accepted p ⌝ }
+    ensures { λ r. ⌜ r ≡ min (len p) (8 * bytes) ⌝ }
+{
+    let n = layout::length_of(p);
+    if n / 8 < bytes {
+        return n;
+    }
+    8 * bytes
+}
+
 // The remainder of s by level a's generator, and that generator's degree.
 pub fn level_remainder(r: &mut [u64], p: Parameters, a: usize, s: &[u8]) -> usize
     requires { ⌜ Accepted p × (a ≤ p .v) × (length (now r) ≡ 13) × (value 8 (now s) < 2 ^ len p) ⌝ }
@@ -33,7 +45,7 @@ pub fn level_remainder(r: &mut [u64], p: Parameters, a: usize, s: &[u8]) -> usiz
     let rows = levels::rows(p);
     let w = levels::degree_at(p, rows, a) as usize;
     let g = rows[a];
-    let n = layout::length_of(p);
+    let n = places_in(p, s.len());
     remainder_by(r, &g, w, s, n);
     w
 }

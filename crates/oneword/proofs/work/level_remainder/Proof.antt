@@ -5,6 +5,7 @@ use Rattle.layout.specs.Sizes.{length-high}
 use Rattle.levels.specs.Ready.{row-at, level-lt}
 use Rattle.oneword.specs.Level.{row-deg, row-most}
 use Rattle.oneword.specs.Row.{row-as}
+use Rattle.oneword.specs.WordBytes.{in-places}
 use Rattle.oneword.proofs.work.level_remainder.Statement.{statement}
 use Rattle.oneword.proofs.work.level_remainder.Tie as tie
 
@@ -23,8 +24,8 @@ mul-g c = search needs
 array-copy-out-g : tie.Need-array-copy-out-g
 array-copy-out-g c = let s = c .before .before .before .before in level-lt (s .args .p) (s .pre .0) (s .args .a) (s .pre .1)
 
-length-of-requires : tie.Need-length-of-requires
-length-of-requires c κs = search needs
+places-in-requires : tie.Need-places-in-requires
+places-in-requires c κs = search needs
 
 slice-aggregate-remainder-by : tie.Need-slice-aggregate-remainder-by
 slice-aggregate-remainder-by c =
@@ -41,7 +42,7 @@ remainder-by-requires c κs =
       s .pre .2,
       row-deg _ (s .pre .0) _ (s .pre .1) _ r _ (d .degree-at .ensures),
       row-most _ (s .pre .0) _ (s .pre .1) _ r _ (d .degree-at .ensures),
-      omega (arith, c .before .before .length-of .ensures, length-high _ (s .pre .0)),
+      omega (arith, c .before .before .places-in .ensures, length-high _ (s .pre .0)),
     )
 
 same-length : tie.Need-same-length
@@ -55,7 +56,7 @@ returns c =
     let s = d .before .before .before .before in
     let r = row-at (s .args .p) (s .pre .0) _ (s .args .a) (d .before .rows .ensures) (s .pre .1) in (
       d .degree-at .ensures,
-      row-as _ _ _ _ _ _ _ _ (r .is) (d .degree-at .ensures) (n .length-of .ensures) (s .pre .3) (b .remainder-by .ensures),
+      row-as _ _ _ _ _ _ _ (r .is) (d .degree-at .ensures) (in-places (s .args .s .now) _ _ (λ i. d .before .before .shared-slice-known .given i .fits) (n .places-in .ensures) (s .pre .3)) (b .remainder-by .ensures),
     )
 
 pub level-remainder-spec : {M : Type 1} → statement M
@@ -67,7 +68,7 @@ level-remainder-spec =
     cast-w
     mul-g
     array-copy-out-g
-    length-of-requires
+    places-in-requires
     slice-aggregate-remainder-by
     remainder-by-requires
     same-length

@@ -33,7 +33,7 @@ returns c =
     let n = c .before in
     let b = n .before .before in
     let s = b .before .before in
-    nested-is _ (s .pre .0) _ _ (b .nested-bytes .result + 8) _ (n .nested-into .ensures)
+    nested-is _ (s .pre .0) _ _ (b .nested-bytes .result + 8) _ (n .nested-into .ensures .0)
 
 pub nested-of-spec : {M : Type 1} → statement M
 nested-of-spec =

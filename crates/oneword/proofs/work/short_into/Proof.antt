@@ -41,7 +41,7 @@ made : (c : tie.After-remainder-by) → let a = c .before .before .before .befor
 made c =
     let n = c .before .before .before in
     let d = n .before .before in
-    row-as _ _ _ _ _ _ _ _ (d .divisor-row .ensures .1) (d .divisor-row .ensures .0) (n .length-of .ensures) (d .before .before .before .before .pre .2) (c .remainder-by .ensures)
+    row-as _ _ _ _ _ _ _ (d .divisor-row .ensures .1) (d .divisor-row .ensures .0) (rw (n .length-of .ensures) (d .before .before .before .before .pre .2)) (c .remainder-by .ensures)
 
 slice-aggregate-store : tie.Need-slice-aggregate-store
 slice-aggregate-store c = search needs
