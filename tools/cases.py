@@ -646,7 +646,7 @@ CHOSEN = [A, B, ALIKE, WIDE, DEEP, TIGHT, SMALL, (4, 4, 1, 1, 2, 0, 0, 0), (4, 5
           (4, 2, 1, 3, 7, 0, 0, 0), (4, 3, 2, 1, 3, 3, 0, 0), (4, 4, 3, 1, 2, 2, 2, 0)]
 A3, A6, B4, DEEP4 = shortened(A, 3), shortened(A, 6), shortened(B, 4), shortened(DEEP, 4)
 PAIR24, PAIR25 = shortened(PAIR, 231), shortened(PAIR, 230)     # 24 coefficients stored, with no spare bit, and 25, with seven
-SHORT = [A3, A6, B4, DEEP4, PAIR24, PAIR25]
+SHORTENED = [A3, A6, B4, DEEP4, PAIR24, PAIR25]
 U32, U64 = 2 ** 32 - 1, 2 ** 64 - 1
 
 
@@ -704,7 +704,7 @@ def self_test():
     assert all(len(exponents(q, t)) == len(generator(q, t)) - 1 for q, t in [(4, t) for t in range(1, 8)] + [(8, 1), (8, 2)])
     for s in CHOSEN:
         short_test(s)
-    assert [refusal(s) for s in SHORT] == [0] * len(SHORT) and [spare_bits(s) for s in SHORT] == [4, 7, 5, 5, 0, 7]
+    assert [refusal(s) for s in SHORTENED] == [0] * len(SHORTENED) and [spare_bits(s) for s in SHORTENED] == [4, 7, 5, 5, 0, 7]
 
 
 # ---- the cases
@@ -907,7 +907,7 @@ def short_sizes():
         numbers('map (λ s. %s (sheet %s s)) %s' % (name, ' '.join(map(str, PAIR[:7])), as_list(steps)), [size(shortened(PAIR, s)) for s in steps])
     s = shortened(EIGHT, 233)
     numbers('map (blockOffset %s) (range 0 8)' % named(s), [sum(block_bytes(s)[:i]) for i in range(8)])
-    numbers('map distance %s' % as_list(map(named, SHORT)), [distance(s) for s in SHORT])
+    numbers('map distance %s' % as_list(map(named, SHORTENED)), [distance(s) for s in SHORTENED])
     for s in (A3, B4, s):
         numbers('quote %s' % named(s), quote(s))
 
@@ -950,8 +950,8 @@ def short_words():
          lambda x: refusal(A6, page=x, sub_word=0, room=(2, lambda: 2)))
     page = some_page(PAIR24)
     in_turn([call('nestedRefusal', PAIR24, page, 0, size) for size in (3, 32)], [refusal(PAIR24, page=page, nested_word=0, room=(size, lambda: nested_size(PAIR24))) for size in (3, 32)])
+    x = flipped(DEEP4, [0x00] * 10, (4, 10))
     for l in (1, 2):
-        x = flipped(DEEP4, [0x00] * 10, (4, 10))
         row(call('nestedWordBytes', DEEP4, x, l), listed(hexed(nested_bytes(DEEP4, x, l))))
     x, long = some_page(DEEP4), (8, 3, 2, 1, 2, 2, 0, 231)
     for s, page in [(DEEP4, x), (long, some_page(long))]:
