@@ -13,7 +13,7 @@ from functools import lru_cache
 from pathlib import Path
 
 import cases
-from cases import A, A3, ALIKE, B, B4, CLASH, DEEP, DEEP4, EIGHT, FIELD, LARGE, PAIR, PAIR24, SMALL, TIGHT, U32, WIDE
+from cases import A, A3, ALIKE, B, B4, CLASH, DEEP, DEEP4, EIGHT, FIELD, LARGE, PAIR, PAIR24, SMALL, TIGHT, TWELVE, U32, WIDE
 from cases import below, exponents, largest, nesting, number, refusal, shortened, some_bytes, strength
 
 TEST, NESTING, GENERATORS, ELEMENTS, OPEN, FEED, REMAINDER, SHORT, NESTED, SYNDROMES, NESTED_SYNDROMES, JUDGE, READ_OUT, WRITE, QUOTE = range(15)
@@ -21,7 +21,6 @@ WIDTHS = (1, 7, 8, 63, 64)
 
 BYTE = (8, 4, 2, 3, 5, 9, 0, 0)
 FULL = (8, 5, 3, 2, 4, 6, 7, 0)
-TWELVE = (12, 3, 2, 1, 2, 3, 0, 0)
 SHEETS = (A, B, ALIKE, WIDE, DEEP, TIGHT, SMALL, BYTE, FULL, EIGHT, LARGE)
 # Shortened by a few coefficients, by half of them, and by nearly all; n - s a multiple of 8, and one off it.
 SHORTENED = (A3, B4, PAIR24, shortened(BYTE, 6), shortened(TWELVE, 1903))

@@ -410,13 +410,13 @@ pub shortSheets : List Row
 shortSheets = (
   map sheetRefusal ((sheet 4 2 1 1 2 0 0 6) ∷ (sheet 4 2 1 1 2 0 0 7) ∷ (sheet 4 3 2 1 2 3 0 4) ∷ (sheet 4 3 2 1 2 3 0 5)
       ∷ (sheet 4 3 2 6 7 7 0 0) ∷ (sheet 4 3 2 6 7 7 0 1) ∷ (sheet 8 8 3 1 2 2 2 238) ∷ (sheet 8 8 3 1 2 2 2 239)
-      ∷ (sheet 12 8 3 28 32 39 58 3404) ∷ (sheet 12 8 3 28 32 39 58 3405) ∷ []),
+      ∷ (sheet 12 3 2 1 2 3 0 4058) ∷ (sheet 12 3 2 1 2 3 0 4059) ∷ []),
   0 ∷ 14 ∷ 0 ∷ 14 ∷ 0 ∷ 14 ∷ 0 ∷ 14 ∷ 0 ∷ 14 ∷ [],
 )
     ∷ (
       map sheetRefusal ((sheet 5 2 1 1 2 0 0 4294967295) ∷ (sheet 4 1 1 1 2 0 0 4294967295) ∷ (sheet 4 2 1 2 2 0 0 4294967295)
-          ∷ (sheet 4 4 2 1 2 3 0 4294967295) ∷ (sheet 4 2 1 1 2 0 0 4294967295) ∷ (sheet 12 8 3 28 32 39 58 4294967295) ∷ []),
-      1 ∷ 2 ∷ 3 ∷ 4 ∷ 14 ∷ 14 ∷ [],
+          ∷ (sheet 4 4 2 1 2 3 0 4294967295) ∷ (sheet 4 2 1 1 2 0 0 4294967295) ∷ []),
+      1 ∷ 2 ∷ 3 ∷ 4 ∷ 14 ∷ [],
     )
     ∷ (
       writeRefusal (sheet 4 2 1 1 2 0 0 6) 0 (0xFF ∷ 0xFF ∷ 0xFF ∷ 0xFF ∷ 0xFF ∷ []) 5 ∷ judgeNumber (sheet 4 2 1 1 2 0 0 6) (0xFF ∷ 0xFF
@@ -444,21 +444,15 @@ shortSheets-hold = refl
 
 -- Sizes by s: bytes of page and blocks where n - s passes a multiple of 8, where blocks begin, and the quote.
 pub shortSizes : List Row
-shortSizes = (
-  map (λ s. pageBytes (sheet 8 2 1 1 2 0 0 s)) (0 ∷ 1 ∷ 6 ∷ 7 ∷ 8 ∷ 230 ∷ 231 ∷ 232 ∷ 238 ∷ []),
-  64 ∷ 64 ∷ 64 ∷ 62 ∷ 62 ∷ 8 ∷ 6 ∷ 6 ∷ 6 ∷ [],
-)
-    ∷ (
-      map (λ s. dataBytes (sheet 8 2 1 1 2 0 0 s)) (0 ∷ 1 ∷ 6 ∷ 7 ∷ 8 ∷ 230 ∷ 231 ∷ 232 ∷ 238 ∷ []),
-      61 ∷ 61 ∷ 61 ∷ 59 ∷ 59 ∷ 5 ∷ 3 ∷ 3 ∷ 3 ∷ [],
-    )
+shortSizes =
+    (map (λ s. pageBytes (sheet 8 2 1 1 2 0 0 s)) (0 ∷ 6 ∷ 7 ∷ 8 ∷ 230 ∷ 231 ∷ []), 64 ∷ 64 ∷ 62 ∷ 62 ∷ 8 ∷ 6 ∷ [])
+    ∷ (map (λ s. dataBytes (sheet 8 2 1 1 2 0 0 s)) (0 ∷ 6 ∷ 7 ∷ 8 ∷ 230 ∷ 231 ∷ []), 61 ∷ 61 ∷ 59 ∷ 59 ∷ 5 ∷ 3 ∷ [])
     ∷ (map (blockOffset (sheet 8 8 3 1 2 2 2 233)) (range 0 8), 0 ∷ 1 ∷ 2 ∷ 3 ∷ 5 ∷ 7 ∷ 9 ∷ 11 ∷ [])
     ∷ (
       map distance ((sheet 4 2 1 1 2 0 0 3) ∷ (sheet 4 2 1 1 2 0 0 6) ∷ (sheet 4 3 2 1 2 3 0 4) ∷ (sheet 4 5 3 1 2 2 2 4)
           ∷ (sheet 8 2 1 1 2 0 0 231) ∷ (sheet 8 2 1 1 2 0 0 230) ∷ []),
       5 ∷ 5 ∷ 7 ∷ 5 ∷ 5 ∷ 5 ∷ [],
     )
-    ∷ (quote (sheet 4 2 1 1 2 0 0 3), 4 ∷ 8 ∷ 0 ∷ 0 ∷ 4 ∷ 8 ∷ replicate 6 0)
     ∷ (quote (sheet 4 3 2 1 2 3 0 4), 4 ∷ 8 ∷ 10 ∷ 0 ∷ 1 ∷ 3 ∷ 7 ∷ 0 ∷ 0 ∷ 0 ∷ 0 ∷ 0 ∷ [])
     ∷ (quote (sheet 8 8 3 1 2 2 2 233), 8 ∷ 16 ∷ 16 ∷ 16 ∷ 6 ∷ 6 ∷ 6 ∷ 14 ∷ 14 ∷ 14 ∷ 14 ∷ 14 ∷ [])
     ∷ []
@@ -514,11 +508,6 @@ shortWritten = (
       writeRefusal (sheet 4 3 2 1 2 3 0 4) 8 (0x01 ∷ 0x07 ∷ 0x7F ∷ []) 6 ∷ writeLeaves (sheet 4 3 2 1 2 3 0 4) 8 (0x01 ∷ 0x07 ∷ 0x7F
           ∷ []) (replicate 6 0xA5),
       0 ∷ 0x9A ∷ 0x05 ∷ 0x57 ∷ 0x07 ∷ 0xFA ∷ 0x07 ∷ [],
-    )
-    ∷ (
-      writeRefusal (sheet 8 2 1 1 2 0 0 230) 8 (0xFF ∷ 0x01 ∷ 0xFF ∷ 0xFF ∷ 0x01 ∷ []) 8 ∷ writeLeaves (sheet 8 2 1 1 2 0 0 230) 8 (0xFF
-          ∷ 0x01 ∷ 0xFF ∷ 0xFF ∷ 0x01 ∷ []) (replicate 8 0xA5),
-      0 ∷ 0x0A ∷ 0xFF ∷ 0xFF ∷ 0x01 ∷ 0x0A ∷ 0xFF ∷ 0xFF ∷ 0x01 ∷ [],
     )
     ∷ (
       writeRefusal (sheet 4 2 1 1 2 0 0 3) 8 (0x10 ∷ 0x00 ∷ []) 4 ∷ writeLeaves (sheet 4 2 1 1 2 0 0 3) 8 (0x10 ∷ 0x00
