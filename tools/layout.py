@@ -60,8 +60,8 @@ def page(y, sheet, head, share, left=()):
     """Sub-words from byte 0 on, least power at the left; `share` gives the drawn part of the check bits, `left` the sub-words left out."""
     q, m, v, *t, s = sheet
     n, stored, size, count = cases.length(sheet), cases.stored(sheet), cases.word_bytes(sheet), cases.spare_bits(sheet)
-    gone = 170 if s else 0
-    spare = 54 if s else 34
+    gone = 150 if s else 0
+    spare = 50 if s else 34
     title(y, head)
     y += 22
     for i in range(m):
@@ -149,7 +149,7 @@ def example(y, sheet, name, blocks, said):
         brackets(y + HIGH, 2 * i, made[2 * i:2 * i + 2])
         y += STEP + 6
     if stored < 15:
-        y += 14
+        y += 20
         powers(y - 8, 15)
     for l, note in enumerate(said):
         nested = cases.nested(sheet, words, l)
