@@ -3,7 +3,7 @@
 // It writes, as text, the sheet and then the check bits of each level, the data bits of each block, the bytes of blocks and page, and the
 // distance, or the refusal.
 ghost use mathlib.Core.Path.{_≡_};
-ghost use Prim.Native.Nat.{_<_};
+ghost use Prim.Native.Nat.{_+_, _*_, _<_};
 ghost use Rattle.quote.specs.Given.{shorteningRead, strengthRead, sheetRead};
 use code::Outcome;
 use code::Parameters;
@@ -30,6 +30,13 @@ fn strength_given(input: [u8; 9], a: usize) -> u32
     input[3 + a] as u32
 }
 
+// A number in two bytes, low byte first.
+fn pair(low: u8, high: u8) -> u32
+    ensures { λ r. ⌜ r ≡ low + 256 * high ⌝ }
+{
+    low as u32 + 256 * high as u32
+}
+
 // s, 0 where there is none.
 fn shortening_given(input: [u8; 9]) -> u32
     ensures { λ r. ⌜ r ≡ shorteningRead input ⌝ }
@@ -41,9 +48,7 @@ fn shortening_given(input: [u8; 9]) -> u32
     if 3 < v {
         return 0;
     }
-    let low = input[4 + v] as u32;
-    let high = input[5 + v] as u32;
-    low + 256 * high
+    pair(input[4 + v], input[5 + v])
 }
 
 // The parameters.
