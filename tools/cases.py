@@ -7,12 +7,13 @@
 
 The first writes the tables of Own.antt, in rt fmt's layout; the second says nothing where they stand there already, else
 it names the file and ends with 1. A row has what a definition gives, as a term, and what this program works out, as
-numbers; the rows are of definitions that no compiled call gives back, and of the calls on erased pages. What the calls
-give is compared by programs: tools/trial.py, tools/counter.py and tools/writer.py take their answers from here.
+numbers; the rows are of definitions that no compiled call gives back, and of the calls on erased pages and on shortened
+sheets. What the calls give is compared by programs: tools/trial.py, tools/counter.py and tools/writer.py take their
+answers from here.
 
 It shares no method with the definitions: generators by trying every polynomial, pages by elimination on the code's
 linear conditions, membership by evaluation at the roots, nested words by turning lists of bits, remainders by long
-division. Nothing is drawn at random but from the fixed sequence of `below`.
+division. Degrees are counted as the requirement says, and tested against those generators. Nothing is drawn at random but from the fixed sequence of `below`.
 """
 import sys
 from functools import lru_cache
@@ -102,13 +103,38 @@ def generator(q, t):
     return next(bits(c) for c in range(1, 2 ** 18) if has_roots(q, bits(c), t))
 
 
-# ---- a sheet: q, m, v, t_0 to t_3
+@lru_cache(None)
+def exponents(q, t):
+    """The exponents of the generator's roots: the different values of j 2^k modulo n."""
+    return {j * 2 ** k % (2 ** q - 1) for j in range(1, 2 * t + 1) for k in range(q)}
+
+
+# ---- a sheet: q, m, v, t_0 to t_3, s
+
+def shortened(sheet, s):
+    return (*sheet[:7], s)
+
 
 def length(sheet):
+    """The coefficients of a sub-word and of a nested word: n."""
     return 2 ** sheet[0] - 1
 
 
+def stored(sheet):
+    """Those of a sub-word that a page stores: all but the top s."""
+    return length(sheet) - sheet[7]
+
+
 def word_bytes(sheet):
+    """The bytes of a stored sub-word."""
+    return -(-stored(sheet) // 8)
+
+
+def spare_bits(sheet):
+    return 8 * word_bytes(sheet) - stored(sheet)
+
+
+def nested_size(sheet):
     return 2 ** sheet[0] // 8
 
 
@@ -121,7 +147,12 @@ def gen(sheet, a):
 
 
 def degree(sheet, a):
-    return len(gen(sheet, a)) - 1
+    return len(exponents(sheet[0], strength(sheet, a)))
+
+
+def largest(sheet):
+    """The largest s that the sheet's other numbers allow: block 0 keeps one bit."""
+    return length(sheet) - degree(sheet, sheet[2]) - 1
 
 
 def check_bits(sheet, i):
@@ -129,7 +160,7 @@ def check_bits(sheet, i):
 
 
 def block_bits(sheet):
-    return [length(sheet) - check_bits(sheet, i) for i in range(sheet[1])]
+    return [stored(sheet) - check_bits(sheet, i) for i in range(sheet[1])]
 
 
 def block_bytes(sheet):
@@ -145,7 +176,7 @@ def page_bytes(sheet):
 
 
 def distance(sheet):
-    q, m, v, *t = sheet
+    q, m, v, *t, s = sheet
     return min([(v + 1) * (2 * t[0] + 1)] + [b * (2 * t[v - b + 1] + 1) for b in range(1, v + 1)])
 
 
@@ -172,11 +203,13 @@ def words_with_spare(sheet, page):
 
 
 def words(sheet, page):
-    return [w[:length(sheet)] for w in words_with_spare(sheet, page)]
+    """The sub-words, n coefficients each."""
+    return [w[:stored(sheet)] + [0] * sheet[7] for w in words_with_spare(sheet, page)]
 
 
 def page_of_words(sheet, ws):
-    return [b for w in ws for b in bytes_of_bits(w, word_bytes(sheet))]
+    assert not any(any(w[stored(sheet):]) for w in ws)
+    return [b for w in ws for b in bytes_of_bits(w[:stored(sheet)], word_bytes(sheet))]
 
 
 def blocks_with_unused(sheet, data):
@@ -190,7 +223,7 @@ def blocks_with_unused(sheet, data):
 def blocks_of_page(sheet, page):
     out = []
     for i, w in enumerate(words(sheet, page)):
-        out += bytes_of_bits(w[check_bits(sheet, i):], block_bytes(sheet)[i])
+        out += bytes_of_bits(w[check_bits(sheet, i):stored(sheet)], block_bytes(sheet)[i])
     return out
 
 
@@ -210,12 +243,12 @@ def nested(sheet, ws, l):
 
 def blank(sheet, page):
     """Every stored coefficient is 1, whatever the spare bits are."""
-    return all(all(w) for w in words(sheet, page))
+    return all(all(w[:stored(sheet)]) for w in words(sheet, page))
 
 
 def failing(sheet, page):
     """The first word that fails: 32 + i or 64 + l; 0 for none."""
-    q, m, v, *t = sheet
+    q, m, v, *t, s = sheet
     ws = words(sheet, page)
     for i in range(m):
         if not has_roots(q, ws[i], t[0]):
@@ -228,7 +261,7 @@ def failing(sheet, page):
 
 def conditions(sheet, ws, nested_words):
     """The values that must vanish, all their bits in one number: linear in the words."""
-    q, m, v, *t = sheet
+    q, m, v, *t, s = sheet
     values = [syndrome(q, w, j) for w in ws for j in range(1, 2 * t[0] + 1)]
     values += [syndrome(q, nested(sheet, ws, l), j) for l in nested_words for j in range(1, 2 * t[v - l] + 1)]
     return sum(x << q * k for k, x in enumerate(values))
@@ -275,7 +308,7 @@ def encoded(sheet, data):
     ws, unknown = [], []
     for i, block in enumerate(blocks_with_unused(sheet, data)):
         w = check_bits(sheet, i)
-        ws.append([0] * w + block[:length(sheet) - w])
+        ws.append([0] * w + block[:stored(sheet) - w] + [0] * sheet[7])
         unknown += [(i, k) for k in range(w)]
     page = page_of_words(sheet, solved(sheet, ws, unknown, range(sheet[2]), None))
     assert failing(sheet, page) == 0 and blocks_of_page(sheet, page) == list(data)
@@ -284,7 +317,7 @@ def encoded(sheet, data):
 
 def page_failing_at(sheet, l):
     """A page whose sub-words and nested words below l hold, and nested word l does not."""
-    everywhere = [(i, k) for i in range(sheet[1]) for k in range(length(sheet))]
+    everywhere = [(i, k) for i in range(sheet[1]) for k in range(stored(sheet))]
     empty = [[0] * length(sheet) for _ in range(sheet[1])]
     while True:
         page = page_of_words(sheet, solved(sheet, empty, everywhere, range(l), lambda: below(2)))
@@ -345,7 +378,7 @@ def short_bytes(sheet, page, l):
 
 
 def nested_bytes(sheet, page, l):
-    return bytes_of_bits(nested(sheet, words(sheet, page), l), word_bytes(sheet))
+    return bytes_of_bits(nested(sheet, words(sheet, page), l), nested_size(sheet))
 
 
 def syndrome_list(sheet, page, i):
@@ -380,22 +413,22 @@ def fed(sheet, width, register, u):
     return 0, (level, count + width, number(divided(formed, gen(sheet, level))[1]))
 
 
-# ---- the refusals: the requirement's table (docs/REQUIREMENT.md, "Refusals"), read from the top
+# ---- the refusals: the requirement's table (docs/REQUIREMENT.md, "Refusals"), in the order of its tests
 
 def broken(sheet):
-    q, m, v, *t = sheet
+    q, m, v, *t, s = sheet
     used, past = t[:v + 1], t[v + 1:]
     rises = all(a <= b for a, b in zip(used[1:], used[2:]))
     return not (1 <= used[0] < used[1] and rises and used[v] <= 64 and 2 * used[v] <= length(sheet) - 1 and not any(past))
 
 
 def refusal(sheet, width=None, blocks=None, page=None, fed=None, sub_word=None, nested_word=None, opening=None, room=None, register=None):
-    """The lowest number whose condition holds among a call's parts, 0 for none.
+    """The first number whose condition holds among a call's parts, 0 for none.
 
     blocks and page are lists where they are read, and lengths where they are to be written; room is the length of
     the buffer for another result, and the exact one.
     """
-    q, m, v, *t = sheet
+    q, m, v, *t, s = sheet
     size = lambda buffer: buffer if isinstance(buffer, int) else len(buffer)
     read = lambda buffer: isinstance(buffer, list)
     stray = lambda pieces, used: any(any(p[u:]) for p, u in zip(pieces, used))
@@ -404,15 +437,16 @@ def refusal(sheet, width=None, blocks=None, page=None, fed=None, sub_word=None, 
         (2, lambda: v not in (1, 2, 3) or not v + 1 <= m <= 8),
         (3, lambda: broken(sheet)),
         (4, lambda: any(d * j % length(sheet) == 0 for d in range(1, m) for j in range(1, 2 * t[v] + 1))),
+        (14, lambda: s > largest(sheet)),
         (5, lambda: width is not None and not 1 <= width <= 64),
         (6, lambda: blocks is not None and size(blocks) != data_bytes(sheet)),
         (7, lambda: page is not None and size(page) != page_bytes(sheet)),
         (8, lambda: read(blocks) and stray(blocks_with_unused(sheet, blocks), block_bits(sheet))
-            or read(page) and stray(words_with_spare(sheet, page), [length(sheet)] * m)
+            or read(page) and stray(words_with_spare(sheet, page), [stored(sheet)] * m)
             or fed is not None and len(bits(fed)) > width),
         (9, lambda: sub_word is not None and sub_word >= m or nested_word is not None and nested_word >= v or opening is not None and opening > v),
         (10, lambda: room is not None and room[0] != room[1]()),
-        (11, lambda: register is not None and register[1] + width > length(sheet)),
+        (11, lambda: register is not None and register[1] + width > stored(sheet)),
         (12, lambda: register is not None and (register[0] > v or len(bits(register[2])) > degree(sheet, register[0]))),
         (13, lambda: read(blocks) and blank(sheet, page_of_blocks(sheet, blocks))),
     ]
@@ -447,7 +481,7 @@ def writer(data):
     lead = lambda k: data[k] if k < len(data) else 0
     q, m, v, width = [lead(k) for k in range(4)]
     count = v + 1 if v in (1, 2, 3) else 0
-    sheet = (q, m, v, *[lead(4 + a) if a < count else 0 for a in range(4)])
+    sheet = (q, m, v, *[lead(4 + a) if a < count else 0 for a in range(4)], 0)
     blocks = data[4 + count:]
     code = refusal(sheet, width=width, blocks=blocks)
     return [code] if code else [0] + page_of_blocks(sheet, blocks)
@@ -490,13 +524,13 @@ def all_but_one(sheet, i, r):
 
 
 def erased(sheet, spare):
-    """A blank page with these spare bits, one for each sub-word."""
-    return page_of_words(sheet, [[1] * length(sheet) + [b] for b in spare])
+    """A blank page with these spare bits: of each sub-word a number, the lowest bit first."""
+    return [b for x in spare for b in bytes_of_bits([1] * stored(sheet) + bits(x), word_bytes(sheet))]
 
 
 def some_page(sheet):
     """A page with clear spare bits."""
-    return page_of_words(sheet, [[below(2) for _ in range(length(sheet))] for _ in range(sheet[1])])
+    return page_of_words(sheet, [[below(2) for _ in range(stored(sheet))] for _ in range(sheet[1])])
 
 
 def some_member(sheet):
@@ -539,7 +573,7 @@ def data(xs):
     return '[]' if not xs else '(%s)' % listed(hexed(xs))
 
 
-NAMES = {(4, 2, 1, 1, 2, 0, 0): 'A', (4, 3, 2, 1, 2, 3, 0): 'B'}
+NAMES = {(4, 2, 1, 1, 2, 0, 0, 0): 'A', (4, 3, 2, 1, 2, 3, 0, 0): 'B'}
 
 
 def named(sheet):
@@ -597,24 +631,29 @@ def alone(term, x):
 
 # ---- the sheets
 
-A = (4, 2, 1, 1, 2, 0, 0)
-B = (4, 3, 2, 1, 2, 3, 0)
-ALIKE = (4, 2, 1, 4, 5, 0, 0)              # g_1 = g_0
-WIDE = (4, 5, 2, 1, 2, 2, 0)               # x^(l i) with l i above 3
-DEEP = (4, 5, 3, 1, 2, 2, 2)
-TIGHT = (4, 3, 2, 2, 5, 7, 0)              # two blocks of one bit
-SMALL = (4, 3, 2, 6, 7, 7, 0)              # all blocks of one bit, g_0 = g_1 = g_2
-CLASH = (4, 4, 2, 1, 2, 3, 0)
-EIGHT = (8, 8, 3, 1, 2, 2, 2)
-LARGE = (12, 8, 3, 28, 32, 39, 58)
-CHOSEN = [A, B, ALIKE, WIDE, DEEP, TIGHT, SMALL, (4, 4, 1, 1, 2, 0, 0), (4, 5, 1, 1, 2, 0, 0), (4, 3, 1, 2, 3, 0, 0),
-          (4, 2, 1, 3, 7, 0, 0), (4, 3, 2, 1, 3, 3, 0), (4, 4, 3, 1, 2, 2, 2)]
+A = (4, 2, 1, 1, 2, 0, 0, 0)
+B = (4, 3, 2, 1, 2, 3, 0, 0)
+ALIKE = (4, 2, 1, 4, 5, 0, 0, 0)           # g_1 = g_0
+WIDE = (4, 5, 2, 1, 2, 2, 0, 0)            # x^(l i) with l i above 3
+DEEP = (4, 5, 3, 1, 2, 2, 2, 0)
+TIGHT = (4, 3, 2, 2, 5, 7, 0, 0)           # two blocks of one bit
+SMALL = (4, 3, 2, 6, 7, 7, 0, 0)           # all blocks of one bit, g_0 = g_1 = g_2
+CLASH = (4, 4, 2, 1, 2, 3, 0, 0)
+EIGHT = (8, 8, 3, 1, 2, 2, 2, 0)
+PAIR = (8, 2, 1, 1, 2, 0, 0, 0)
+TWELVE = (12, 3, 2, 1, 2, 3, 0, 0)
+LARGE = (12, 8, 3, 28, 32, 39, 58, 0)
+CHOSEN = [A, B, ALIKE, WIDE, DEEP, TIGHT, SMALL, (4, 4, 1, 1, 2, 0, 0, 0), (4, 5, 1, 1, 2, 0, 0, 0), (4, 3, 1, 2, 3, 0, 0, 0),
+          (4, 2, 1, 3, 7, 0, 0, 0), (4, 3, 2, 1, 3, 3, 0, 0), (4, 4, 3, 1, 2, 2, 2, 0)]
+A3, A6, B4, DEEP4 = shortened(A, 3), shortened(A, 6), shortened(B, 4), shortened(DEEP, 4)
+PAIR24, PAIR25 = shortened(PAIR, 231), shortened(PAIR, 230)     # 24 coefficients stored, with no spare bit, and 25, with seven
+SHORTENED = [A3, A6, B4, DEEP4, PAIR24, PAIR25]
 U32, U64 = 2 ** 32 - 1, 2 ** 64 - 1
 
 
 def every():
     """Every accepted sheet of q = 4."""
-    return [(4, m, v, *t) for v in (1, 2, 3) for m in range(v + 1, 9) for t in tuples(range(8), repeat=4) if refusal((4, m, v, *t)) == 0]
+    return [(4, m, v, *t, 0) for v in (1, 2, 3) for m in range(v + 1, 9) for t in tuples(range(8), repeat=4) if refusal((4, m, v, *t, 0)) == 0]
 
 
 def least_weight(sheet):
@@ -626,9 +665,23 @@ def least_weight(sheet):
     return min(bin(x).count('1') for x in members if x)
 
 
+def short_test(sheet):
+    """At every s from 1 to the largest: the words of blocks are those at s = 0 of the blocks with s zeros on top; blocks of ones are
+    written, and ones in every stored place are no words of the code; one more is 14."""
+    most = next(s for s in range(length(sheet)) if min(block_bits(shortened(sheet, s))) == 1)
+    assert [refusal(shortened(sheet, s)) for s in (most, most + 1)] == [0, 14]
+    for short in (shortened(sheet, s) for s in range(1, most + 1)):
+        data = all_ones(short)
+        blocks = [block[:b] for block, b in zip(blocks_with_unused(short, data), block_bits(short))]
+        whole = [x for block, size in zip(blocks, block_bytes(sheet)) for x in bytes_of_bits(block, size)]
+        code, *page = write(short, 8, data, [0] * page_bytes(short))
+        assert code == 0 and words(short, page) == words(sheet, page_of_blocks(sheet, whole))
+        assert failing(short, erased(short, [0] * short[1])) and (sum(block_bits(short)) > 16 or least_weight(short) >= distance(short))
+
+
 def self_test():
-    """The requirement's own numbers (docs/REQUIREMENT.md, "On the counter"), the equal form as a whole, the distance by trial,
-    and that a page is blank where every data bit is 1."""
+    """The requirement's own numbers (docs/REQUIREMENT.md, "On the counter"), degrees by generators, the equal form as a whole, the
+    distance by trial, that a page is blank where every data bit is 1, and what shortening leaves as it was."""
     assert [number(generator(4, t)) for t in (1, 2, 3, 4, 7)] == [0x13, 0x1D1, 0x537, 0x7FFF, 0x7FFF]
     assert page_of_blocks(A, [0x00, 0x01, 0x00]) == [0x13, 0x00, 0x13, 0x00]
     assert page_of_blocks(A, [0x01, 0x01, 0x00]) == [0xC2, 0x01, 0x13, 0x00]
@@ -638,8 +691,8 @@ def self_test():
     assert read_out(A, [0xFF, 0xFF, 0xFF, 0xFF], [0x00] * 3) == [96, 0x7F, 0xFF, 0x07]
     assert write(A, 8, [0x7F, 0xFF, 0x07], [0x00] * 4) == [13] + [0x00] * 4
     assert [syndrome(4, bits(2), j) for j in (1, 2, 3, 4)] == [2, 4, 8, 3]
-    assert refusal(CLASH) == 4 and refusal((4, 4, 2, 1, 2, 2, 0)) == 0
-    assert refusal((8, 4, 1, 1, 42, 0, 0)) == 0 and refusal((8, 4, 1, 1, 43, 0, 0)) == 4
+    assert refusal(CLASH) == 4 and refusal((4, 4, 2, 1, 2, 2, 0, 0)) == 0
+    assert refusal((8, 4, 1, 1, 42, 0, 0, 0)) == 0 and refusal((8, 4, 1, 1, 43, 0, 0, 0)) == 4
     assert distance(LARGE) == 117 and page_bytes(LARGE) == 4096
     assert number(nesting(2, 1)) == 0b11 and number(nesting(4, 2)) == 0b11011
     assert writer([0x04, 0x02, 0x01, 0x08, 0x01, 0x02, 0x01, 0x01, 0x00]) == [0x00, 0xC2, 0x01, 0x13, 0x00] and writer([]) == [1]
@@ -649,6 +702,10 @@ def self_test():
     small = [s for s in every() if sum(block_bits(s)) <= 16 or s == A]
     assert least_weight(A) == distance(A) and all(least_weight(s) >= distance(s) for s in small)
     assert all(refusal(s, blocks=all_ones(s)) == 13 for s in CHOSEN)
+    assert all(len(exponents(q, t)) == len(generator(q, t)) - 1 for q, t in [(4, t) for t in range(1, 8)] + [(8, 1), (8, 2)])
+    for s in CHOSEN:
+        short_test(s)
+    assert [refusal(s) for s in SHORTENED] == [0] * len(SHORTENED) and [spare_bits(s) for s in SHORTENED] == [4, 7, 5, 5, 0, 7]
 
 
 # ---- the cases
@@ -704,6 +761,12 @@ def page_differences():
         row('add %s %s' % (data(a), data(b)), listed(hexed([x ^ y for x, y in zip(a, b)] + max(a, b, key=len)[min(len(a), len(b)):])))
 
 
+def fed_in_parts(sheet, level, widths):
+    word = [below(2) for _ in range(sum(widths))]
+    numbers('held (feedings %s (empty %d) (cut 0x%X %s))' % (named(sheet), level, number(word), as_list(widths)),
+            [level, len(word), number(divided(word, gen(sheet, level))[1])] + [0] * 11)
+
+
 def parts():
     table('cuts', 'A polynomial cut for feeding, highest power first: the parts\' widths, and the parts.', 'sum')
     word, widths = [below(2) for _ in range(15)], [3, 8, 4]
@@ -712,9 +775,7 @@ def parts():
     numbers('map (λ u. u .1) (%s)' % text, cut(word, widths))
     table('fedParts', 'The parts fed in turn from the empty register: level, count and words.', 'fed sum pow')
     for s, level, widths in [(B, 2, [7, 1, 7]), (TIGHT, 0, [4, 11])]:
-        word = [below(2) for _ in range(sum(widths))]
-        numbers('held (feedings %s (empty %d) (cut 0x%X %s))' % (named(s), level, number(word), as_list(widths)),
-                [level, len(word), number(divided(word, gen(s, level))[1])] + [0] * 11)
+        fed_in_parts(s, level, widths)
 
 
 def field_sums():
@@ -736,26 +797,51 @@ def writings():
         row('writer %s' % data(x), listed(hexed(writer(x))))
 
 
+def feedings(sheet, steps):
+    """What refuses each of some feedings: width, level, count, number."""
+    in_turn([call('feedRefusal', sheet, width, '(record { level = %d; count = %d; remainder = replicate 12 0 })' % (level, count), u) for width, level, count, u in steps],
+            [refusal(sheet, width=width, fed=u, register=(level, count, 0)) for width, level, count, u in steps])
+
+
 def huge_numbers():
     """Numbers that would not end if a range, a power or a list were made of them."""
     table('hugeNumbers', 'Huge numbers: sheets; a register, its width and what is fed; an index.', 'sheetRefusal feedRefusal wordRefusal')
-    sheets = [(U32, 2, 1, 1, 2, 0, 0), (4, U32, 1, 1, 2, 0, 0), (4, 2, U32, 1, 2, 0, 0), (4, 2, 1, 1, U32, 0, 0), (4, 2, 1, 1, 2, 0, U32), (12, 8, 3, 1, 2, 3, U32)]
+    sheets = [(U32, 2, 1, 1, 2, 0, 0, 0), (4, U32, 1, 1, 2, 0, 0, 0), (4, 2, U32, 1, 2, 0, 0, 0), (4, 2, 1, 1, U32, 0, 0, 0), (4, 2, 1, 1, 2, 0, U32, 0),
+              (12, 8, 3, 1, 2, 3, U32, 0)]
     numbers('map sheetRefusal %s' % as_list(map(named, sheets)), [refusal(s) for s in sheets])
     steps = [(U32, U32, U64, U64), (64, 0, U64, U64), (1, U32, 0, 1)]
-    numbers(as_list('feedRefusal A %d (record { level = %d; count = %d; remainder = replicate 12 0 }) %d' % step for step in steps)[1:-1],
-            [refusal(A, width=width, fed=u, register=(level, count, 0)) for width, level, count, u in steps])
+    feedings(A, steps)
     page = [0xC2, 0x01, 0x13, 0x00]
     alone('%s %d 0' % (call('remainderRefusal', A, page), U64), refusal(A, page=page, sub_word=U64, room=(0, lambda: 96)))
 
 
+def each(function, pages, answer):
+    numbers('map (%s) %s' % (function, as_list(map(data, pages))), map(answer, pages))
+
+
+def in_turn(terms, expected):
+    """A row of several terms."""
+    numbers(as_list(terms)[1:-1], expected)
+
+
+def old(size):
+    return '(replicate %d 0xA5)' % size
+
+
+def answered(number, leaves, answer):
+    row('%s ∷ %s' % (number, leaves), listed(answer[:1] + hexed(answer[1:])))
+
+
+def written(sheet, blocks):
+    size = page_bytes(sheet)
+    answered(call('writeRefusal', sheet, 8, blocks, size), call('writeLeaves', sheet, 8, blocks, old(size)), write(sheet, 8, blocks, [0xA5] * size))
+
+
+def read(sheet, page, size):
+    answered(call('readNumber', sheet, page, old(size)), call('readLeaves', sheet, page, old(size)), read_out(sheet, page, [0xA5] * size))
+
+
 def erased_pages():
-    def each(function, pages, answer):
-        numbers('map (%s) %s' % (function, as_list(map(data, pages))), map(answer, pages))
-
-    def answered(number, leaves, answer):
-        row('%s ∷ %s' % (number, leaves), listed(answer[:1] + hexed(answer[1:])))
-
-    old = lambda size: '(replicate %d 0xA5)' % size
     patterns = [erased(A, spare) for spare in tuples((0, 1), repeat=2)]
     clear, full = patterns[0], patterns[-1]
     near = [[flipped(A, x, (i, k)) for i in (0, 1) for k in (0, 6, 14)] for x in (clear, full)]
@@ -765,26 +851,25 @@ def erased_pages():
           'judgeNumber judgeValues pow')
     for pages in [patterns, *near, *half, [[0xFF] * size for size in (0, 3, 5, 6)]]:
         each('judgeNumber A', pages, lambda x: judged(A, x)[0])
-    byte, refused = (8, 2, 1, 1, 2, 0, 0), [(5, 2, 1, 1, 2, 0, 0), (4, 1, 1, 1, 2, 0, 0), (4, 2, 1, 2, 2, 0, 0), CLASH]
-    for given in [[(B, erased(B, (0, 1, 0))), (SMALL, erased(SMALL, (1, 0, 1)))], [(byte, [0xFF] * 64), (byte, [0xFE] + [0xFF] * 63)],
+    refused = [(5, 2, 1, 1, 2, 0, 0, 0), (4, 1, 1, 1, 2, 0, 0, 0), (4, 2, 1, 2, 2, 0, 0, 0), CLASH]
+    for given in [[(B, erased(B, (0, 1, 0))), (SMALL, erased(SMALL, (1, 0, 1)))], [(PAIR, [0xFF] * 64), (PAIR, [0xFE] + [0xFF] * 63)],
                   [(s, [0xFF] * (2 * s[1])) for s in refused]]:
-        numbers(as_list(call('judgeNumber', s, x) for s, x in given)[1:-1], [judged(s, x)[0] for s, x in given])
+        in_turn([call('judgeNumber', s, x) for s, x in given], [judged(s, x)[0] for s, x in given])
     for x in (full, near[0][5]):
         numbers(call('judgeValues', A, x), judged(A, x)[1:])
 
     table('erasedRead', 'Read out on them: the number and what it leaves.', 'readNumber readLeaves pow')
     for s, x, size in [*((A, x, 3) for x in patterns + [near[0][2], near[1][2]]), (B, erased(B, (0, 1, 0)), 4), (A, full, 2), (A, full[:-1], 3)]:
-        answered(call('readNumber', s, x, old(size)), call('readLeaves', s, x, old(size)), read_out(s, x, [0xA5] * size))
+        read(s, x, size)
 
     table('onesWritten', 'Write where every data bit is 1, or all but one: the number and what it leaves; 5, 6, 7 and 8 go before 13.',
           'writeRefusal pageOf writer pow')
     ones = all_ones(A)
     for s, blocks in [(A, ones), (A, all_but_one(A, 0, 0)), (A, all_but_one(A, 1, 10)), (A, [0xFF, 0xFF, 0x07]),
                       (B, all_ones(B)), (SMALL, all_ones(SMALL)), (SMALL, all_but_one(SMALL, 1, 0))]:
-        size = page_bytes(s)
-        answered(call('writeRefusal', s, 8, blocks, size), call('writeLeaves', s, 8, blocks, old(size)), write(s, 8, blocks, [0xA5] * size))
+        written(s, blocks)
     wrong = [(0, ones, 4), (8, ones[:-1], 4), (8, ones, 5)]
-    numbers(as_list(call('writeRefusal', A, *given) for given in wrong)[1:-1], [refusal(A, width, blocks, size) for width, blocks, size in wrong])
+    in_turn([call('writeRefusal', A, *given) for given in wrong], [refusal(A, width, blocks, size) for width, blocks, size in wrong])
     x = [4, 2, 1, 8, 1, 2] + ones
     row('writer %s' % data(x), listed(hexed(writer(x))))
 
@@ -800,7 +885,92 @@ def erased_pages():
     numbers(call('nestedSyndromeList', A, clear, 0), nested_syndrome_list(A, clear, 0))
 
 
-HEAD = '''-- Cases of our own, of definitions that no compiled call gives back, and of the calls on erased pages:
+def short_sheets():
+    table('shortSheets', 'Sheets with s: accepted up to n - w_v - 1, 14 above it, behind 1 to 4 and before every other number.',
+          'sheetRefusal writeRefusal judgeNumber readNumber wordRefusal openRefusal feedRefusal quoteRefusal')
+    edges = [shortened(s, k) for s in (A, B, SMALL, EIGHT, TWELVE) for k in (largest(s), largest(s) + 1)]
+    behind = [(5, 2, 1, 1, 2, 0, 0, U32), (4, 1, 1, 1, 2, 0, 0, U32), (4, 2, 1, 2, 2, 0, 0, U32), shortened(CLASH, U32), shortened(A, U32)]
+    for sheets in (edges, behind):
+        numbers('map sheetRefusal %s' % as_list(map(named, sheets)), [refusal(s) for s in sheets])
+    register, page = '(record { level = 9; count = 99; remainder = replicate 12 0 })', [0xFF] * 5
+    for s in (A6, shortened(A, 7)):
+        in_turn([call('writeRefusal', s, 0, page, 5), call('judgeNumber', s, page), call('readNumber', s, page, page), call('remainderRefusal', s, page, 9, 5),
+                 call('openRefusal', s, 9), call('feedRefusal', s, 0, register, 1), call('quoteRefusal', 1, s, 5)],
+                [refusal(s, width=0, blocks=page, page=5), judged(s, page)[0], read_out(s, page, page)[0], refusal(s, page=page, sub_word=9, room=(5, lambda: 96)),
+                 opened(s, 9)[0], fed(s, 0, (9, 99, 0), 1)[0], refusal(s, room=(5, lambda: 12))])
+
+
+def short_sizes():
+    table('shortSizes', 'Sizes by s: bytes of page and blocks where n - s passes a multiple of 8, where blocks begin, and the quote.',
+          'dataBytes blockOffset distance quote range')
+    steps = [0, 6, 7, 8, 230, 231]
+    for name, size in (('pageBytes', page_bytes), ('dataBytes', data_bytes)):
+        numbers('map (λ s. %s (sheet %s s)) %s' % (name, ' '.join(map(str, PAIR[:7])), as_list(steps)), [size(shortened(PAIR, s)) for s in steps])
+    s = shortened(EIGHT, 233)
+    numbers('map (blockOffset %s) (range 0 8)' % named(s), [sum(block_bytes(s)[:i]) for i in range(8)])
+    numbers('map distance %s' % as_list(map(named, SHORTENED)), [distance(s) for s in SHORTENED])
+    for s in (B4, s):
+        numbers('quote %s' % named(s), quote(s))
+
+
+def short_pages():
+    table('shortPlaces', 'Coefficients, bits of blocks and differences of pages, of sub-words that take three bytes and four.', 'blockOffset differences range')
+    x = some_page(PAIR24)
+    numbers('map (%s 1) (range 0 24)' % call('coefficientOf', PAIR24, x), words(PAIR24, x)[1][:24])
+    x = some_blocks(PAIR25)
+    numbers('map (%s 1) (range 0 17)' % call('blockBit', PAIR25, x), blocks_with_unused(PAIR25, x)[1][:17])
+    in_turn([call('differences', s, [0x00] * page_bytes(s), [0xFF] * page_bytes(s)) for s in (A3, PAIR24, PAIR25)],
+            [differences(s, [0x00] * page_bytes(s), [0xFF] * page_bytes(s)) for s in (A3, PAIR24, PAIR25)])
+
+    table('shortWritten', 'Write: the number and what it leaves; blocks of ones are written too.', 'writeRefusal pageOf pow')
+    for s, blocks in [*((s, some_blocks(s)) for s in (A3, DEEP4, PAIR24)), *((s, all_ones(s)) for s in (shortened(A, 1), B4)), (A3, [0x10, 0x00])]:
+        written(s, blocks)
+
+    table('shortJudged', 'Judge: members and words that fail; each spare bit; blank pages, their spare bits clear and set, and pages nearly so.', 'judgeNumber pow')
+    x, y = some_member(A3), some_member(B4)
+    strays = lambda s, x: [flipped(s, x, (i, k)) for i in range(s[1]) for k in range(stored(s), 8 * word_bytes(s))]
+    blanks = lambda s, *spare: [erased(s, [a, b]) for a, b in spare]
+    nearly = lambda s, spare: [flipped(s, erased(s, [spare] * s[1]), (i, k)) for i in range(s[1]) for k in (0, stored(s) - 1)]
+    for s, pages in [(A3, [x, flipped(A3, x, (0, 11)), flipped(A3, x, (1, 0)), page_failing_at(A3, 0), x[:-1], [0x00] * 4]),
+                     (B4, [y, *(page_failing_at(B4, l) for l in (0, 1))]), (A3, strays(A3, x) + [page_of_blocks(A, [0x40, 0x00, 0x04])]),
+                     (A6, strays(A6, [0x00] * 4)[7:]), (A3, blanks(A3, (0, 0), (0, 1), (8, 0), (15, 15)) + nearly(A3, 0) + nearly(A3, 15)),
+                     (PAIR24, blanks(PAIR24, (0, 0)) + nearly(PAIR24, 0) + [[0xFF] * size for size in (5, 7, 64)]),
+                     (PAIR25, blanks(PAIR25, (0, 0), (64, 1), (127, 127)) + nearly(PAIR25, 127))]:
+        each('judgeNumber %s' % named(s), pages, lambda x: judged(s, x)[0])
+
+    table('shortRead', 'Read out: the number and what it leaves.', 'readNumber readLeaves pow')
+    for s, page in [(A3, x), (A3, flipped(A3, x, (1, 11))), (A3, flipped(A3, x, (1, 12))), (A6, *blanks(A6, (64, 127))), (PAIR25, *blanks(PAIR25, (127, 0)))]:
+        read(s, page, data_bytes(s))
+
+
+def short_words():
+    table('shortWords', 'One word of a page: each spare bit; a nested word, where x^(l i) takes a coefficient past the stored ones and past n.',
+          'wordRefusal remainderBytes shortBytes nestedWordBytes syndromeList nestedSyndromeList pow')
+    x = some_page(A6)
+    each('λ x. %s' % call('syndromesRefusal', 1, A6, 'x', 0, 2), [x] + [flipped(A6, x, (0, k)) for k in range(9, 16)],
+         lambda x: refusal(A6, page=x, sub_word=0, room=(2, lambda: 2)))
+    page = some_page(PAIR24)
+    in_turn([call('nestedRefusal', PAIR24, page, 0, size) for size in (3, 32)], [refusal(PAIR24, page=page, nested_word=0, room=(size, lambda: nested_size(PAIR24))) for size in (3, 32)])
+    x = flipped(DEEP4, [0x00] * 10, (4, 10))
+    for l in (1, 2):
+        row(call('nestedWordBytes', DEEP4, x, l), listed(hexed(nested_bytes(DEEP4, x, l))))
+    x, long = some_page(DEEP4), (8, 3, 2, 1, 2, 2, 0, 231)
+    for s, page in [(DEEP4, x), (long, some_page(long))]:
+        row(call('nestedWordBytes', s, page, s[2] - 1), listed(hexed(nested_bytes(s, page, s[2] - 1))))
+    row(call('remainderBytes', DEEP4, x, 2), listed(hexed(remainder_bytes(DEEP4, x, 2))))
+    row(call('shortBytes', DEEP4, x, 1), listed(hexed(short_bytes(DEEP4, x, 1))))
+    numbers(call('syndromeList', DEEP4, x, 3), syndrome_list(DEEP4, x, 3))
+    numbers(call('nestedSyndromeList', DEEP4, x, 2), nested_syndrome_list(DEEP4, x, 2))
+
+
+def short_registers():
+    table('shortFed', 'Registers: fed up to n - s, and what refuses a feeding there and past it.', 'fed feedRefusal sum pow')
+    fed_in_parts(A3, 1, [5, 7])
+    feedings(A3, [(1, 0, 11, 1), (1, 0, 12, 1), (12, 0, 0, 0), (13, 0, 0, 0), (1, 0, 14, 1)])
+    feedings(PAIR24, [(24, 0, 0, 0), (25, 0, 0, 0), (64, 0, 191, 0)])
+
+
+HEAD = '''-- Cases of our own, of definitions that no compiled call gives back, and of the calls on erased pages and on shortened sheets:
 -- each row has what a definition gives and what an independent program says.
 -- Written by tools/cases.py, which works every number out by other means; see there. The calls' own cases are run: tools/trial.py.
 use mathlib.Core.Path.{_≡_, refl}
@@ -815,10 +985,11 @@ use Rattle.field.specs.Field.{pow}
 use Rattle.code.specs.Lists.{range, sum}
 use Rattle.code.specs.Parameters.{sheet, sheetRefusal}
 use Rattle.code.specs.Code.{carried, combine, distance, divisor, N, newton}
-use Rattle.code.specs.Layout.{blockOffset, wordsOf, pageOf, coefficientOf, blockBit, differences}
-use Rattle.code.specs.Refusals.{feedRefusal, writeRefusal, wordRefusal, remainderRefusal, nestedRefusal, syndromesRefusal}
-use Rattle.code.specs.Calls.{asBytes, empty, fed, judgeNumber, judgeValues, readNumber, readLeaves, writeLeaves}
-use Rattle.code.specs.Calls.{remainderBytes, nestedWordBytes, syndromeList, nestedSyndromeList}
+use Rattle.code.specs.Layout.{blockOffset, wordsOf, pageOf, pageBytes, dataBytes, coefficientOf, blockBit, differences}
+use Rattle.code.specs.Refusals.{writeRefusal, wordRefusal, remainderRefusal, nestedRefusal, syndromesRefusal}
+use Rattle.code.specs.Refusals.{openRefusal, feedRefusal, quoteRefusal}
+use Rattle.code.specs.Calls.{asBytes, empty, fed, judgeNumber, judgeValues, readNumber, readLeaves, writeLeaves, quote}
+use Rattle.code.specs.Calls.{remainderBytes, shortBytes, nestedWordBytes, syndromeList, nestedSyndromeList}
 use Rattle.code.specs.Registers.{cut, feedings}
 use Rattle.code.specs.Writer.{writer}
 use Rattle.cases.specs.Sheets.{Row, A, B, held}
@@ -835,7 +1006,8 @@ def printed():
 
 def main(words):
     self_test()
-    for part in (layouts, equal_form, divisors, page_differences, parts, field_sums, bytes_for_c, writings, huge_numbers, erased_pages):
+    for part in (layouts, equal_form, divisors, page_differences, parts, field_sums, bytes_for_c, writings, huge_numbers, erased_pages,
+                 short_sheets, short_sizes, short_pages, short_words, short_registers):
         part()
     if words == ['--check']:
         if (Path(__file__).resolve().parent.parent / OWN).read_text(encoding='utf-8') != printed():

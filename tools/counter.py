@@ -12,8 +12,8 @@ import trial  # gives cases its generators of the large field
 from cases import added, bits, data_bytes, degree, multiplied, number, page_bytes, powers, refusal, syndrome, word_bytes, words
 
 A, B, LARGE = trial.A, trial.B, trial.LARGE
-FIVE = (4, 5, 2, 1, 2, 2, 0)
-FOUR = (4, 4, 3, 1, 2, 2, 2)
+FIVE = (4, 5, 2, 1, 2, 2, 0, 0)
+FOUR = (4, 4, 3, 1, 2, 2, 2, 0)
 OLD = 0xAA
 
 
@@ -130,6 +130,14 @@ def dropped(sheet, ws, l):
     return number(out)
 
 
+def folded(sheet, ws, l):
+    """Nested word l with the stored places alone, what passes them returning at the bottom."""
+    out = []
+    for i, w in enumerate(ws):
+        out = added(out, cases.turned(w[:cases.stored(sheet)], l * i))
+    return number(out)
+
+
 def reduced(sheet, ws, l):
     """Nested word l with x^(l i) reduced by the field polynomial."""
     n, out = cases.length(sheet), []
@@ -140,10 +148,32 @@ def reduced(sheet, ws, l):
 
 # ---- the counter
 
-def counter():
+def large():
     assert [degree(LARGE, a) for a in range(4)] == [336, 384, 462, 690]
     assert (data_bytes(LARGE), page_bytes(LARGE), cases.distance(LARGE)) == (3695, 4096, 117)
-    measured(LARGE)
+    for s, code in ((0, 0), (1900, 0), (3404, 0), (3405, 14)):
+        sheet = cases.shortened(LARGE, s)
+        assert refusal(sheet) == code
+        measured(sheet)
+
+
+def shortened():
+    A3 = cases.A3
+    named(A3)
+    for page in ([0xFF, 0x0F, 0xFF, 0x0F], [0xFF, 0xFF, 0xFF, 0xFF]):
+        assert cases.judged(A3, page) == [cases.BLANK]
+        judge(A3, page)
+    blocks = read_out(A3, [0xFF, 0xFF, 0xFF, 0xFF], [OLD] * 2)
+    assert blocks == cases.all_ones(A3) == [0x0F, 0xFF]
+    page = write(A3, 8, blocks, [OLD] * 4)
+    assert cases.judged(A3, page) == [0]
+    judge(A3, page)
+    for page in ([0x00, 0x10, 0x00, 0x00], [0x00, 0x00, 0x00, 0x80]):
+        assert cases.judged(A3, page) == [8]
+        judge(A3, page)
+
+
+def counter():
     named(A)
     blocks, old = [0x01, 0x01, 0x00], [OLD] * 4
     for width, code in ((0, 5), (65, 5), (64, 0)):
@@ -204,6 +234,16 @@ def not_reduced():
     only(FOUR, 2, 3)
 
 
+def kept_places():
+    deep, page = cases.DEEP4, cases.flipped(cases.DEEP4, [0] * 10, (4, 10))
+    named(deep)
+    for l in (1, 2):
+        assert number(nested_word(deep, l, page)) != folded(deep, words(deep, page), l)
+    assert page_bytes(cases.PAIR24) == 6 != 2 * cases.nested_size(cases.PAIR24)
+    named(cases.PAIR24)
+    write(cases.PAIR24, 8, [0x01, 0x01, 0x00], [OLD] * 6)
+
+
 def cosets():
     assert degree(B, 2) == 10 != B[0] * B[5]
     measured(B)
@@ -211,10 +251,13 @@ def cosets():
 
 
 if __name__ == '__main__':
+    large()
+    shortened()
     counter()
     erased()
     added_by_powers()
     past_short()
     turned()
     not_reduced()
+    kept_places()
     cosets()

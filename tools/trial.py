@@ -13,25 +13,32 @@ from functools import lru_cache
 from pathlib import Path
 
 import cases
-from cases import A, ALIKE, B, DEEP, EIGHT, FIELD, LARGE, SMALL, TIGHT, WIDE, below, nesting, number, refusal, some_bytes, strength
+from cases import A, A3, ALIKE, B, B4, CLASH, DEEP, DEEP4, EIGHT, FIELD, LARGE, PAIR, PAIR24, SMALL, TIGHT, TWELVE, U32, WIDE
+from cases import below, exponents, largest, nesting, number, refusal, shortened, some_bytes, strength
 
 TEST, NESTING, GENERATORS, ELEMENTS, OPEN, FEED, REMAINDER, SHORT, NESTED, SYNDROMES, NESTED_SYNDROMES, JUDGE, READ_OUT, WRITE, QUOTE = range(15)
 WIDTHS = (1, 7, 8, 63, 64)
 
-BYTE = (8, 4, 2, 3, 5, 9, 0)
-FULL = (8, 5, 3, 2, 4, 6, 7)
-TWELVE = (12, 3, 2, 1, 2, 3, 0)
+BYTE = (8, 4, 2, 3, 5, 9, 0, 0)
+FULL = (8, 5, 3, 2, 4, 6, 7, 0)
 SHEETS = (A, B, ALIKE, WIDE, DEEP, TIGHT, SMALL, BYTE, FULL, EIGHT, LARGE)
-REFUSED = ((5, 2, 1, 1, 2, 0, 0), (0, 0, 0, 0, 0, 0, 0), (4, 2, 0, 1, 2, 0, 0), (8, 9, 1, 1, 2, 0, 0), (12, 3, 3, 1, 2, 3, 4),
-           (4, 2, 1, 2, 2, 0, 0), (4, 2, 1, 0, 2, 0, 0), (12, 8, 3, 28, 32, 39, 65), (4, 2, 1, 1, 2, 1, 0), (4, 6, 1, 1, 2, 0, 0),
-           (255, 2, 1, 1, 2, 0, 0), (4, 255, 1, 1, 2, 0, 0), (4, 2, 255, 1, 2, 0, 0), (4, 2, 1, 1, 255, 0, 0), (4, 4, 3, 1, 2, 2, 255), (255,) * 7)
-# The edges of the rules on a sheet: field, shape, strengths, clashes.
-EDGES = ((3, 9, 4, 0, 0, 0, 1), (16, 2, 1, 1, 2, 0, 0), (4, 1, 1, 1, 2, 0, 0), (4, 2, 2, 1, 2, 2, 0), (4, 3, 3, 1, 2, 2, 2), (4, 5, 4, 1, 2, 2, 2),
-         (4, 9, 1, 1, 2, 0, 0), (4, 8, 1, 1, 2, 0, 0), (4, 0, 0, 9, 9, 9, 9), (8, 8, 1, 1, 2, 0, 0), (4, 2, 1, 0, 1, 0, 0), (4, 2, 1, 1, 1, 0, 0),
-         (4, 2, 1, 2, 1, 0, 0), (4, 2, 1, 1, 2, 2, 0), (4, 2, 1, 1, 2, 0, 1), (4, 3, 2, 1, 2, 1, 0), (4, 3, 2, 1, 2, 2, 2), (4, 3, 2, 1, 2, 0, 0),
-         (4, 4, 3, 1, 2, 3, 2), (4, 4, 3, 1, 2, 2, 3), (4, 4, 3, 1, 1, 2, 2), (4, 2, 1, 6, 7, 0, 0), (4, 2, 1, 7, 8, 0, 0), (4, 3, 2, 6, 7, 8, 0),
-         (4, 4, 2, 1, 2, 3, 0), (4, 4, 1, 1, 2, 0, 0), (8, 2, 1, 1, 64, 0, 0), (8, 2, 1, 1, 65, 0, 0), (8, 4, 3, 1, 2, 3, 43), (8, 4, 3, 1, 2, 3, 42),
-         (12, 8, 3, 61, 62, 63, 64), (12, 8, 3, 61, 62, 63, 65), (12, 8, 3, 61, 61, 63, 64), (12, 8, 3, 0, 62, 63, 64))
+# Shortened by a few coefficients, by half of them, and by nearly all; n - s a multiple of 8, and one off it.
+SHORTENED = (A3, B4, PAIR24, shortened(BYTE, 6), shortened(TWELVE, 1903))
+WHOLE_REFUSED = (
+    (5, 2, 1, 1, 2, 0, 0), (0, 0, 0, 0, 0, 0, 0), (4, 2, 0, 1, 2, 0, 0), (8, 9, 1, 1, 2, 0, 0), (12, 3, 3, 1, 2, 3, 4),
+    (4, 2, 1, 2, 2, 0, 0), (4, 2, 1, 0, 2, 0, 0), (12, 8, 3, 28, 32, 39, 65), (4, 2, 1, 1, 2, 1, 0), (4, 6, 1, 1, 2, 0, 0),
+    (255, 2, 1, 1, 2, 0, 0), (4, 255, 1, 1, 2, 0, 0), (4, 2, 255, 1, 2, 0, 0), (4, 2, 1, 1, 255, 0, 0), (4, 4, 3, 1, 2, 2, 255), (255,) * 7)
+REFUSED = tuple((*s, 0) for s in WHOLE_REFUSED) + ((255,) * 7 + (U32,), shortened(CLASH, U32), shortened(A, 7), shortened(A, U32), shortened(LARGE, 3405))
+# The edges of the rules on a sheet: field, shape, strengths, clashes; and, of s, with numbers that are small in their lowest byte or two.
+WHOLE_EDGES = (
+    (3, 9, 4, 0, 0, 0, 1), (16, 2, 1, 1, 2, 0, 0), (4, 1, 1, 1, 2, 0, 0), (4, 2, 2, 1, 2, 2, 0), (4, 3, 3, 1, 2, 2, 2), (4, 5, 4, 1, 2, 2, 2),
+    (4, 9, 1, 1, 2, 0, 0), (4, 8, 1, 1, 2, 0, 0), (4, 0, 0, 9, 9, 9, 9), (8, 8, 1, 1, 2, 0, 0), (4, 2, 1, 0, 1, 0, 0), (4, 2, 1, 1, 1, 0, 0),
+    (4, 2, 1, 2, 1, 0, 0), (4, 2, 1, 1, 2, 2, 0), (4, 2, 1, 1, 2, 0, 1), (4, 3, 2, 1, 2, 1, 0), (4, 3, 2, 1, 2, 2, 2), (4, 3, 2, 1, 2, 0, 0),
+    (4, 4, 3, 1, 2, 3, 2), (4, 4, 3, 1, 2, 2, 3), (4, 4, 3, 1, 1, 2, 2), (4, 2, 1, 6, 7, 0, 0), (4, 2, 1, 7, 8, 0, 0), (4, 3, 2, 6, 7, 8, 0),
+    (4, 4, 2, 1, 2, 3, 0), (4, 4, 1, 1, 2, 0, 0), (8, 2, 1, 1, 64, 0, 0), (8, 2, 1, 1, 65, 0, 0), (8, 4, 3, 1, 2, 3, 43), (8, 4, 3, 1, 2, 3, 42),
+    (12, 8, 3, 61, 62, 63, 64), (12, 8, 3, 61, 62, 63, 65), (12, 8, 3, 61, 61, 63, 64), (12, 8, 3, 0, 62, 63, 64))
+EDGES = tuple((*s, 0) for s in WHOLE_EDGES) + tuple(shortened(s, k) for s, k in (
+    (A, 1), (A, 6), (B, 5), (SMALL, 1), (A, 256), (A, 65536), (A, 2 ** 24 + 3), (A, 2 ** 31), (EIGHT, 238), (EIGHT, 239), (LARGE, 1900), (LARGE, 3404), (LARGE, 65536)))
 
 
 # ---- the field by shifts, generators by their roots
@@ -65,15 +72,9 @@ def alphas(q):
 
 
 @lru_cache(None)
-def roots(q, t):
-    """The exponents of the roots: the different values of j 2^k modulo n."""
-    return {j * 2 ** k % (2 ** q - 1) for j in range(1, 2 * t + 1) for k in range(q)}
-
-
-@lru_cache(None)
 def generator(q, t):
     out = [1]
-    for s in sorted(roots(q, t)):
+    for s in sorted(exponents(q, t)):
         root = alphas(q)[s]
         out = [(out[k - 1] if k else 0) ^ (product(q, root, out[k]) if k < len(out) else 0) for k in range(len(out) + 1)]
     assert set(out) <= {0, 1}
@@ -84,13 +85,14 @@ small = cases.generator
 for q, t in ((4, 1), (4, 2), (4, 3), (8, 1), (8, 2)):
     assert generator(q, t) == small(q, t)
 cases.generator = generator
-cases.degree = lambda sheet, a: len(roots(sheet[0], strength(sheet, a)))
 
 
 # ---- the elimination: a unit at place k of sub-word i gives alpha^(j k) there, and alpha^(j (k + l i)) in nested word l
 
-def solved(sheet, ws, unknown, nested_words, free):
-    q, m, v, *t = sheet
+@lru_cache(None)
+def columns(sheet, unknown, nested_words):
+    """The reduced columns of the unknown places, by their leading bits, and the places that each flips."""
+    q, m, v, *t, s = sheet
     alpha = cases.powers(q)
     part = lambda k, count: sum(alpha[j * k % len(alpha)] << q * (j - 1) for j in range(1, count + 1))
     starts, at = {}, 2 * t[0] * m
@@ -107,6 +109,11 @@ def solved(sheet, ws, unknown, nested_words, free):
             value, flips = value ^ other, flips ^ more
         assert value, 'more than one page'
         basis[value.bit_length()] = value, flips
+    return basis
+
+
+def solved(sheet, ws, unknown, nested_words, free):
+    basis = columns(shortened(sheet, 0), tuple(unknown), tuple(nested_words))
     rest, flips = cases.conditions(sheet, ws, nested_words), 0
     while rest:
         other, more = basis[rest.bit_length()]
@@ -139,7 +146,7 @@ def le(x, size=8):
 
 
 def record(call, sheet, answer, i=0, l=0, width=0, page=(), size=0, u=0, count=0):
-    given.extend(bytes([call, *sheet, i, l, width, 0]) + le(len(page), 2) + le(size, 2) + le(u) + le(count) + bytes(page))
+    given.extend(bytes([call, *sheet[:7], i, l, width, 0]) + le(len(page), 2) + le(size, 2) + le(u) + le(count) + le(sheet[7], 4) + bytes(page))
     expected.extend(answer)
     seen[call].add(answer[0])
 
@@ -148,20 +155,28 @@ def words(xs):
     return b''.join(le(x) for x in xs)
 
 
+def strengths():
+    """A sheet for each strength of the large fields."""
+    return [(q, 2, 1, t, t + 1, 0, 0, 0) for q in (8, 12) for t in range(1, 64)]
+
+
 def tests():
     def test(s):
         code = refusal(s)
         record(TEST, s, le(code, 1) + (words(s) if code == 0 else b''))
         return code
 
-    for s in SHEETS + REFUSED + EDGES:
+    for s in SHEETS + SHORTENED + REFUSED + EDGES:
         code = test(s)
         rows = [number(cases.gen(s, a)) if code == 0 and a <= s[2] else 0 for a in range(4)]
         record(GENERATORS, s, le(code, 1) + b''.join(le(g, 104) for g in rows))
     every = cases.every()
     assert len(every) == 104
-    for s in every + [(4, m, 1, t0, t1, 0, 0) for m in (2, 3, 4, 6) for t0 in range(9) for t1 in range(9)]:
+    for s in every + [(4, m, 1, t0, t1, 0, 0, 0) for m in (2, 3, 4, 6) for t0 in range(9) for t1 in range(9)]:
         test(s)
+    # the largest s of every other strength, and one more
+    for s in strengths()[::2]:
+        assert [test(shortened(s, largest(s) + k)) for k in (0, 1)] == [0, 14]
 
 
 def quotes():
@@ -172,14 +187,17 @@ def quotes():
     for s in SHEETS + REFUSED + EDGES:
         for size in (12, 0, 4, 11, 13, 24):
             quote(s, size)
+    for s in SHORTENED:
+        for size in (12, 11):
+            quote(s, size)
     for s in cases.every():
+        for k in range(largest(s) + 1):
+            quote(shortened(s, k), 12)
+    # t 16 and 17 of q 8 have one degree
+    assert len(exponents(8, 16)) == len(exponents(8, 17))
+    for s in strengths():
         quote(s, 12)
-    # every strength of the large fields; t 16 and 17 of q 8 have one degree
-    assert len(roots(8, 16)) == len(roots(8, 17))
-    for q in (8, 12):
-        for t in range(1, 64):
-            quote((q, 2, 1, t, t + 1, 0, 0), 12)
-    assert seen[QUOTE] == {0, 1, 2, 3, 4, 10}
+    assert seen[QUOTE] == {0, 1, 2, 3, 4, 10, 14}
 
 
 def nestings():
@@ -192,7 +210,7 @@ def nestings():
 
 def elements():
     for q in (0, 3, 5, 16, 255):
-        record(ELEMENTS, (q, 0, 0, 0, 0, 0, 0), le(1, 1), u=1, count=1)
+        record(ELEMENTS, (q, 0, 0, 0, 0, 0, 0, 0), le(1, 1), u=1, count=1)
     for q in (4, 8, 12):
         size = 2 ** q
         pairs = [(0, 0), (1, size - 1), (size - 1, size - 1), (0, 7), (size, 1), (1, size), (65535, 65535)]
@@ -200,7 +218,7 @@ def elements():
             for k in (0, 1, below(256)):
                 made = lambda ok, x: b'\0' + le(x) if ok else le(8, 1)
                 both = a < size and b < size
-                record(ELEMENTS, (q, 0, 0, 0, 0, 0, 0),
+                record(ELEMENTS, (q, 0, 0, 0, 0, 0, 0, 0),
                        made(both, a ^ b) + made(both, both and product(q, a, b)) + made(a < size, a < size and power(q, a, k)) + made(True, power(q, 2, k)),
                        width=k, u=a, count=b)
 
@@ -211,17 +229,17 @@ def shown(code, register):
 
 
 def registers():
-    for s in SHEETS + REFUSED:
+    for s in SHEETS + SHORTENED + REFUSED:
         for level in (0, 1, 2, 3, 4, 255):
             record(OPEN, s, shown(*cases.opened(s, level)), i=level)
     def feed(s, width, register, u):
         step = cases.fed(s, width, register, u)
         record(FEED, s, shown(*step), i=register[0], width=width, page=le(register[2], 96), u=u, count=register[1])
         return step[1]
-    for s in SHEETS:
-        n = 2 ** s[0] - 1
+    for s in SHEETS + SHORTENED:
+        n = cases.stored(s)
         for width in WIDTHS:
-            for level in range(s[2] + 1):
+            for level in range(s[2] + 1) if s in SHEETS else [s[2]]:
                 register = (level, 0, 0)
                 for _ in range(min(n // width, 14) + 1):
                     register = feed(s, width, register, below(2 ** 32) * 2 ** 32 % 2 ** width | below(2 ** min(width, 32)))
@@ -242,8 +260,8 @@ def registers():
         feed(A, width, register, u)
     for width, register, u in ((5, (2, 4, 0x3FF), 0x1F), (5, (2, 4, 0x400), 0x1F), (5, (3, 4, 0), 0)):
         feed(B, width, register, u)
-    for s in ((8, 2, 1, 1, 2, 0, 0), (12, 2, 1, 1, 2, 0, 0)):
-        for count in (2 ** s[0] - 64, 2 ** s[0] - 65):
+    for s in (PAIR, (12, 2, 1, 1, 2, 0, 0, 0), shortened(PAIR, 100), (12, 2, 1, 1, 2, 0, 0, 2049)):
+        for count in (cases.stored(s) - 63, cases.stored(s) - 64):
             feed(s, 64, (0, count, 0), 0)
     # opened with sheet B and fed with another
     for level in (1, 2):
@@ -252,9 +270,20 @@ def registers():
             feed(s, 8, register, 0x99)
 
 
+def all_spare(s):
+    """All spare bits of a sub-word, as a number."""
+    return 2 ** cases.spare_bits(s) - 1
+
+
+def ends_of_spare(s):
+    """The places of the lowest and the highest spare bit; none where there is none."""
+    first, end = cases.stored(s), 8 * cases.word_bytes(s)
+    return sorted({first, end - 1}) if first < end else []
+
+
 def one_word():
     calls = ((REMAINDER, 'sub_word', lambda s, l: 96, cases.remainder_bytes, 1), (SHORT, 'nested_word', lambda s, l: 96, cases.short_bytes, 1),
-             (NESTED, 'nested_word', lambda s, l: cases.word_bytes(s), cases.nested_bytes, 1), (SYNDROMES, 'sub_word', lambda s, l: 2 * strength(s, 0), cases.syndrome_list, 2),
+             (NESTED, 'nested_word', lambda s, l: cases.nested_size(s), cases.nested_bytes, 1), (SYNDROMES, 'sub_word', lambda s, l: 2 * strength(s, 0), cases.syndrome_list, 2),
              (NESTED_SYNDROMES, 'nested_word', lambda s, l: 2 * strength(s, s[2] - l), cases.nested_syndrome_list, 2))
 
     def each(s, page, i, wrong):
@@ -265,11 +294,11 @@ def one_word():
             out = answer(s, page, i) if code == 0 else [(165, 42405)[unit - 1]] * size
             record(call, s, le(code, 1) + b''.join(le(x, unit) for x in out), i=i, page=page, size=size)
 
-    for s in SHEETS:
+    for s in SHEETS + SHORTENED:
         size, small = cases.word_bytes(s), s[0] < 12
         page = some_bytes(s[1] * size)
         for i in range(s[1]):
-            page[(i + 1) * size - 1] &= 127
+            page[(i + 1) * size - 1] &= 255 >> cases.spare_bits(s)
         for i in (0, 1, s[2] - 1, s[2], s[1] - 1, s[1], 255):
             each(s, page, i, 0)
         each(s, page, 0, 1)
@@ -277,19 +306,20 @@ def one_word():
         each(s, page, 255, 1)
         each(s, page[:-1], 0, 0)
         each(s, page + [0], 255, 1)
+        spoiled = page
         for i in range(s[1]) if small else (0, s[1] - 1):
-            spoiled = list(page)
-            spoiled[(i + 1) * size - 1] |= 128
-            each(s, spoiled, 0, 0)
+            for k in ends_of_spare(s):
+                spoiled = cases.flipped(s, page, (i, k))
+                each(s, spoiled, 0, 0)
         each(s, [0] * (s[1] * size), 0, 0)
         # an erased page is a page like any other here
-        for spare in (0, 1):
+        for spare in sorted({0, all_spare(s)}):
             each(s, cases.erased(s, [spare] * s[1]), 0, 0)
         if small:
             each(s, page, s[2] - 1, 1)
             each(s, page[:-1], 255, -1)
             each(s, spoiled, 255, -1)
-            top = cases.page_of_words(s, [[0] * (cases.length(s) - 1) + [1]] * s[1])
+            top = cases.flipped(s, [0] * (s[1] * size), *[(i, cases.stored(s) - 1) for i in range(s[1])])
             for l in range(s[2]):
                 each(s, top, l, 0)
     for s in REFUSED:
@@ -313,8 +343,8 @@ def write(s, width, blocks, size):
 def pages():
     # multiples of g_0, added to the first sub-words, that nested words below l do not show
     nests = ([[1]], [[1], [1]], [[0, 1], [1, 1], [1]])
-    for s in SHEETS:
-        n, m = cases.length(s), s[1]
+    for s in SHEETS + SHORTENED:
+        n, m = cases.stored(s), s[1]
         few = range(m) if s[0] < 12 else (0, m - 1)
         size, room = cases.data_bytes(s), cases.page_bytes(s)
         blocks = cases.some_blocks(s)
@@ -333,7 +363,8 @@ def pages():
         judge_and_read(s, cases.some_page(s), size)
         for i in few:
             judge_and_read(s, cases.flipped(s, page, (i, below(n))), size)
-            judge_and_read(s, cases.flipped(s, page, (i, n)), size)
+            for k in ends_of_spare(s):
+                judge_and_read(s, cases.flipped(s, page, (i, k)), size)
         for nest in nests[:s[2]]:
             ws = cases.words(s, page)
             for i, f in enumerate(nest):
@@ -342,7 +373,7 @@ def pages():
         for x, k in ((page[:-1], size), (page + [0], size), (page, size - 1), (page, size + 1), ([255] * room, size + 1), ([255] * (room + 1), size)):
             judge_and_read(s, x, k)
     # a single bit in each block; each unused bit; every pair of a wrong length and a stray bit
-    for s in (A, B, WIDE, DEEP, TIGHT, SMALL):
+    for s in (A, B, WIDE, DEEP, TIGHT, SMALL, DEEP4):
         size, room = cases.data_bytes(s), cases.page_bytes(s)
         ends = [sum(cases.block_bytes(s)[:i + 1]) for i in range(s[1])]
         for i, (b, end) in enumerate(zip(cases.block_bits(s), ends)):
@@ -362,10 +393,10 @@ def pages():
 
 def blanks():
     """Erased pages with spare bits clear, set and mixed, blocks of ones, and both with a 0 in them."""
-    for s in SHEETS[:-1] + (TWELVE,):
-        n, m = cases.length(s), s[1]
+    for s in SHEETS[:-1] + (TWELVE,) + SHORTENED:
+        n, m = cases.stored(s), s[1]
         size, room = cases.data_bytes(s), cases.page_bytes(s)
-        clear, full, mixed = [cases.erased(s, [spare >> i & 1 for i in range(m)]) for spare in (0, 255, 0x55)]
+        clear, full, mixed = [cases.erased(s, [all_spare(s) * (spare >> i & 1) for i in range(m)]) for spare in (0, 255, 0x55)]
         for x in (clear, full, mixed):
             judge_and_read(s, x, size)
         for x, k in ((full[:-1], size), (full + [255], size), (full, size - 1), (full[:-1], size - 1)):
@@ -387,7 +418,17 @@ def blanks():
         write(s, 8, cases.all_ones(s), cases.page_bytes(s))
     for s in REFUSED:
         judge_and_read(s, [255] * 16, 5)
-    assert seen[JUDGE] == {0, 1, 2, 3, 4, 7, 8, 32, 64, 96} and seen[READ_OUT] == seen[JUDGE] | {6} and seen[WRITE] == {*range(9), 13}
+
+
+def shortened_pages():
+    """Every s of the sheets of q = 4, and some of larger ones: blocks of ones are written, their page is a member, and an erased page blank."""
+    large = [shortened(TWELVE, largest(TWELVE))] + [shortened(LARGE, k) for k in (1900, largest(LARGE))]
+    for s in [shortened(s, k) for s in cases.every() for k in range(1, largest(s) + 1)] + large:
+        ones, spare = cases.all_ones(s), [below(all_spare(s) + 1) for _ in range(s[1])]
+        write(s, 8, ones, cases.page_bytes(s))
+        for x, answer in ((cases.page_of_blocks(s, ones), 0), (cases.erased(s, spare), cases.BLANK)):
+            assert cases.verdict(s, x) == answer
+            judge_and_read(s, x, len(ones))
 
 
 if __name__ == '__main__':
@@ -399,6 +440,8 @@ if __name__ == '__main__':
     one_word()
     pages()
     blanks()
+    shortened_pages()
+    assert seen[JUDGE] == {0, 1, 2, 3, 4, 7, 8, 14, 32, 64, 96} and seen[READ_OUT] == seen[JUDGE] | {6} and seen[WRITE] == {*range(9), 13, 14}
     room = Path(sys.argv[1])
     (room / 'stdin').write_bytes(given)
     (room / 'stdout').write_bytes(expected)

@@ -14,14 +14,15 @@ import time
 from cases import A, B, CLASH, SMALL, all_but_one, all_ones, block_bits, block_bytes, data_bytes, some_blocks, writer
 from trial import BYTE                     # it gives cases the generators of the large fields
 
-DEEP = (12, 4, 3, 1, 2, 2, 3)
-LARGEST = (12, 8, 1, 1, 2, 0, 0)
+DEEP = (12, 4, 3, 1, 2, 2, 3, 0)
+LARGEST = (12, 8, 1, 1, 2, 0, 0, 0)
 LONGEST = 4092                             # bytes of the longest accepted input
 SECONDS = 60
 
 
 def given(sheet, width, blocks):
-    q, m, v, *t = sheet
+    q, m, v, *t, s = sheet
+    assert s == 0
     return [q, m, v, width] + t[:v + 1] + blocks
 
 

@@ -1,4 +1,4 @@
--- The theorems' hypotheses hold of something, and four statements that go further than the theorems are false. All by computation.
+-- The theorems' hypotheses hold of something, and five statements that go further than the theorems are false. All by computation.
 use mathlib.Core.Path.{_≡_, refl, sym, ap, _∙_}
 use mathlib.Core.Logic.{_≢_}
 use mathlib.Core.List.{List, [], _∷_}
@@ -12,12 +12,13 @@ use Rattle.polynomial.specs.Division.{rem}
 use Rattle.polynomial.specs.Multiple.{Multiple}
 use Rattle.polynomial.specs.Xor.{xor}
 use Rattle.field.specs.Field.{pow}
+use Rattle.code.specs.declared.Parameters.{Parameters}
 use Rattle.code.specs.declared.Verdict.{Verdict}
 use Rattle.code.specs.Accepted.{accepted}
 use Rattle.code.specs.Blank.{blank-iff}
 use Rattle.code.specs.Parameters.{Accepted, sheetRefusal, sheet}
 use Rattle.code.specs.Code.{gen, degree, remainder, nested, combine, N, newton, IsMember, distance, verdict}
-use Rattle.code.specs.Layout.{dataBytes, blocksClear, pageClear, pageOf, blank, wordsOf, Fits, IsBlank, IsPage, Bytes, differences}
+use Rattle.code.specs.Layout.{dataBytes, pageBytes, blocksClear, blocksFull, pageClear, pageOf, blank, wordsOf, Fits, IsBlank, IsPage, Bytes, differences}
 use Rattle.code.specs.Calls.{judgeAnswer, verdictNumber}
 use Rattle.code.specs.Refusals.{writeRefusal}
 use Rattle.cases.specs.Sheets.{A, B}
@@ -34,9 +35,17 @@ unfolding sheetRefusal
 accepted-B = refl
 
 -- one of q = 8, with the most sub-words and nested words
-pub accepted-8 : Accepted (sheet 8 8 3 1 2 2 2)
+pub accepted-8 : Accepted (sheet 8 8 3 1 2 2 2 0)
 unfolding sheetRefusal
 accepted-8 = refl
+
+-- sheet A with the largest s
+abbrev short : Parameters
+short = sheet 4 2 1 1 2 0 0 6
+
+pub accepted-short : Accepted short
+unfolding sheetRefusal
+accepted-short = refl
 
 -- ---- blocks and pages
 -- blocks that fit
@@ -150,6 +159,31 @@ ones-refused = refl
 
 pub not-always : ((a : List ℕ) → Fits A a → writeRefusal A 8 a 4 ≡ 0) → ⊥
 not-always h = let z : _≡_ {A = ℕ} 13 0 = sym ones-refused ∙ h (0x7F ∷ 0xFF ∷ 0x07 ∷ []) fits-ones in omega arith
+
+-- ---- shortened pages
+-- every stored coefficient is 1, the spare bits clear and set: blank
+short-ones : T (blank short (0xFF ∷ 0x01 ∷ 0xFF ∷ 0xFF ∷ []))
+unfolding blank
+short-ones = tt
+
+pub short-blank : IsBlank short (0xFF ∷ 0x01 ∷ 0xFF ∷ 0xFF ∷ [])
+short-blank =
+    blank-iff short (accepted short accepted-short) (0xFF ∷ 0x01 ∷ 0xFF ∷ 0xFF ∷ []) (lit< tt, (lit< tt, (lit< tt, (lit< tt, tt)))) .0 short-ones
+
+-- blocks of ones fit, and are written
+pub fits-short : Fits short (0x01 ∷ 0x1F ∷ [])
+unfolding dataBytes blocksClear
+fits-short = record { bytes = (lit< tt, (lit< tt, tt)); exact = refl; clear = tt }
+
+short-written : writeRefusal short 8 (0x01 ∷ 0x1F ∷ []) 4 ≡ 0
+unfolding writeRefusal pow
+short-written = refl
+
+-- so that blocks of ones are refused at every s is false
+pub not-at-every-s :
+    ((p : Parameters) (a : List ℕ) → Accepted p → Fits p a → T (blocksFull p a) → writeRefusal p 8 a (pageBytes p) ≡ 13) → ⊥
+unfolding blocksFull
+not-at-every-s h = let z : _≡_ {A = ℕ} 0 13 = sym short-written ∙ h short (0x01 ∷ 0x1F ∷ []) accepted-short fits-short tt in omega arith
 
 -- ---- the equal form holds as a whole only: sheet B, page 13 00 00 00 00 00
 abbrev words-13 : List ℕ

@@ -1,4 +1,4 @@
--- Cases of our own, of definitions that no compiled call gives back, and of the calls on erased pages:
+-- Cases of our own, of definitions that no compiled call gives back, and of the calls on erased pages and on shortened sheets:
 -- each row has what a definition gives and what an independent program says.
 -- Written by tools/cases.py, which works every number out by other means; see there. The calls' own cases are run: tools/trial.py.
 use mathlib.Core.Path.{_≡_, refl}
@@ -13,10 +13,11 @@ use Rattle.field.specs.Field.{pow}
 use Rattle.code.specs.Lists.{range, sum}
 use Rattle.code.specs.Parameters.{sheet, sheetRefusal}
 use Rattle.code.specs.Code.{carried, combine, distance, divisor, N, newton}
-use Rattle.code.specs.Layout.{blockOffset, wordsOf, pageOf, coefficientOf, blockBit, differences}
-use Rattle.code.specs.Refusals.{feedRefusal, writeRefusal, wordRefusal, remainderRefusal, nestedRefusal, syndromesRefusal}
-use Rattle.code.specs.Calls.{asBytes, empty, fed, judgeNumber, judgeValues, readNumber, readLeaves, writeLeaves}
-use Rattle.code.specs.Calls.{remainderBytes, nestedWordBytes, syndromeList, nestedSyndromeList}
+use Rattle.code.specs.Layout.{blockOffset, wordsOf, pageOf, pageBytes, dataBytes, coefficientOf, blockBit, differences}
+use Rattle.code.specs.Refusals.{writeRefusal, wordRefusal, remainderRefusal, nestedRefusal, syndromesRefusal}
+use Rattle.code.specs.Refusals.{openRefusal, feedRefusal, quoteRefusal}
+use Rattle.code.specs.Calls.{asBytes, empty, fed, judgeNumber, judgeValues, readNumber, readLeaves, writeLeaves, quote}
+use Rattle.code.specs.Calls.{remainderBytes, shortBytes, nestedWordBytes, syndromeList, nestedSyndromeList}
 use Rattle.code.specs.Registers.{cut, feedings}
 use Rattle.code.specs.Writer.{writer}
 use Rattle.cases.specs.Sheets.{Row, A, B, held}
@@ -26,8 +27,8 @@ pub offsets : List Row
 offsets =
     (map (blockOffset A) (range 0 2), 0 ∷ 1 ∷ [])
     ∷ (map (blockOffset B) (range 0 3), 0 ∷ 1 ∷ 2 ∷ [])
-    ∷ (map (blockOffset (sheet 4 3 2 2 5 7 0)) (range 0 3), 0 ∷ 1 ∷ 2 ∷ [])
-    ∷ (map (blockOffset (sheet 8 8 3 1 2 2 2)) (range 0 8), 0 ∷ 30 ∷ 60 ∷ 90 ∷ 121 ∷ 152 ∷ 183 ∷ 214 ∷ [])
+    ∷ (map (blockOffset (sheet 4 3 2 2 5 7 0 0)) (range 0 3), 0 ∷ 1 ∷ 2 ∷ [])
+    ∷ (map (blockOffset (sheet 8 8 3 1 2 2 2 0)) (range 0 8), 0 ∷ 30 ∷ 60 ∷ 90 ∷ 121 ∷ 152 ∷ 183 ∷ 214 ∷ [])
     ∷ []
 
 pub offsets-hold : map (λ r. r .0) offsets ≡ map (λ r. r .1) offsets
@@ -43,12 +44,12 @@ placedBits =
       1 ∷ 0 ∷ 1 ∷ 0 ∷ 1 ∷ 1 ∷ 1 ∷ 0 ∷ 1 ∷ 0 ∷ 0 ∷ 0 ∷ 1 ∷ 1 ∷ 1 ∷ [],
     )
     ∷ (
-      map (coefficientOf (sheet 4 5 2 1 2 2 0) (0x03 ∷ 0x03 ∷ 0x6B ∷ 0x02 ∷ 0x35 ∷ 0x07 ∷ 0x05 ∷ 0x72 ∷ 0xC7 ∷ 0x0B ∷ []) 4) (range 0 15),
+      map (coefficientOf (sheet 4 5 2 1 2 2 0 0) (0x03 ∷ 0x03 ∷ 0x6B ∷ 0x02 ∷ 0x35 ∷ 0x07 ∷ 0x05 ∷ 0x72 ∷ 0xC7 ∷ 0x0B ∷ []) 4) (range 0 15),
       1 ∷ 1 ∷ 1 ∷ 0 ∷ 0 ∷ 0 ∷ 1 ∷ 1 ∷ 1 ∷ 1 ∷ 0 ∷ 1 ∷ 0 ∷ 0 ∷ 0 ∷ [],
     )
     ∷ (map (blockBit A (0x0C ∷ 0xC1 ∷ 0x04 ∷ []) 1) (range 0 11), 1 ∷ 0 ∷ 0 ∷ 0 ∷ 0 ∷ 0 ∷ 1 ∷ 1 ∷ 0 ∷ 0 ∷ 1 ∷ [])
     ∷ (map (blockBit B (0x19 ∷ 0x53 ∷ 0xB9 ∷ 0x05 ∷ []) 2) (range 0 11), 1 ∷ 0 ∷ 0 ∷ 1 ∷ 1 ∷ 1 ∷ 0 ∷ 1 ∷ 1 ∷ 0 ∷ 1 ∷ [])
-    ∷ (map (blockBit (sheet 4 3 2 2 5 7 0) (0x01 ∷ 0x00 ∷ 0x55 ∷ []) 1) (range 0 1), 0 ∷ [])
+    ∷ (map (blockBit (sheet 4 3 2 2 5 7 0 0) (0x01 ∷ 0x00 ∷ 0x55 ∷ []) 1) (range 0 1), 0 ∷ [])
     ∷ []
 
 pub placedBits-hold : map (λ r. r .0) placedBits ≡ map (λ r. r .1) placedBits
@@ -73,11 +74,11 @@ newtonSums =
     ∷ (newton 0 (wordsOf B (0x3F ∷ 0x38 ∷ 0x28 ∷ 0x62 ∷ 0xB6 ∷ 0x3E ∷ [])) ∷ [], 25761 ∷ [])
     ∷ (newton 1 (wordsOf B (0x5E ∷ 0x41 ∷ 0xC2 ∷ 0x3C ∷ 0x1A ∷ 0x27 ∷ [])) ∷ [], 21996 ∷ [])
     ∷ (
-      newton 1 (wordsOf (sheet 4 5 2 1 2 2 0) (0x7C ∷ 0x3F ∷ 0xA1 ∷ 0x73 ∷ 0x55 ∷ 0x72 ∷ 0x78 ∷ 0x4A ∷ 0x3E ∷ 0x1C ∷ [])) ∷ [],
+      newton 1 (wordsOf (sheet 4 5 2 1 2 2 0 0) (0x7C ∷ 0x3F ∷ 0xA1 ∷ 0x73 ∷ 0x55 ∷ 0x72 ∷ 0x78 ∷ 0x4A ∷ 0x3E ∷ 0x1C ∷ [])) ∷ [],
       108412 ∷ [],
     )
     ∷ (
-      newton 2 (wordsOf (sheet 4 5 3 1 2 2 2) (0x88 ∷ 0x48 ∷ 0xA0 ∷ 0x23 ∷ 0x53 ∷ 0x27 ∷ 0x59 ∷ 0x68 ∷ 0x33 ∷ 0x6C ∷ [])) ∷ [],
+      newton 2 (wordsOf (sheet 4 5 3 1 2 2 2 0) (0x88 ∷ 0x48 ∷ 0xA0 ∷ 0x23 ∷ 0x53 ∷ 0x27 ∷ 0x59 ∷ 0x68 ∷ 0x33 ∷ 0x6C ∷ [])) ∷ [],
       272417 ∷ [],
     )
     ∷ []
@@ -92,11 +93,13 @@ carries =
     (carried 1 0 (drop 1 (wordsOf A (0x46 ∷ 0x31 ∷ 0x60 ∷ 0x17 ∷ []))) ∷ [], 5984 ∷ [])
     ∷ (carried 1 1 (drop 2 (wordsOf B (0x04 ∷ 0x51 ∷ 0x61 ∷ 0x04 ∷ 0x29 ∷ 0x19 ∷ []))) ∷ [], 11131 ∷ [])
     ∷ (
-      carried 3 0 (drop 1 (wordsOf (sheet 4 5 3 1 2 2 2) (0x6E ∷ 0x3A ∷ 0x91 ∷ 0x71 ∷ 0x67 ∷ 0x1B ∷ 0xED ∷ 0x20 ∷ 0xE1 ∷ 0x05 ∷ []))) ∷ [],
+      carried 3 0 (drop 1 (wordsOf (sheet 4 5 3 1 2 2 2 0) (0x6E ∷ 0x3A ∷ 0x91 ∷ 0x71 ∷ 0x67 ∷ 0x1B ∷ 0xED ∷ 0x20 ∷ 0xE1 ∷ 0x05 ∷ [])))
+          ∷ [],
       20474 ∷ [],
     )
     ∷ (
-      carried 0 3 (drop 4 (wordsOf (sheet 4 5 3 1 2 2 2) (0x27 ∷ 0x6E ∷ 0xDA ∷ 0x79 ∷ 0x90 ∷ 0x4B ∷ 0x3A ∷ 0x63 ∷ 0x1D ∷ 0x32 ∷ []))) ∷ [],
+      carried 0 3 (drop 4 (wordsOf (sheet 4 5 3 1 2 2 2 0) (0x27 ∷ 0x6E ∷ 0xDA ∷ 0x79 ∷ 0x90 ∷ 0x4B ∷ 0x3A ∷ 0x63 ∷ 0x1D ∷ 0x32 ∷ [])))
+          ∷ [],
       0 ∷ [],
     )
     ∷ []
@@ -109,8 +112,8 @@ carries-hold = refl
 pub divisors : List Row
 divisors =
     (map (divisor B) (range 0 2), 93 ∷ 31 ∷ [])
-    ∷ (map (divisor (sheet 4 2 1 4 5 0 0)) (range 0 1), 1 ∷ [])
-    ∷ (map (divisor (sheet 4 5 3 1 2 2 2)) (range 0 3), 31 ∷ 31 ∷ 31 ∷ [])
+    ∷ (map (divisor (sheet 4 2 1 4 5 0 0 0)) (range 0 1), 1 ∷ [])
+    ∷ (map (divisor (sheet 4 5 3 1 2 2 2 0)) (range 0 3), 31 ∷ 31 ∷ 31 ∷ [])
     ∷ []
 
 pub divisors-hold : map (λ r. r .0) divisors ≡ map (λ r. r .1) divisors
@@ -133,9 +136,9 @@ bitsApart-hold = refl
 -- The distance.
 pub distances : List Row
 distances = (
-  map distance (A ∷ B ∷ (sheet 4 2 1 4 5 0 0) ∷ (sheet 4 5 2 1 2 2 0) ∷ (sheet 4 5 3 1 2 2 2) ∷ (sheet 4 3 2 2 5 7 0)
-      ∷ (sheet 4 3 2 6 7 7 0) ∷ (sheet 4 4 1 1 2 0 0) ∷ (sheet 4 5 1 1 2 0 0) ∷ (sheet 4 3 1 2 3 0 0) ∷ (sheet 4 2 1 3 7 0 0)
-      ∷ (sheet 4 3 2 1 3 3 0) ∷ (sheet 4 4 3 1 2 2 2) ∷ (sheet 8 8 3 1 2 2 2) ∷ (sheet 12 8 3 28 32 39 58) ∷ []),
+  map distance (A ∷ B ∷ (sheet 4 2 1 4 5 0 0 0) ∷ (sheet 4 5 2 1 2 2 0 0) ∷ (sheet 4 5 3 1 2 2 2 0) ∷ (sheet 4 3 2 2 5 7 0 0)
+      ∷ (sheet 4 3 2 6 7 7 0 0) ∷ (sheet 4 4 1 1 2 0 0 0) ∷ (sheet 4 5 1 1 2 0 0 0) ∷ (sheet 4 3 1 2 3 0 0 0) ∷ (sheet 4 2 1 3 7 0 0 0)
+      ∷ (sheet 4 3 2 1 3 3 0 0) ∷ (sheet 4 4 3 1 2 2 2 0) ∷ (sheet 8 8 3 1 2 2 2 0) ∷ (sheet 12 8 3 28 32 39 58 0) ∷ []),
   5 ∷ 7 ∷ 11 ∷ 5 ∷ 5 ∷ 15 ∷ 15 ∷ 5 ∷ 5 ∷ 7 ∷ 14 ∷ 7 ∷ 5 ∷ 5 ∷ 117 ∷ [],
 )
     ∷ []
@@ -170,7 +173,7 @@ cuts-hold = refl
 pub fedParts : List Row
 fedParts =
     (held (feedings B (empty 2) (cut 0x7EB (7 ∷ 1 ∷ 7 ∷ []))), 2 ∷ 15 ∷ 732 ∷ replicate 11 0)
-    ∷ (held (feedings (sheet 4 3 2 2 5 7 0) (empty 0) (cut 0x1498 (4 ∷ 11 ∷ []))), 0 ∷ 15 ∷ 68 ∷ replicate 11 0)
+    ∷ (held (feedings (sheet 4 3 2 2 5 7 0 0) (empty 0) (cut 0x1498 (4 ∷ 11 ∷ []))), 0 ∷ 15 ∷ 68 ∷ replicate 11 0)
     ∷ []
 
 pub fedParts-hold : map (λ r. r .0) fedParts ≡ map (λ r. r .1) fedParts
@@ -213,8 +216,8 @@ writings-hold = refl
 -- Huge numbers: sheets; a register, its width and what is fed; an index.
 pub hugeNumbers : List Row
 hugeNumbers = (
-  map sheetRefusal ((sheet 4294967295 2 1 1 2 0 0) ∷ (sheet 4 4294967295 1 1 2 0 0) ∷ (sheet 4 2 4294967295 1 2 0 0)
-      ∷ (sheet 4 2 1 1 4294967295 0 0) ∷ (sheet 4 2 1 1 2 0 4294967295) ∷ (sheet 12 8 3 1 2 3 4294967295) ∷ []),
+  map sheetRefusal ((sheet 4294967295 2 1 1 2 0 0 0) ∷ (sheet 4 4294967295 1 1 2 0 0 0) ∷ (sheet 4 2 4294967295 1 2 0 0 0)
+      ∷ (sheet 4 2 1 1 4294967295 0 0 0) ∷ (sheet 4 2 1 1 2 0 4294967295 0) ∷ (sheet 12 8 3 1 2 3 4294967295 0) ∷ []),
   1 ∷ 2 ∷ 2 ∷ 3 ∷ 3 ∷ 3 ∷ [],
 )
     ∷ (
@@ -263,17 +266,18 @@ erasedJudged = (
       7 ∷ 7 ∷ 7 ∷ 7 ∷ [],
     )
     ∷ (
-      judgeNumber B (0xFF ∷ 0x7F ∷ 0xFF ∷ 0xFF ∷ 0xFF ∷ 0x7F ∷ []) ∷ judgeNumber (sheet 4 3 2 6 7 7 0) (0xFF ∷ 0xFF ∷ 0xFF ∷ 0x7F ∷ 0xFF
+      judgeNumber B (0xFF ∷ 0x7F ∷ 0xFF ∷ 0xFF ∷ 0xFF ∷ 0x7F ∷ []) ∷ judgeNumber (sheet 4 3 2 6 7 7 0 0) (0xFF ∷ 0xFF ∷ 0xFF ∷ 0x7F ∷ 0xFF
           ∷ 0xFF ∷ []) ∷ [],
       96 ∷ 96 ∷ [],
     )
     ∷ (
-      judgeNumber (sheet 8 2 1 1 2 0 0) (replicate 64 0xFF) ∷ judgeNumber (sheet 8 2 1 1 2 0 0) (0xFE ∷ replicate 63 0xFF) ∷ [],
+      judgeNumber (sheet 8 2 1 1 2 0 0 0) (replicate 64 0xFF) ∷ judgeNumber (sheet 8 2 1 1 2 0 0 0) (0xFE ∷ replicate 63 0xFF) ∷ [],
       96 ∷ 8 ∷ [],
     )
     ∷ (
-      judgeNumber (sheet 5 2 1 1 2 0 0) (0xFF ∷ 0xFF ∷ 0xFF ∷ 0xFF ∷ []) ∷ judgeNumber (sheet 4 1 1 1 2 0 0) (0xFF ∷ 0xFF ∷ [])
-          ∷ judgeNumber (sheet 4 2 1 2 2 0 0) (0xFF ∷ 0xFF ∷ 0xFF ∷ 0xFF ∷ []) ∷ judgeNumber (sheet 4 4 2 1 2 3 0) (replicate 8 0xFF) ∷ [],
+      judgeNumber (sheet 5 2 1 1 2 0 0 0) (0xFF ∷ 0xFF ∷ 0xFF ∷ 0xFF ∷ []) ∷ judgeNumber (sheet 4 1 1 1 2 0 0 0) (0xFF ∷ 0xFF ∷ [])
+          ∷ judgeNumber (sheet 4 2 1 2 2 0 0 0) (0xFF ∷ 0xFF ∷ 0xFF ∷ 0xFF ∷ []) ∷ judgeNumber (sheet 4 4 2 1 2 3 0 0) (replicate 8 0xFF)
+          ∷ [],
       1 ∷ 2 ∷ 3 ∷ 4 ∷ [],
     )
     ∷ (judgeValues A (0xFF ∷ 0xFF ∷ 0xFF ∷ 0xFF ∷ []), [])
@@ -352,12 +356,12 @@ onesWritten = (
       13 ∷ replicate 6 0xA5,
     )
     ∷ (
-      writeRefusal (sheet 4 3 2 6 7 7 0) 8 (0x01 ∷ 0x01 ∷ 0x01 ∷ []) 6 ∷ writeLeaves (sheet 4 3 2 6 7 7 0) 8 (0x01 ∷ 0x01 ∷ 0x01
+      writeRefusal (sheet 4 3 2 6 7 7 0 0) 8 (0x01 ∷ 0x01 ∷ 0x01 ∷ []) 6 ∷ writeLeaves (sheet 4 3 2 6 7 7 0 0) 8 (0x01 ∷ 0x01 ∷ 0x01
           ∷ []) (replicate 6 0xA5),
       13 ∷ replicate 6 0xA5,
     )
     ∷ (
-      writeRefusal (sheet 4 3 2 6 7 7 0) 8 (0x01 ∷ 0x00 ∷ 0x01 ∷ []) 6 ∷ writeLeaves (sheet 4 3 2 6 7 7 0) 8 (0x01 ∷ 0x00 ∷ 0x01
+      writeRefusal (sheet 4 3 2 6 7 7 0 0) 8 (0x01 ∷ 0x00 ∷ 0x01 ∷ []) 6 ∷ writeLeaves (sheet 4 3 2 6 7 7 0 0) 8 (0x01 ∷ 0x00 ∷ 0x01
           ∷ []) (replicate 6 0xA5),
       0 ∷ 0xFF ∷ 0x7F ∷ 0x00 ∷ 0x00 ∷ 0xFF ∷ 0x7F ∷ [],
     )
@@ -400,3 +404,273 @@ erasedWords = (
 pub erasedWords-hold : map (λ r. r .0) erasedWords ≡ map (λ r. r .1) erasedWords
 unfolding erasedWords wordRefusal remainderBytes nestedWordBytes syndromeList nestedSyndromeList pow
 erasedWords-hold = refl
+
+-- Sheets with s: accepted up to n - w_v - 1, 14 above it, behind 1 to 4 and before every other number.
+pub shortSheets : List Row
+shortSheets = (
+  map sheetRefusal ((sheet 4 2 1 1 2 0 0 6) ∷ (sheet 4 2 1 1 2 0 0 7) ∷ (sheet 4 3 2 1 2 3 0 4) ∷ (sheet 4 3 2 1 2 3 0 5)
+      ∷ (sheet 4 3 2 6 7 7 0 0) ∷ (sheet 4 3 2 6 7 7 0 1) ∷ (sheet 8 8 3 1 2 2 2 238) ∷ (sheet 8 8 3 1 2 2 2 239)
+      ∷ (sheet 12 3 2 1 2 3 0 4058) ∷ (sheet 12 3 2 1 2 3 0 4059) ∷ []),
+  0 ∷ 14 ∷ 0 ∷ 14 ∷ 0 ∷ 14 ∷ 0 ∷ 14 ∷ 0 ∷ 14 ∷ [],
+)
+    ∷ (
+      map sheetRefusal ((sheet 5 2 1 1 2 0 0 4294967295) ∷ (sheet 4 1 1 1 2 0 0 4294967295) ∷ (sheet 4 2 1 2 2 0 0 4294967295)
+          ∷ (sheet 4 4 2 1 2 3 0 4294967295) ∷ (sheet 4 2 1 1 2 0 0 4294967295) ∷ []),
+      1 ∷ 2 ∷ 3 ∷ 4 ∷ 14 ∷ [],
+    )
+    ∷ (
+      writeRefusal (sheet 4 2 1 1 2 0 0 6) 0 (0xFF ∷ 0xFF ∷ 0xFF ∷ 0xFF ∷ 0xFF ∷ []) 5 ∷ judgeNumber (sheet 4 2 1 1 2 0 0 6) (0xFF ∷ 0xFF
+          ∷ 0xFF ∷ 0xFF ∷ 0xFF ∷ []) ∷ readNumber (sheet 4 2 1 1 2 0 0 6) (0xFF ∷ 0xFF ∷ 0xFF ∷ 0xFF ∷ 0xFF ∷ []) (0xFF ∷ 0xFF ∷ 0xFF
+          ∷ 0xFF ∷ 0xFF ∷ []) ∷ remainderRefusal (sheet 4 2 1 1 2 0 0 6) (0xFF ∷ 0xFF ∷ 0xFF ∷ 0xFF ∷ 0xFF ∷ []) 9 5
+          ∷ openRefusal (sheet 4 2 1 1 2 0 0 6) 9
+          ∷ feedRefusal (sheet 4 2 1 1 2 0 0 6) 0 (record { level = 9; count = 99; remainder = replicate 12 0 }) 1
+          ∷ quoteRefusal 1 (sheet 4 2 1 1 2 0 0 6) 5 ∷ [],
+      5 ∷ 7 ∷ 6 ∷ 7 ∷ 9 ∷ 5 ∷ 10 ∷ [],
+    )
+    ∷ (
+      writeRefusal (sheet 4 2 1 1 2 0 0 7) 0 (0xFF ∷ 0xFF ∷ 0xFF ∷ 0xFF ∷ 0xFF ∷ []) 5 ∷ judgeNumber (sheet 4 2 1 1 2 0 0 7) (0xFF ∷ 0xFF
+          ∷ 0xFF ∷ 0xFF ∷ 0xFF ∷ []) ∷ readNumber (sheet 4 2 1 1 2 0 0 7) (0xFF ∷ 0xFF ∷ 0xFF ∷ 0xFF ∷ 0xFF ∷ []) (0xFF ∷ 0xFF ∷ 0xFF
+          ∷ 0xFF ∷ 0xFF ∷ []) ∷ remainderRefusal (sheet 4 2 1 1 2 0 0 7) (0xFF ∷ 0xFF ∷ 0xFF ∷ 0xFF ∷ 0xFF ∷ []) 9 5
+          ∷ openRefusal (sheet 4 2 1 1 2 0 0 7) 9
+          ∷ feedRefusal (sheet 4 2 1 1 2 0 0 7) 0 (record { level = 9; count = 99; remainder = replicate 12 0 }) 1
+          ∷ quoteRefusal 1 (sheet 4 2 1 1 2 0 0 7) 5 ∷ [],
+      replicate 7 14,
+    )
+    ∷ []
+
+pub shortSheets-hold : map (λ r. r .0) shortSheets ≡ map (λ r. r .1) shortSheets
+unfolding shortSheets sheetRefusal writeRefusal judgeNumber readNumber wordRefusal openRefusal feedRefusal quoteRefusal
+shortSheets-hold = refl
+
+-- Sizes by s: bytes of page and blocks where n - s passes a multiple of 8, where blocks begin, and the quote.
+pub shortSizes : List Row
+shortSizes =
+    (map (λ s. pageBytes (sheet 8 2 1 1 2 0 0 s)) (0 ∷ 6 ∷ 7 ∷ 8 ∷ 230 ∷ 231 ∷ []), 64 ∷ 64 ∷ 62 ∷ 62 ∷ 8 ∷ 6 ∷ [])
+    ∷ (map (λ s. dataBytes (sheet 8 2 1 1 2 0 0 s)) (0 ∷ 6 ∷ 7 ∷ 8 ∷ 230 ∷ 231 ∷ []), 61 ∷ 61 ∷ 59 ∷ 59 ∷ 5 ∷ 3 ∷ [])
+    ∷ (map (blockOffset (sheet 8 8 3 1 2 2 2 233)) (range 0 8), 0 ∷ 1 ∷ 2 ∷ 3 ∷ 5 ∷ 7 ∷ 9 ∷ 11 ∷ [])
+    ∷ (
+      map distance ((sheet 4 2 1 1 2 0 0 3) ∷ (sheet 4 2 1 1 2 0 0 6) ∷ (sheet 4 3 2 1 2 3 0 4) ∷ (sheet 4 5 3 1 2 2 2 4)
+          ∷ (sheet 8 2 1 1 2 0 0 231) ∷ (sheet 8 2 1 1 2 0 0 230) ∷ []),
+      5 ∷ 5 ∷ 7 ∷ 5 ∷ 5 ∷ 5 ∷ [],
+    )
+    ∷ (quote (sheet 4 3 2 1 2 3 0 4), 4 ∷ 8 ∷ 10 ∷ 0 ∷ 1 ∷ 3 ∷ 7 ∷ 0 ∷ 0 ∷ 0 ∷ 0 ∷ 0 ∷ [])
+    ∷ (quote (sheet 8 8 3 1 2 2 2 233), 8 ∷ 16 ∷ 16 ∷ 16 ∷ 6 ∷ 6 ∷ 6 ∷ 14 ∷ 14 ∷ 14 ∷ 14 ∷ 14 ∷ [])
+    ∷ []
+
+pub shortSizes-hold : map (λ r. r .0) shortSizes ≡ map (λ r. r .1) shortSizes
+unfolding shortSizes dataBytes blockOffset distance quote range
+shortSizes-hold = refl
+
+-- Coefficients, bits of blocks and differences of pages, of sub-words that take three bytes and four.
+pub shortPlaces : List Row
+shortPlaces = (
+  map (coefficientOf (sheet 8 2 1 1 2 0 0 231) (0xE6 ∷ 0xA6 ∷ 0x25 ∷ 0x94 ∷ 0x52 ∷ 0x4B ∷ []) 1) (range 0 24),
+  0 ∷ 0 ∷ 1 ∷ 0 ∷ 1 ∷ 0 ∷ 0 ∷ 1 ∷ 0 ∷ 1 ∷ 0 ∷ 0 ∷ 1 ∷ 0 ∷ 1 ∷ 0 ∷ 1 ∷ 1 ∷ 0 ∷ 1 ∷ 0 ∷ 0 ∷ 1 ∷ 0 ∷ [],
+)
+    ∷ (
+      map (blockBit (sheet 8 2 1 1 2 0 0 230) (0x3B ∷ 0x00 ∷ 0xE8 ∷ 0x4D ∷ 0x01 ∷ []) 1) (range 0 17),
+      0 ∷ 0 ∷ 0 ∷ 1 ∷ 0 ∷ 1 ∷ 1 ∷ 1 ∷ 1 ∷ 0 ∷ 1 ∷ 1 ∷ 0 ∷ 0 ∷ 1 ∷ 0 ∷ 1 ∷ [],
+    )
+    ∷ (
+      differences (sheet 4 2 1 1 2 0 0 3) (0x00 ∷ 0x00 ∷ 0x00 ∷ 0x00 ∷ []) (0xFF ∷ 0xFF ∷ 0xFF ∷ 0xFF ∷ [])
+          ∷ differences (sheet 8 2 1 1 2 0 0 231) (replicate 6 0x00) (replicate 6 0xFF)
+          ∷ differences (sheet 8 2 1 1 2 0 0 230) (replicate 8 0x00) (replicate 8 0xFF) ∷ [],
+      24 ∷ 48 ∷ 50 ∷ [],
+    )
+    ∷ []
+
+pub shortPlaces-hold : map (λ r. r .0) shortPlaces ≡ map (λ r. r .1) shortPlaces
+unfolding shortPlaces blockOffset differences range
+shortPlaces-hold = refl
+
+-- Write: the number and what it leaves; blocks of ones are written too.
+pub shortWritten : List Row
+shortWritten = (
+  writeRefusal (sheet 4 2 1 1 2 0 0 3) 8 (0x0C ∷ 0x01 ∷ []) 4 ∷ writeLeaves (sheet 4 2 1 1 2 0 0 3) 8 (0x0C ∷ 0x01 ∷ []) (replicate 4 0xA5),
+  0 ∷ 0xE8 ∷ 0x0C ∷ 0x13 ∷ 0x00 ∷ [],
+)
+    ∷ (
+      writeRefusal (sheet 4 5 3 1 2 2 2 4) 8 (0x04 ∷ 0x07 ∷ 0x07 ∷ 0x15 ∷ 0x70 ∷ []) 10 ∷ writeLeaves (sheet 4 5 3 1 2 2 2 4) 8 (0x04
+          ∷ 0x07 ∷ 0x07 ∷ 0x15 ∷ 0x70 ∷ []) (replicate 10 0xA5),
+      0 ∷ 0x21 ∷ 0x04 ∷ 0xB6 ∷ 0x07 ∷ 0xB6 ∷ 0x07 ∷ 0x5A ∷ 0x01 ∷ 0x08 ∷ 0x07 ∷ [],
+    )
+    ∷ (
+      writeRefusal (sheet 8 2 1 1 2 0 0 231) 8 (0x82 ∷ 0x19 ∷ 0x95 ∷ []) 6 ∷ writeLeaves (sheet 8 2 1 1 2 0 0 231) 8 (0x82 ∷ 0x19 ∷ 0x95
+          ∷ []) (replicate 6 0xA5),
+      0 ∷ 0x77 ∷ 0x80 ∷ 0x82 ∷ 0x24 ∷ 0x19 ∷ 0x95 ∷ [],
+    )
+    ∷ (
+      writeRefusal (sheet 4 2 1 1 2 0 0 1) 8 (0x3F ∷ 0xFF ∷ 0x03 ∷ []) 4 ∷ writeLeaves (sheet 4 2 1 1 2 0 0 1) 8 (0x3F ∷ 0xFF ∷ 0x03
+          ∷ []) (replicate 4 0xA5),
+      0 ∷ 0xF6 ∷ 0x3F ∷ 0xF6 ∷ 0x3F ∷ [],
+    )
+    ∷ (
+      writeRefusal (sheet 4 3 2 1 2 3 0 4) 8 (0x01 ∷ 0x07 ∷ 0x7F ∷ []) 6 ∷ writeLeaves (sheet 4 3 2 1 2 3 0 4) 8 (0x01 ∷ 0x07 ∷ 0x7F
+          ∷ []) (replicate 6 0xA5),
+      0 ∷ 0x9A ∷ 0x05 ∷ 0x57 ∷ 0x07 ∷ 0xFA ∷ 0x07 ∷ [],
+    )
+    ∷ (
+      writeRefusal (sheet 4 2 1 1 2 0 0 3) 8 (0x10 ∷ 0x00 ∷ []) 4 ∷ writeLeaves (sheet 4 2 1 1 2 0 0 3) 8 (0x10 ∷ 0x00
+          ∷ []) (replicate 4 0xA5),
+      8 ∷ 0xA5 ∷ 0xA5 ∷ 0xA5 ∷ 0xA5 ∷ [],
+    )
+    ∷ []
+
+pub shortWritten-hold : map (λ r. r .0) shortWritten ≡ map (λ r. r .1) shortWritten
+unfolding shortWritten writeRefusal pageOf pow
+shortWritten-hold = refl
+
+-- Judge: members and words that fail; each spare bit; blank pages, their spare bits clear and set, and pages nearly so.
+pub shortJudged : List Row
+shortJudged = (
+  map (judgeNumber (sheet 4 2 1 1 2 0 0 3)) ((0xA1 ∷ 0x0D ∷ 0x47 ∷ 0x09 ∷ []) ∷ (0xA1 ∷ 0x05 ∷ 0x47 ∷ 0x09 ∷ []) ∷ (0xA1 ∷ 0x0D ∷ 0x46
+      ∷ 0x09 ∷ []) ∷ (0x0C ∷ 0x0D ∷ 0x93 ∷ 0x09 ∷ []) ∷ (0xA1 ∷ 0x0D ∷ 0x47 ∷ []) ∷ (0x00 ∷ 0x00 ∷ 0x00 ∷ 0x00 ∷ []) ∷ []),
+  0 ∷ 32 ∷ 33 ∷ 64 ∷ 7 ∷ 0 ∷ [],
+)
+    ∷ (
+      map (judgeNumber (sheet 4 3 2 1 2 3 0 4)) ((0x9A ∷ 0x05 ∷ 0x24 ∷ 0x05 ∷ 0x89 ∷ 0x05 ∷ []) ∷ (0x1E ∷ 0x06 ∷ 0x23 ∷ 0x01 ∷ 0xA8 ∷ 0x01
+          ∷ []) ∷ (0xAF ∷ 0x05 ∷ 0xAD ∷ 0x00 ∷ 0x35 ∷ 0x00 ∷ []) ∷ []),
+      0 ∷ 64 ∷ 65 ∷ [],
+    )
+    ∷ (
+      map (judgeNumber (sheet 4 2 1 1 2 0 0 3)) ((0xA1 ∷ 0x1D ∷ 0x47 ∷ 0x09 ∷ []) ∷ (0xA1 ∷ 0x2D ∷ 0x47 ∷ 0x09 ∷ []) ∷ (0xA1 ∷ 0x4D ∷ 0x47
+          ∷ 0x09 ∷ []) ∷ (0xA1 ∷ 0x8D ∷ 0x47 ∷ 0x09 ∷ []) ∷ (0xA1 ∷ 0x0D ∷ 0x47 ∷ 0x19 ∷ []) ∷ (0xA1 ∷ 0x0D ∷ 0x47 ∷ 0x29 ∷ []) ∷ (0xA1
+          ∷ 0x0D ∷ 0x47 ∷ 0x49 ∷ []) ∷ (0xA1 ∷ 0x0D ∷ 0x47 ∷ 0x89 ∷ []) ∷ (0x09 ∷ 0x40 ∷ 0x09 ∷ 0x40 ∷ []) ∷ []),
+      replicate 9 8,
+    )
+    ∷ (
+      map (judgeNumber (sheet 4 2 1 1 2 0 0 6)) ((0x00 ∷ 0x00 ∷ 0x00 ∷ 0x02 ∷ []) ∷ (0x00 ∷ 0x00 ∷ 0x00 ∷ 0x04 ∷ []) ∷ (0x00 ∷ 0x00 ∷ 0x00
+          ∷ 0x08 ∷ []) ∷ (0x00 ∷ 0x00 ∷ 0x00 ∷ 0x10 ∷ []) ∷ (0x00 ∷ 0x00 ∷ 0x00 ∷ 0x20 ∷ []) ∷ (0x00 ∷ 0x00 ∷ 0x00 ∷ 0x40 ∷ []) ∷ (0x00
+          ∷ 0x00 ∷ 0x00 ∷ 0x80 ∷ []) ∷ []),
+      replicate 7 8,
+    )
+    ∷ (
+      map (judgeNumber (sheet 4 2 1 1 2 0 0 3)) ((0xFF ∷ 0x0F ∷ 0xFF ∷ 0x0F ∷ []) ∷ (0xFF ∷ 0x0F ∷ 0xFF ∷ 0x1F ∷ []) ∷ (0xFF ∷ 0x8F ∷ 0xFF
+          ∷ 0x0F ∷ []) ∷ (0xFF ∷ 0xFF ∷ 0xFF ∷ 0xFF ∷ []) ∷ (0xFE ∷ 0x0F ∷ 0xFF ∷ 0x0F ∷ []) ∷ (0xFF ∷ 0x07 ∷ 0xFF ∷ 0x0F ∷ []) ∷ (0xFF
+          ∷ 0x0F ∷ 0xFE ∷ 0x0F ∷ []) ∷ (0xFF ∷ 0x0F ∷ 0xFF ∷ 0x07 ∷ []) ∷ (0xFE ∷ 0xFF ∷ 0xFF ∷ 0xFF ∷ []) ∷ (0xFF ∷ 0xF7 ∷ 0xFF ∷ 0xFF
+          ∷ []) ∷ (0xFF ∷ 0xFF ∷ 0xFE ∷ 0xFF ∷ []) ∷ (0xFF ∷ 0xFF ∷ 0xFF ∷ 0xF7 ∷ []) ∷ []),
+      96 ∷ 96 ∷ 96 ∷ 96 ∷ 32 ∷ 32 ∷ 32 ∷ 32 ∷ 8 ∷ 8 ∷ 8 ∷ 8 ∷ [],
+    )
+    ∷ (
+      map (judgeNumber (sheet 8 2 1 1 2 0 0 231)) ((replicate 6 0xFF) ∷ (0xFE ∷ 0xFF ∷ 0xFF ∷ 0xFF ∷ 0xFF ∷ 0xFF ∷ []) ∷ (0xFF ∷ 0xFF
+          ∷ 0x7F ∷ 0xFF ∷ 0xFF ∷ 0xFF ∷ []) ∷ (0xFF ∷ 0xFF ∷ 0xFF ∷ 0xFE ∷ 0xFF ∷ 0xFF ∷ []) ∷ (0xFF ∷ 0xFF ∷ 0xFF ∷ 0xFF ∷ 0xFF ∷ 0x7F
+          ∷ []) ∷ (0xFF ∷ 0xFF ∷ 0xFF ∷ 0xFF ∷ 0xFF ∷ []) ∷ (replicate 7 0xFF) ∷ (replicate 64 0xFF) ∷ []),
+      96 ∷ 32 ∷ 32 ∷ 32 ∷ 32 ∷ 7 ∷ 7 ∷ 7 ∷ [],
+    )
+    ∷ (
+      map (judgeNumber (sheet 8 2 1 1 2 0 0 230)) ((0xFF ∷ 0xFF ∷ 0xFF ∷ 0x01 ∷ 0xFF ∷ 0xFF ∷ 0xFF ∷ 0x01 ∷ []) ∷ (0xFF ∷ 0xFF ∷ 0xFF
+          ∷ 0x81 ∷ 0xFF ∷ 0xFF ∷ 0xFF ∷ 0x03 ∷ []) ∷ (replicate 8 0xFF) ∷ (0xFE ∷ replicate 7 0xFF) ∷ (0xFF ∷ 0xFF ∷ 0xFF ∷ 0xFE ∷ 0xFF
+          ∷ 0xFF ∷ 0xFF ∷ 0xFF ∷ []) ∷ (0xFF ∷ 0xFF ∷ 0xFF ∷ 0xFF ∷ 0xFE ∷ 0xFF ∷ 0xFF ∷ 0xFF ∷ []) ∷ (0xFF ∷ 0xFF ∷ 0xFF ∷ 0xFF ∷ 0xFF
+          ∷ 0xFF ∷ 0xFF ∷ 0xFE ∷ []) ∷ []),
+      96 ∷ 96 ∷ 96 ∷ 8 ∷ 8 ∷ 8 ∷ 8 ∷ [],
+    )
+    ∷ []
+
+pub shortJudged-hold : map (λ r. r .0) shortJudged ≡ map (λ r. r .1) shortJudged
+unfolding shortJudged judgeNumber pow
+shortJudged-hold = refl
+
+-- Read out: the number and what it leaves.
+pub shortRead : List Row
+shortRead = (
+  readNumber (sheet 4 2 1 1 2 0 0 3) (0xA1 ∷ 0x0D ∷ 0x47 ∷ 0x09 ∷ []) (replicate 2 0xA5) ∷ readLeaves (sheet 4 2 1 1 2 0 0 3) (0xA1 ∷ 0x0D
+      ∷ 0x47 ∷ 0x09 ∷ []) (replicate 2 0xA5),
+  0 ∷ 0x0D ∷ 0x94 ∷ [],
+)
+    ∷ (
+      readNumber (sheet 4 2 1 1 2 0 0 3) (0xA1 ∷ 0x0D ∷ 0x47 ∷ 0x01 ∷ []) (replicate 2 0xA5) ∷ readLeaves (sheet 4 2 1 1 2 0 0 3) (0xA1
+          ∷ 0x0D ∷ 0x47 ∷ 0x01 ∷ []) (replicate 2 0xA5),
+      33 ∷ 0x0D ∷ 0x14 ∷ [],
+    )
+    ∷ (
+      readNumber (sheet 4 2 1 1 2 0 0 3) (0xA1 ∷ 0x0D ∷ 0x47 ∷ 0x19 ∷ []) (replicate 2 0xA5) ∷ readLeaves (sheet 4 2 1 1 2 0 0 3) (0xA1
+          ∷ 0x0D ∷ 0x47 ∷ 0x19 ∷ []) (replicate 2 0xA5),
+      8 ∷ 0xA5 ∷ 0xA5 ∷ [],
+    )
+    ∷ (
+      readNumber (sheet 4 2 1 1 2 0 0 6) (0xFF ∷ 0x81 ∷ 0xFF ∷ 0xFF ∷ []) (replicate 2 0xA5) ∷ readLeaves (sheet 4 2 1 1 2 0 0 6) (0xFF
+          ∷ 0x81 ∷ 0xFF ∷ 0xFF ∷ []) (replicate 2 0xA5),
+      96 ∷ 0x01 ∷ 0x1F ∷ [],
+    )
+    ∷ (
+      readNumber (sheet 8 2 1 1 2 0 0 230) (0xFF ∷ 0xFF ∷ 0xFF ∷ 0xFF ∷ 0xFF ∷ 0xFF ∷ 0xFF ∷ 0x01 ∷ []) (replicate 5 0xA5)
+          ∷ readLeaves (sheet 8 2 1 1 2 0 0 230) (0xFF ∷ 0xFF ∷ 0xFF ∷ 0xFF ∷ 0xFF ∷ 0xFF ∷ 0xFF ∷ 0x01 ∷ []) (replicate 5 0xA5),
+      96 ∷ 0xFF ∷ 0x01 ∷ 0xFF ∷ 0xFF ∷ 0x01 ∷ [],
+    )
+    ∷ []
+
+pub shortRead-hold : map (λ r. r .0) shortRead ≡ map (λ r. r .1) shortRead
+unfolding shortRead readNumber readLeaves pow
+shortRead-hold = refl
+
+-- One word of a page: each spare bit; a nested word, where x^(l i) takes a coefficient past the stored ones and past n.
+pub shortWords : List Row
+shortWords = (
+  map (λ x. syndromesRefusal 1 (sheet 4 2 1 1 2 0 0 6) x 0 2) ((0xD6 ∷ 0x00 ∷ 0xBD ∷ 0x00 ∷ []) ∷ (0xD6 ∷ 0x02 ∷ 0xBD ∷ 0x00 ∷ []) ∷ (0xD6
+      ∷ 0x04 ∷ 0xBD ∷ 0x00 ∷ []) ∷ (0xD6 ∷ 0x08 ∷ 0xBD ∷ 0x00 ∷ []) ∷ (0xD6 ∷ 0x10 ∷ 0xBD ∷ 0x00 ∷ []) ∷ (0xD6 ∷ 0x20 ∷ 0xBD ∷ 0x00 ∷ [])
+      ∷ (0xD6 ∷ 0x40 ∷ 0xBD ∷ 0x00 ∷ []) ∷ (0xD6 ∷ 0x80 ∷ 0xBD ∷ 0x00 ∷ []) ∷ []),
+  0 ∷ replicate 7 8,
+)
+    ∷ (
+      nestedRefusal (sheet 8 2 1 1 2 0 0 231) (0x8C ∷ 0x10 ∷ 0x27 ∷ 0xA9 ∷ 0x60 ∷ 0x59 ∷ []) 0 3
+          ∷ nestedRefusal (sheet 8 2 1 1 2 0 0 231) (0x8C ∷ 0x10 ∷ 0x27 ∷ 0xA9 ∷ 0x60 ∷ 0x59 ∷ []) 0 32 ∷ [],
+      10 ∷ 0 ∷ [],
+    )
+    ∷ (
+      nestedWordBytes (sheet 4 5 3 1 2 2 2 4) (0x00 ∷ 0x00 ∷ 0x00 ∷ 0x00 ∷ 0x00 ∷ 0x00 ∷ 0x00 ∷ 0x00 ∷ 0x00 ∷ 0x04 ∷ []) 1,
+      0x00 ∷ 0x40 ∷ [],
+    )
+    ∷ (
+      nestedWordBytes (sheet 4 5 3 1 2 2 2 4) (0x00 ∷ 0x00 ∷ 0x00 ∷ 0x00 ∷ 0x00 ∷ 0x00 ∷ 0x00 ∷ 0x00 ∷ 0x00 ∷ 0x04 ∷ []) 2,
+      0x08 ∷ 0x00 ∷ [],
+    )
+    ∷ (
+      nestedWordBytes (sheet 4 5 3 1 2 2 2 4) (0xE1 ∷ 0x03 ∷ 0x5E ∷ 0x04 ∷ 0x69 ∷ 0x01 ∷ 0x54 ∷ 0x01 ∷ 0x23 ∷ 0x02 ∷ []) 2,
+      0x0D ∷ 0x72 ∷ [],
+    )
+    ∷ (
+      nestedWordBytes (sheet 8 3 2 1 2 2 0 231) (0x28 ∷ 0x5E ∷ 0x84 ∷ 0xE6 ∷ 0x27 ∷ 0x8F ∷ 0x2E ∷ 0xAE ∷ 0x80 ∷ []) 1,
+      0x5C ∷ 0xA9 ∷ 0x98 ∷ 0x03 ∷ replicate 28 0x00,
+    )
+    ∷ (
+      remainderBytes (sheet 4 5 3 1 2 2 2 4) (0xE1 ∷ 0x03 ∷ 0x5E ∷ 0x04 ∷ 0x69 ∷ 0x01 ∷ 0x54 ∷ 0x01 ∷ 0x23 ∷ 0x02 ∷ []) 2,
+      0x06 ∷ replicate 95 0x00,
+    )
+    ∷ (
+      shortBytes (sheet 4 5 3 1 2 2 2 4) (0xE1 ∷ 0x03 ∷ 0x5E ∷ 0x04 ∷ 0x69 ∷ 0x01 ∷ 0x54 ∷ 0x01 ∷ 0x23 ∷ 0x02 ∷ []) 1,
+      0x0C ∷ replicate 95 0x00,
+    )
+    ∷ (syndromeList (sheet 4 5 3 1 2 2 2 4) (0xE1 ∷ 0x03 ∷ 0x5E ∷ 0x04 ∷ 0x69 ∷ 0x01 ∷ 0x54 ∷ 0x01 ∷ 0x23 ∷ 0x02 ∷ []) 3, 14 ∷ 11 ∷ [])
+    ∷ (
+      nestedSyndromeList (sheet 4 5 3 1 2 2 2 4) (0xE1 ∷ 0x03 ∷ 0x5E ∷ 0x04 ∷ 0x69 ∷ 0x01 ∷ 0x54 ∷ 0x01 ∷ 0x23 ∷ 0x02 ∷ []) 2,
+      12 ∷ 15 ∷ 1 ∷ 10 ∷ [],
+    )
+    ∷ []
+
+pub shortWords-hold : map (λ r. r .0) shortWords ≡ map (λ r. r .1) shortWords
+unfolding shortWords wordRefusal remainderBytes shortBytes nestedWordBytes syndromeList nestedSyndromeList pow
+shortWords-hold = refl
+
+-- Registers: fed up to n - s, and what refuses a feeding there and past it.
+pub shortFed : List Row
+shortFed =
+    (held (feedings (sheet 4 2 1 1 2 0 0 3) (empty 1) (cut 0x633 (5 ∷ 7 ∷ []))), 1 ∷ 12 ∷ 166 ∷ replicate 11 0)
+    ∷ (
+      feedRefusal (sheet 4 2 1 1 2 0 0 3) 1 (record { level = 0; count = 11; remainder = replicate 12 0 }) 1
+          ∷ feedRefusal (sheet 4 2 1 1 2 0 0 3) 1 (record { level = 0; count = 12; remainder = replicate 12 0 }) 1
+          ∷ feedRefusal (sheet 4 2 1 1 2 0 0 3) 12 (record { level = 0; count = 0; remainder = replicate 12 0 }) 0
+          ∷ feedRefusal (sheet 4 2 1 1 2 0 0 3) 13 (record { level = 0; count = 0; remainder = replicate 12 0 }) 0
+          ∷ feedRefusal (sheet 4 2 1 1 2 0 0 3) 1 (record { level = 0; count = 14; remainder = replicate 12 0 }) 1 ∷ [],
+      0 ∷ 11 ∷ 0 ∷ 11 ∷ 11 ∷ [],
+    )
+    ∷ (
+      feedRefusal (sheet 8 2 1 1 2 0 0 231) 24 (record { level = 0; count = 0; remainder = replicate 12 0 }) 0
+          ∷ feedRefusal (sheet 8 2 1 1 2 0 0 231) 25 (record { level = 0; count = 0; remainder = replicate 12 0 }) 0
+          ∷ feedRefusal (sheet 8 2 1 1 2 0 0 231) 64 (record { level = 0; count = 191; remainder = replicate 12 0 }) 0 ∷ [],
+      0 ∷ 11 ∷ 11 ∷ [],
+    )
+    ∷ []
+
+pub shortFed-hold : map (λ r. r .0) shortFed ≡ map (λ r. r .1) shortFed
+unfolding shortFed fed feedRefusal sum pow
+shortFed-hold = refl

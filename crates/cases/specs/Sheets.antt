@@ -15,10 +15,10 @@ abbrev pub Row : Type 0
 Row = List ℕ × List ℕ
 
 abbrev pub A : Parameters
-A = sheet 4 2 1 1 2 0 0
+A = sheet 4 2 1 1 2 0 0 0
 
 abbrev pub B : Parameters
-B = sheet 4 3 2 1 2 3 0
+B = sheet 4 3 2 1 2 3 0 0
 
 abbrev pub page : Parameters → ℕ → List ℕ → List ℕ
 page p k blocks = writeLeaves p 8 blocks (replicate k 0)

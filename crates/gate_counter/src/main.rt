@@ -110,6 +110,7 @@ fn sheet(p: Parameters) {
     number(p.t1 as u64);
     number(p.t2 as u64);
     number(p.t3 as u64);
+    number(p.s as u64);
     end();
 }
 
@@ -207,6 +208,18 @@ const A: Parameters = Parameters {
     t1: 2,
     t2: 0,
     t3: 0,
+    s: 0,
+};
+
+const A3: Parameters = Parameters {
+    q: 4,
+    m: 2,
+    v: 1,
+    t0: 1,
+    t1: 2,
+    t2: 0,
+    t3: 0,
+    s: 3,
 };
 
 const B: Parameters = Parameters {
@@ -217,10 +230,11 @@ const B: Parameters = Parameters {
     t1: 2,
     t2: 3,
     t3: 0,
+    s: 0,
 };
 
-// Degrees, data, page and distance of the sheet of the encoding paper (docs/REQUIREMENT.md, "Literature").
-fn large() {
+// Degrees, data, page and distance of the sheet of the encoding paper (docs/REQUIREMENT.md, "Literature"), shortened by s.
+fn large(s: u32) {
     measured(Parameters {
         q: 12,
         m: 8,
@@ -229,7 +243,23 @@ fn large() {
         t1: 32,
         t2: 39,
         t3: 58,
+        s: s,
     });
+}
+
+// Sheet A with s 3 stores 12 coefficients of a sub-word, and has 4 spare bits above them. An erased page is blank whatever they are; its blocks
+// are written, and make a member.
+fn shortened() {
+    let mut blocks = [0xAAu8; 2];
+    let mut page = [0xAAu8; 4];
+    sheet(A3);
+    judge(A3, &[0xFF, 0x0F, 0xFF, 0x0F]);
+    judge(A3, &[0xFF, 0xFF, 0xFF, 0xFF]);
+    read_out(A3, &[0xFF, 0xFF, 0xFF, 0xFF], &mut blocks);
+    write(A3, 8, &blocks, &mut page);
+    judge(A3, &page);
+    judge(A3, &[0x00, 0x10, 0x00, 0x00]);
+    judge(A3, &[0x00, 0x00, 0x00, 0x80]);
 }
 
 // L 64 is accepted, 0 and 65 are refused.
@@ -300,6 +330,7 @@ fn not_reduced() {
         t1: 2,
         t2: 2,
         t3: 0,
+        s: 0,
     };
     let mut page = [0xAAu8; 10];
     sheet(five);
@@ -322,10 +353,43 @@ fn not_reduced() {
         t1: 2,
         t2: 2,
         t3: 2,
+        s: 0,
     };
     sheet(four);
     nested_word(four, 2, &[0x00, 0x00, 0x00, 0x00, 0x01, 0x00, 0x00, 0x00]);
     nested_word(four, 2, &[0x00, 0x00, 0x00, 0x00, 0x00, 0x00, 0x01, 0x00]);
+}
+
+// A nested word of a shortened sheet has n places: of 11 stored coefficients, x^10 of sub-word 4 is x^14 in nested word 1, and x^3 in nested
+// word 2, where it is turned out at x^15. A sub-word takes the bytes of its stored coefficients, here two and at q 8 three.
+fn kept_places() {
+    let deep = Parameters {
+        q: 4,
+        m: 5,
+        v: 3,
+        t0: 1,
+        t1: 2,
+        t2: 2,
+        t3: 2,
+        s: 4,
+    };
+    let top = [0x00, 0x00, 0x00, 0x00, 0x00, 0x00, 0x00, 0x00, 0x00, 0x04];
+    sheet(deep);
+    nested_word(deep, 1, &top);
+    nested_word(deep, 2, &top);
+    let pair = Parameters {
+        q: 8,
+        m: 2,
+        v: 1,
+        t0: 1,
+        t1: 2,
+        t2: 0,
+        t3: 0,
+        s: 231,
+    };
+    let mut page = [0xAAu8; 6];
+    sheet(pair);
+    write(pair, 8, &[0x01, 0x01, 0x00], &mut page);
 }
 
 // The degree at t = 3 is 10, not 12. Sheet B has no level 3, and with m = 4 it clashes.
@@ -339,11 +403,16 @@ fn cosets() {
         t1: 2,
         t2: 3,
         t3: 0,
+        s: 0,
     });
 }
 
 fn main() {
-    large();
+    large(0);
+    large(1900);
+    large(3404);
+    large(3405);
+    shortened();
     widths();
     lengths();
     erased();
@@ -351,5 +420,6 @@ fn main() {
     past_short();
     turned();
     not_reduced();
+    kept_places();
     cosets();
 }

@@ -28,7 +28,7 @@ apt p A b h z = record {
   other = λ k.
       let R = accepted p A in
       let e : _≡_ {A = ℕ} 1 0 =
-      sym (page-ones p R b h .0 k 0 0 (omega (arith, R .m-low)) (data-low p A 0)) ∙ ap (λ (o : ℕ). bitFrom b o 0) (offset-zero p) ∙ z in
+      sym (page-ones p R b h .0 k .1 0 0 (omega (arith, R .m-low)) (data-low p A 0)) ∙ ap (λ (o : ℕ). bitFrom b o 0) (offset-zero p) ∙ z in
       Nat.suc-ne-zero 0 e;
 }
 

@@ -1,6 +1,7 @@
 -- The sheets, blocks and pages that the program takes: accepted, fitting, pages of their sheets, members or not. All by computation.
 --   areBytes l    is every element a byte?
 --   long q        the sheet of q with m = 2, v = 1, t 1, 2: blocks and pages are one byte repeated
+--   short         sheet A with s = 3; short-8 is long 8 with s = 231
 use mathlib.Core.Path.{_≡_, refl}
 use mathlib.Core.Bool.{Bool, true, false, _&&_}
 use mathlib.Core.List.{List, [], _∷_}
@@ -112,7 +113,7 @@ damaged-B = refl
 
 -- ---- q = 8 and q = 12
 abbrev long : ℕ → Parameters
-long q = sheet q 2 1 1 2 0 0
+long q = sheet q 2 1 1 2 0 0 0
 
 pub accepted-8 : Accepted (long 8)
 unfolding sheetRefusal
@@ -172,3 +173,66 @@ erased-ones-12 = tt
 
 pub erased-12 : IsBlank (long 12) (replicate 1024 0xFF)
 erased-12 = blank-iff (long 12) (accepted (long 12) accepted-12) (replicate 1024 0xFF) (bytes (replicate 1024 0xFF) tt) .0 erased-ones-12
+
+-- ---- shortened
+abbrev short : Parameters
+short = sheet 4 2 1 1 2 0 0 3
+
+pub accepted-short : Accepted short
+unfolding sheetRefusal
+accepted-short = refl
+
+fits-short : Fits short (0x02 ∷ 0x01 ∷ [])
+unfolding dataBytes blocksClear
+fits-short = fits short (0x02 ∷ 0x01 ∷ []) tt refl tt
+
+fits-other-short : Fits short (0x0E ∷ 0xFF ∷ [])
+unfolding dataBytes blocksClear
+fits-other-short = fits short (0x0E ∷ 0xFF ∷ []) tt refl tt
+
+pub three-short : Three short (0x02 ∷ 0x01 ∷ []) (0x0E ∷ 0xFF ∷ [])
+unfolding xor
+three-short = three short accepted-short (0x02 ∷ 0x01 ∷ []) (0x0E ∷ 0xFF ∷ []) fits-short fits-other-short refl refl refl
+
+pub page-short : IsPage short (0xE8 ∷ 0x0C ∷ 0x13 ∷ 0x00 ∷ [])
+unfolding pageClear
+page-short = page short (0xE8 ∷ 0x0C ∷ 0x13 ∷ 0x00 ∷ []) tt refl tt
+
+pub member-short : isMember (judgeAnswer short (0xE8 ∷ 0x0C ∷ 0x13 ∷ 0x00 ∷ [])) ≡ true
+unfolding judgeAnswer pow
+member-short = refl
+
+pub page-cleared-short : IsPage short (0xFF ∷ 0x0F ∷ 0xFF ∷ 0x0F ∷ [])
+unfolding pageClear
+page-cleared-short = page short (0xFF ∷ 0x0F ∷ 0xFF ∷ 0x0F ∷ []) tt refl tt
+
+pub no-member-short : isMember (judgeAnswer short (0xFF ∷ 0x0F ∷ 0xFF ∷ 0x0F ∷ [])) ≡ false
+unfolding judgeAnswer pow
+no-member-short = refl
+
+abbrev short-8 : Parameters
+short-8 = sheet 8 2 1 1 2 0 0 231
+
+pub accepted-short-8 : Accepted short-8
+unfolding sheetRefusal
+accepted-short-8 = refl
+
+fits-short-8 : Fits short-8 (replicate 3 0x06)
+unfolding dataBytes blocksClear
+fits-short-8 = fits short-8 (replicate 3 0x06) tt refl tt
+
+fits-other-short-8 : Fits short-8 (replicate 3 0x62)
+unfolding dataBytes blocksClear
+fits-other-short-8 = fits short-8 (replicate 3 0x62) tt refl tt
+
+pub three-short-8 : Three short-8 (replicate 3 0x06) (replicate 3 0x62)
+unfolding xor
+three-short-8 = three short-8 accepted-short-8 (replicate 3 0x06) (replicate 3 0x62) fits-short-8 fits-other-short-8 refl refl refl
+
+pub page-short-8 : IsPage short-8 (replicate 6 0x01)
+unfolding pageClear
+page-short-8 = page short-8 (replicate 6 0x01) tt refl tt
+
+pub damaged-short-8 : isMember (judgeAnswer short-8 (replicate 6 0x01)) ≡ false
+unfolding judgeAnswer pow
+damaged-short-8 = refl

@@ -1,4 +1,4 @@
-// Pages written at several widths, judged, read out and written again; erased pages judged, read out and refused.
+// Pages written at several widths, judged, read out and written again, of shortened sheets too; erased pages judged, read out and refused.
 // Each equality is expected as the program runs, and proved of every run:
 // from what the calls promise and the theorems on the promises, and nothing of how a page is made.
 ghost use mathlib.Core.Path.{_≡_};
@@ -184,10 +184,11 @@ fn rewrites(p: Parameters, l: u32, page: &[u8], blocks: &mut [u8], again: &mut [
     judged
 }
 
-// An erased page, its spare bits set or not: blank by judge and by read out; its blocks are refused, and the buffer stays as it was.
+// An erased page, its spare bits set or not, of a sheet that is not shortened: blank by judge and by read out; its blocks are refused, and the
+// buffer stays as it was.
 fn erased(p: Parameters, l: u32, page: &[u8], blocks: &mut [u8], again: &mut [u8], old: &[u8])
     requires { ⌜ Accepted p × Width l × PageBuffer p (now page) × IsBlank p (now page) × BlocksBuffer p (now blocks)
-        × PageBuffer p (now again) × (now old ≡ now again) ⌝ }
+        × PageBuffer p (now again) × (now old ≡ now again) × (p .s ≡ 0) ⌝ }
 {
     let j = page::judge(p, page);
     check::expect(blank(j));
@@ -280,7 +281,8 @@ fn quoted_rooms(p: Parameters, a: &[u8], n: usize)
 
 // And the erased page x, whose blocks take k bytes.
 fn erased_rooms(p: Parameters, x: &[u8], k: usize)
-    requires { ⌜ Accepted p × PageBuffer p (now x) × IsBlank p (now x) × (k ≡ dataBytes p) × (k ≤ 1024) × (length (now x) ≤ 1024) ⌝ }
+    requires { ⌜ Accepted p × PageBuffer p (now x) × IsBlank p (now x) × (k ≡ dataBytes p) × (k ≤ 1024) × (length (now x) ≤ 1024)
+        × (p .s ≡ 0) ⌝ }
 {
     let n = x.len();
     let mut blocks = [0x5au8; 1024];
@@ -310,6 +312,7 @@ fn main() {
         t1: 2,
         t2: 0,
         t3: 0,
+        s: 0,
     };
     let a = [0x02u8, 0x01, 0x00];
     let b = [0x7eu8, 0xff, 0x07];
@@ -331,6 +334,7 @@ fn main() {
         t1: 2,
         t2: 3,
         t3: 0,
+        s: 0,
     };
     let a = [0x00u8, 0x00, 0x01, 0x00];
     let b = [0x1eu8, 0x7f, 0xff, 0x07];
@@ -345,6 +349,7 @@ fn main() {
         t1: 2,
         t2: 0,
         t3: 0,
+        s: 0,
     };
     let a = [0x06u8; 61];
     let b = [0x62u8; 61];
@@ -358,6 +363,7 @@ fn main() {
         t1: 2,
         t2: 0,
         t3: 0,
+        s: 0,
     };
     let a = [0x06u8; 1020];
     let b = [0x02u8; 1020];
@@ -365,4 +371,36 @@ fn main() {
     let e = [0xffu8; 1024];
     check::expect(!holds(p, &a, &b, &x));
     erased_rooms(p, &e, 1020);
+    // sheet A with s 3: a member, and its erased page, whose blocks are written and make another page
+    let p = Parameters {
+        q: 4,
+        m: 2,
+        v: 1,
+        t0: 1,
+        t1: 2,
+        t2: 0,
+        t3: 0,
+        s: 3,
+    };
+    let a = [0x02u8, 0x01];
+    let b = [0x0eu8, 0xff];
+    let x = [0xe8u8, 0x0c, 0x13, 0x00];
+    let z = [0xffu8, 0x0f, 0xff, 0x0f];
+    check::expect(holds(p, &a, &b, &x));
+    check::expect(!holds(p, &a, &b, &z));
+    // q = 8 with 24 coefficients stored, and no spare bit
+    let p = Parameters {
+        q: 8,
+        m: 2,
+        v: 1,
+        t0: 1,
+        t1: 2,
+        t2: 0,
+        t3: 0,
+        s: 231,
+    };
+    let a = [0x06u8; 3];
+    let b = [0x62u8; 3];
+    let x = [0x01u8; 6];
+    check::expect(!holds(p, &a, &b, &x));
 }

@@ -1,6 +1,6 @@
 // Runs the calls on records from standard input and writes what they give.
-//   record   32 bytes: call, q, m, v, t0 to t3, index, second index, width, 0, page length, buffer length (two bytes each, low first), u,
-//            count (eight bytes each); then the page's bytes, for a writing the blocks', for a feeding the register's 96
+//   record   36 bytes: call, q, m, v, t0 to t3, index, second index, width, 0, page length, buffer length (two bytes each, low first), u,
+//            count (eight bytes each), s (four); then the page's bytes, for a writing the blocks', for a feeding the register's 96
 //   answer   the refusal's number or 0, then what the call gives, and the lent buffer whole;
 //            of a verdict 0, 32 or 64, then the word's index; 96 for blank
 use code::Nesting;
@@ -75,6 +75,7 @@ fn test(p: Parameters) {
         t1,
         t2,
         t3,
+        s,
     } = tested
     else {
         if let Tested::Refused(k) = tested {
@@ -91,6 +92,7 @@ fn test(p: Parameters) {
         t1 as u64,
         t2 as u64,
         t3 as u64,
+        s as u64,
     ];
     put_numbers(&r);
 }
@@ -304,9 +306,10 @@ fn byte(h: &[u8], k: usize) -> u32 {
 }
 
 fn run(h: &[u8], page: &[u8], size: usize) {
-    if h.len() < 32 {
+    if h.len() < 36 {
         return;
     }
+    let s = number(&h[32..36]);
     let p = Parameters {
         q: byte(h, 1),
         m: byte(h, 2),
@@ -315,6 +318,7 @@ fn run(h: &[u8], page: &[u8], size: usize) {
         t1: byte(h, 5),
         t2: byte(h, 6),
         t3: byte(h, 7),
+        s: (s % 4294967296) as u32,
     };
     let i = byte(h, 8) as usize;
     let l = byte(h, 9) as usize;
@@ -359,9 +363,9 @@ fn rest(head: &[u8], page: &mut [u8], size: usize) {
 
 // One record; is there another?
 fn record() -> bool {
-    let mut head = [0u8; 32];
+    let mut head = [0u8; 36];
     let got = io::read_full(0, &mut head);
-    if got < 32 {
+    if got < 36 {
         return false;
     }
     let mut room = [0u8; 8192];

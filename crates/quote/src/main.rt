@@ -1,9 +1,10 @@
-// The quote at the counter: standard input has q, m, v, then t_0 to t_v if v is 1 to 3, a byte each; a missing one counts as 0.
+// The quote at the counter: standard input has q, m, v, then, if v is 1 to 3, t_0 to t_v, a byte each, and s in two, low byte first;
+// a missing byte counts as 0.
 // It writes, as text, the sheet and then the check bits of each level, the data bits of each block, the bytes of blocks and page, and the
 // distance, or the refusal.
 ghost use mathlib.Core.Path.{_≡_};
-ghost use Prim.Native.Nat.{_<_};
-ghost use Rattle.quote.specs.Given.{strengthRead, sheetRead};
+ghost use Prim.Native.Nat.{_+_, _*_, _<_};
+ghost use Rattle.quote.specs.Given.{shorteningRead, strengthRead, sheetRead};
 use code::Outcome;
 use code::Parameters;
 use libc::STDOUT_FILENO;
@@ -12,7 +13,7 @@ use sizes::Size;
 // ---- the input
 
 // t_a, 0 where there is none.
-fn strength_given(input: [u8; 7], a: usize) -> u32
+fn strength_given(input: [u8; 9], a: usize) -> u32
     requires { ⌜ a < 4 ⌝ }
     ensures { λ r. ⌜ r ≡ strengthRead input a ⌝ }
 {
@@ -29,8 +30,29 @@ fn strength_given(input: [u8; 7], a: usize) -> u32
     input[3 + a] as u32
 }
 
+// A number in two bytes, low byte first.
+fn pair(low: u8, high: u8) -> u32
+    ensures { λ r. ⌜ r ≡ low + 256 * high ⌝ }
+{
+    low as u32 + 256 * high as u32
+}
+
+// s, 0 where there is none.
+fn shortening_given(input: [u8; 9]) -> u32
+    ensures { λ r. ⌜ r ≡ shorteningRead input ⌝ }
+{
+    let v = input[2] as usize;
+    if v < 1 {
+        return 0;
+    }
+    if 3 < v {
+        return 0;
+    }
+    pair(input[4 + v], input[5 + v])
+}
+
 // The parameters.
-fn sheet_given(input: [u8; 7]) -> Parameters
+fn sheet_given(input: [u8; 9]) -> Parameters
     ensures { λ r. ⌜ r ≡ sheetRead input ⌝ }
 {
     Parameters {
@@ -41,6 +63,7 @@ fn sheet_given(input: [u8; 7]) -> Parameters
         t1: strength_given(input, 1),
         t2: strength_given(input, 2),
         t3: strength_given(input, 3),
+        s: shortening_given(input),
     }
 }
 
@@ -81,6 +104,10 @@ fn sheet(p: Parameters) {
     strength(p.t1);
     strength(p.t2);
     strength(p.t3);
+    if p.s != 0 {
+        text(b", s");
+        number(p.s as u64);
+    }
     text(b"\n");
 }
 
@@ -108,6 +135,9 @@ fn refused(k: u8) {
     if k == 4 {
         text(b": clash\n");
     }
+    if k == 14 {
+        text(b": shortening\n");
+    }
 }
 
 fn quoted(p: Parameters, list: [u16; 12]) {
@@ -132,7 +162,7 @@ fn quoted(p: Parameters, list: [u16; 12]) {
 }
 
 fn main() {
-    let mut input = [0u8; 7];
+    let mut input = [0u8; 9];
     io::read_full(0, &mut input);
     let p = sheet_given(input);
     sheet(p);

@@ -62,6 +62,7 @@ module _ (input : List ℕ) where
     t1 = strengthGiven input 1;
     t2 = strengthGiven input 2;
     t3 = strengthGiven input 3;
+    s = 0;
   }
 
   pub sheet-eq : sheetGiven input ≡ parts
@@ -70,8 +71,8 @@ module _ (input : List ℕ) where
 
   pub sheet-is : (p : Parameters) → p .q ≡ lead input 0 → p .m ≡ lead input 1 → p .v ≡ lead input 2
       → p .t0 ≡ strengthGiven input 0 → p .t1 ≡ strengthGiven input 1 → p .t2 ≡ strengthGiven input 2 → p .t3 ≡ strengthGiven input 3
-      → p ≡ sheetGiven input
-  sheet-is p a b c d e f g = rw (sheet-eq, ← a, ← b, ← c, ← d, ← e, ← f, ← g) refl
+      → p .s ≡ 0 → p ≡ sheetGiven input
+  sheet-is p a b c d e f g h = rw (sheet-eq, ← a, ← b, ← c, ← d, ← e, ← f, ← g, ← h) refl
 
   -- ---- the blocks
   pub blocks-eq : blocksGiven input ≡ drop (4 + strengthsGiven input) input

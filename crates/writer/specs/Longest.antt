@@ -111,7 +111,7 @@ module _ (p : Parameters) (A : Accepted p) where
 
 -- ---- and such an input there is
 abbrev pub largest : Parameters
-largest = record { q = 12; m = 8; v = 1; t0 = 1; t1 = 2; t2 = 0; t3 = 0 }
+largest = record { q = 12; m = 8; v = 1; t0 = 1; t1 = 2; t2 = 0; t3 = 0; s = 0 }
 
 pub largest-accepted : Accepted largest
 unfolding sheetRefusal

@@ -46,9 +46,9 @@ sheet-refused input p t n k count bytes e s r f a b =
     ∙ ap (λ (q : Parameters). writeRefusal q (lead input 3) (blocksGiven input) (pageBytes q)) e) h a b
 
 -- ---- the test's answer is the sheet
-accepted-by : (p : Parameters) (r q m v t0 t1 t2 t3 : ℕ) → r ≡ 0 → Tested.Accepted q m v t0 t1 t2 t3 ≡ testedOf p r
-    → _≡_ {A = Parameters} (record { q = q; m = m; v = v; t0 = t0; t1 = t1; t2 = t2; t3 = t3 }) p
-accepted-by p zero q m v t0 t1 t2 t3 z e =
+accepted-by : (p : Parameters) (r q m v t0 t1 t2 t3 s : ℕ) → r ≡ 0 → Tested.Accepted q m v t0 t1 t2 t3 s ≡ testedOf p r
+    → _≡_ {A = Parameters} (record { q = q; m = m; v = v; t0 = t0; t1 = t1; t2 = t2; t3 = t3; s = s }) p
+accepted-by p zero q m v t0 t1 t2 t3 s z e =
     let a : q ≡ p .q = cc in
     let b : m ≡ p .m = cc in
     let c : v ≡ p .v = cc in
@@ -56,12 +56,13 @@ accepted-by p zero q m v t0 t1 t2 t3 z e =
     let f : t1 ≡ p .t1 = cc in
     let g : t2 ≡ p .t2 = cc in
     let h : t3 ≡ p .t3 = cc in
-    rw (a, b, c, d, f, g, h) refl
-accepted-by p (suc r) q m v t0 t1 t2 t3 z e = absurd (Nat.suc-ne-zero r z)
+    let i : s ≡ p .s = cc in
+    rw (a, b, c, d, f, g, h, i) refl
+accepted-by p (suc r) q m v t0 t1 t2 t3 s z e = absurd (Nat.suc-ne-zero r z)
 
-module _ (p : Parameters) (q m v t0 t1 t2 t3 : ℕ) (t : Tests p (Tested.Accepted q m v t0 t1 t2 t3)) where
-  pub accepted-is : _≡_ {A = Parameters} (record { q = q; m = m; v = v; t0 = t0; t1 = t1; t2 = t2; t3 = t3 }) p
-  accepted-is = accepted-by p (sheetRefusal p) q m v t0 t1 t2 t3 (sym (t .number)) (t .answers ∙ tested-eq p)
+module _ (p : Parameters) (q m v t0 t1 t2 t3 s : ℕ) (t : Tests p (Tested.Accepted q m v t0 t1 t2 t3 s)) where
+  pub accepted-is : _≡_ {A = Parameters} (record { q = q; m = m; v = v; t0 = t0; t1 = t1; t2 = t2; t3 = t3; s = s }) p
+  accepted-is = accepted-by p (sheetRefusal p) q m v t0 t1 t2 t3 s (sym (t .number)) (t .answers ∙ tested-eq p)
 
-  pub accepted-sheet : Accepted (record { q = q; m = m; v = v; t0 = t0; t1 = t1; t2 = t2; t3 = t3 })
+  pub accepted-sheet : Accepted (record { q = q; m = m; v = v; t0 = t0; t1 = t1; t2 = t2; t3 = t3; s = s })
   accepted-sheet = ap sheetRefusal accepted-is ∙ sym (t .number)

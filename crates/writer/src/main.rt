@@ -1,6 +1,6 @@
 // The writer program: standard input has q, m, v, L, then t_0 to t_v if v is 1 to 3, then the blocks;
 // a missing one of these leading bytes counts as 0.
-// It writes byte 0 and the page, or one byte, the refusal's number.
+// It writes byte 0 and the page, or one byte, the refusal's number. No sub-word is shortened: s is 0.
 ghost use mathlib.Core.Path.{_≡_};
 ghost use mathlib.Core.List.{_∷_};
 ghost use Prim.Native.Nat.{_≤_};
@@ -69,6 +69,7 @@ fn sheet_given(input: &[u8]) -> Parameters
         t1: strength_given(input, 1),
         t2: strength_given(input, 2),
         t3: strength_given(input, 3),
+        s: 0,
     }
 }
 
@@ -166,6 +167,7 @@ fn respond(room: &[u8], got: usize) -> Output
         t1,
         t2,
         t3,
+        s,
     } = tested
     else {
         let k = tested_number(tested);
@@ -179,6 +181,7 @@ fn respond(room: &[u8], got: usize) -> Output
         t1: t1,
         t2: t2,
         t3: t3,
+        s: s,
     };
     put(room, got, page_written(input, accepted))
 }

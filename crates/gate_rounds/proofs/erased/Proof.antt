@@ -28,7 +28,7 @@ refused c =
     let s = r .before .before .before .before .before .before .before .before .before in
     let a = s .args in
     let l = demands (a .p) (s .pre .0) .0 .blank-write-laws (a .l) _ (a .again .now) _ _ (s .pre .1) (out r .fits (s .pre .3)) (s .pre .5) (c .write .ensures) in
-    let b = l .ones .1 (out r .ones (s .pre .3)) in
+    let b = l .ones .1 (s .pre .7, out r .ones (s .pre .3)) in
     (l .refused .1 b, l .kept b)
 
 judge-requires : tie.Need-judge-requires

@@ -26,7 +26,7 @@ slice-aggregate-erased-3 c = let s = c .before .before .before .before in sym (l
 erased-requires : tie.Need-erased-requires
 erased-requires c κs =
     let s = c .before .before .before .before in
-    (s .pre .0, search needs, s .pre .1, s .pre .2, length-take (s .args .k) _ ∙ Nat.min-eq-left (s .pre .4) ∙ s .pre .3, length-take (length (s .args .x .now)) _ ∙ Nat.min-eq-left (s .pre .5) ∙ s .pre .1, refl)
+    (s .pre .0, search needs, s .pre .1, s .pre .2, length-take (s .args .k) _ ∙ Nat.min-eq-left (s .pre .4) ∙ s .pre .3, length-take (length (s .args .x .now)) _ ∙ Nat.min-eq-left (s .pre .5) ∙ s .pre .1, refl, s .pre .6)
 
 returns : tie.Need-returns
 returns c = search needs

@@ -3,7 +3,7 @@ use mathlib.Core.Bool.{not}
 use mathlib.Core.Path.{refl, ap, _∙_}
 use lib.Dec.{lit≤}
 use Rattle.cases.specs.Inhabited.{accepted-A, accepted-B, erased-blank, isPage-A}
-use Rattle.gate_rounds.specs.Sheets.{accepted-8, accepted-12, blocks-12, blocks-A, cleared-A, damaged-8, damaged-12, damaged-A, damaged-B, erased-12, member-A, no-member-A, page-8, page-12, page-cleared-A, page-damaged-A, page-damaged-B, three-8, three-12, three-A, three-B}
+use Rattle.gate_rounds.specs.Sheets.{accepted-8, accepted-12, accepted-short, accepted-short-8, blocks-12, blocks-A, cleared-A, damaged-8, damaged-12, damaged-A, damaged-B, damaged-short-8, erased-12, member-A, member-short, no-member-A, no-member-short, page-8, page-12, page-cleared-A, page-cleared-short, page-damaged-A, page-damaged-B, page-short, page-short-8, three-8, three-12, three-A, three-B, three-short, three-short-8}
 use Rattle.gate_rounds.proofs.main.Statement.{statement}
 use Rattle.gate_rounds.proofs.main.Tie as tie
 
@@ -56,13 +56,13 @@ slice-aggregate-erased-rooms : tie.Need-slice-aggregate-erased-rooms
 slice-aggregate-erased-rooms c = search needs
 
 erased-rooms-requires : tie.Need-erased-rooms-requires
-erased-rooms-requires c κs = (accepted-A, refl, cleared-A, blocks-A, lit≤ tt, lit≤ tt)
+erased-rooms-requires c κs = (accepted-A, refl, cleared-A, blocks-A, lit≤ tt, lit≤ tt, refl)
 
 slice-aggregate-erased-rooms-2 : tie.Need-slice-aggregate-erased-rooms-2
 slice-aggregate-erased-rooms-2 c = search needs
 
 erased-rooms-requires-2 : tie.Need-erased-rooms-requires-2
-erased-rooms-requires-2 c κs = (accepted-A, refl, erased-blank, blocks-A, lit≤ tt, lit≤ tt)
+erased-rooms-requires-2 c κs = (accepted-A, refl, erased-blank, blocks-A, lit≤ tt, lit≤ tt, refl)
 
 slice-aggregate-holds-10 : tie.Need-slice-aggregate-holds-10
 slice-aggregate-holds-10 c = search needs
@@ -113,7 +113,52 @@ slice-aggregate-erased-rooms-3 : tie.Need-slice-aggregate-erased-rooms-3
 slice-aggregate-erased-rooms-3 c = search needs
 
 erased-rooms-requires-3 : tie.Need-erased-rooms-requires-3
-erased-rooms-requires-3 c κs = (accepted-12, refl, erased-12, blocks-12, lit≤ tt, lit≤ tt)
+erased-rooms-requires-3 c κs = (accepted-12, refl, erased-12, blocks-12, lit≤ tt, lit≤ tt, refl)
+
+slice-aggregate-holds-19 : tie.Need-slice-aggregate-holds-19
+slice-aggregate-holds-19 c = search needs
+
+slice-aggregate-holds-20 : tie.Need-slice-aggregate-holds-20
+slice-aggregate-holds-20 c = search needs
+
+slice-aggregate-holds-21 : tie.Need-slice-aggregate-holds-21
+slice-aggregate-holds-21 c = search needs
+
+holds-requires-7 : tie.Need-holds-requires-7
+holds-requires-7 c κs = (accepted-short, three-short .0, three-short .1, page-short, lit≤ tt, lit≤ tt, three-short .2)
+
+expect-requires-7 : tie.Need-expect-requires-7
+expect-requires-7 c κs = c .holds7 .ensures ∙ member-short
+
+slice-aggregate-holds-22 : tie.Need-slice-aggregate-holds-22
+slice-aggregate-holds-22 c = search needs
+
+slice-aggregate-holds-23 : tie.Need-slice-aggregate-holds-23
+slice-aggregate-holds-23 c = search needs
+
+slice-aggregate-holds-24 : tie.Need-slice-aggregate-holds-24
+slice-aggregate-holds-24 c = search needs
+
+holds-requires-8 : tie.Need-holds-requires-8
+holds-requires-8 c κs = (accepted-short, three-short .0, three-short .1, page-cleared-short, lit≤ tt, lit≤ tt, three-short .2)
+
+expect-requires-8 : tie.Need-expect-requires-8
+expect-requires-8 c κs = ap not (c .holds8 .ensures ∙ no-member-short)
+
+slice-aggregate-holds-25 : tie.Need-slice-aggregate-holds-25
+slice-aggregate-holds-25 c = search needs
+
+slice-aggregate-holds-26 : tie.Need-slice-aggregate-holds-26
+slice-aggregate-holds-26 c = search needs
+
+slice-aggregate-holds-27 : tie.Need-slice-aggregate-holds-27
+slice-aggregate-holds-27 c = search needs
+
+holds-requires-9 : tie.Need-holds-requires-9
+holds-requires-9 c κs = (accepted-short-8, three-short-8 .0, three-short-8 .1, page-short-8, lit≤ tt, lit≤ tt, three-short-8 .2)
+
+expect-requires-9 : tie.Need-expect-requires-9
+expect-requires-9 c κs = ap not (c .holds9 .ensures ∙ damaged-short-8)
 
 returns : tie.Need-returns
 returns c = search needs
@@ -158,4 +203,19 @@ main-spec =
     expect-requires-6
     slice-aggregate-erased-rooms-3
     erased-rooms-requires-3
+    slice-aggregate-holds-19
+    slice-aggregate-holds-20
+    slice-aggregate-holds-21
+    holds-requires-7
+    expect-requires-7
+    slice-aggregate-holds-22
+    slice-aggregate-holds-23
+    slice-aggregate-holds-24
+    holds-requires-8
+    expect-requires-8
+    slice-aggregate-holds-25
+    slice-aggregate-holds-26
+    slice-aggregate-holds-27
+    holds-requires-9
+    expect-requires-9
     returns)

@@ -33,10 +33,14 @@ strength-given-requires-3 c κs = search needs
 strength-given-requires-4 : tie.Need-strength-given-requires-4
 strength-given-requires-4 c κs = search needs
 
+shortening-given-requires : tie.Need-shortening-given-requires
+shortening-given-requires c κs = search needs
+
 returns : tie.Need-returns
 returns c =
-    let t2 = c .before .before in
-    sheet-read (t2 .before .before .args .t1) _ _ _ _ (t2 .before .strength-given .ensures) (t2 .strength-given2 .ensures) (c .before .strength-given3 .ensures) (c .strength-given4 .ensures)
+    let t4 = c .before in
+    let t2 = t4 .before .before in
+    sheet-read (t2 .before .before .args .t1) _ _ _ _ _ (t2 .before .strength-given .ensures) (t2 .strength-given2 .ensures) (t4 .before .strength-given3 .ensures) (t4 .strength-given4 .ensures) (c .shortening-given .ensures)
 
 pub sheet-given-spec : {M : Type 1} → statement M
 sheet-given-spec =
@@ -52,4 +56,5 @@ sheet-given-spec =
     strength-given-requires-2
     strength-given-requires-3
     strength-given-requires-4
+    shortening-given-requires
     returns)

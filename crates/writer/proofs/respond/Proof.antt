@@ -58,7 +58,7 @@ page-written-requires c κs =
     let t = c .before .before .before in
     let g = t .before in
     let e = rw (c .before .tested .given .1) at (t .test .ensures) in
-    (accepted-is (g .sheet-given .result) _ _ _ _ _ _ _ e ∙ g .sheet-given .ensures, accepted-sheet (g .sheet-given .result) _ _ _ _ _ _ _ e)
+    (accepted-is (g .sheet-given .result) _ _ _ _ _ _ _ _ e ∙ g .sheet-given .ensures, accepted-sheet (g .sheet-given .result) _ _ _ _ _ _ _ _ e)
 
 put-requires-2 : tie.Need-put-requires-2
 put-requires-2 c κs = page-owed c

@@ -30,7 +30,7 @@ returns c =
     let l3 = t2 .before .before in
     let l1 = l3 .before .before in
     sheet-is (l1 .before .before .args .input .now) _ (l1 .lead .ensures) (l3 .before .lead2 .ensures) (l3 .lead3 .ensures)
-    (t2 .before .strength-given .ensures) (t2 .strength-given2 .ensures) (c .before .strength-given3 .ensures) (c .strength-given4 .ensures)
+    (t2 .before .strength-given .ensures) (t2 .strength-given2 .ensures) (c .before .strength-given3 .ensures) (c .strength-given4 .ensures) refl
 
 pub sheet-given-spec : {M : Type 1} → statement M
 sheet-given-spec =

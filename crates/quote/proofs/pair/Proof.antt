@@ -1,0 +1,15 @@
+use borrow.Author.Needs.{needs}
+use Rattle.quote.proofs.pair.Statement.{statement}
+use Rattle.quote.proofs.pair.Tie as tie
+
+mul-result : tie.Need-mul-result
+mul-result c = search needs
+
+add-result : tie.Need-add-result
+add-result c = search needs
+
+returns : tie.Need-returns
+returns c = search needs
+
+pub pair-spec : {M : Type 1} → statement M
+pair-spec = tie.close (tie.spec mul-result add-result returns)
