@@ -242,8 +242,10 @@ module _ (p : Parameters) (R : Rules p) where
   module _ (a : List ℕ) (h : Fits p a) where
     pub page-ones : IsBlank p (pageOf p a) ↔ ((p .s ≡ 0) × OnesBlocks p a)
     page-ones = (
-      (λ b. (none b (Nat.eq-zero-or-pos (p .s)),
-          (λ i r l c. sym (written-bit p R a h i r l c) ∙ b i (checkBits p i + r) l (data-room p R i r c)))),
+      (λ b. (
+        none b (Nat.eq-zero-or-pos (p .s)),
+        (λ i r l c. sym (written-bit p R a h i r l c) ∙ b i (checkBits p i + r) l (data-room p R i r c)),
+      )),
       (λ o. rw (same (o .0) (o .1)) ones-blank),
     )
       where

@@ -14,7 +14,7 @@ use Rattle.code.specs.Layout.{dataBytes, pageBytes}
 use Rattle.code.specs.Parameters.{Accepted, sheetRefusal, strength}
 use Rattle.code.specs.Theorems.{demand3}
 use Rattle.layout.specs.Parts.{block-room, bytes-high}
-use Rattle.layout.specs.Sizes.{bits-all, data-low, length-low, page-high}
+use Rattle.layout.specs.Sizes.{data-low, page-high, stored-low}
 use Rattle.sizes.specs.declared.Size.{Size}
 use Rattle.sizes.specs.Least.{strength-high}
 use Rattle.sizes.specs.Sized.{Sized, sizeBy}
@@ -49,7 +49,7 @@ module _ (p : Parameters) (x : ℕ) (r : Size) (S : Sized (sheetRefusal p) x r) 
 module _ (p : Parameters) where
   pub page-size : IsSize p (pageBytes p)
   page-size = record {
-    low = λ A. Nat.mul-le-mul {n₁ = 1} {m₁ = 1} (omega (arith, accepted p A .m-low)) (omega (arith, bits-all p A, length-low p A));
+    low = λ A. Nat.mul-le-mul {n₁ = 1} {m₁ = 1} (omega (arith, accepted p A .m-low)) (omega (arith, stored-low p A));
     high = λ A. Nat.lt-of-le-of-lt (page-high p A) (lit< tt);
   }
 

@@ -25,11 +25,12 @@ pub extern "C" fn gii_write(
     t1: u32,
     t2: u32,
     t3: u32,
+    s: u32,
     width: u32,
     blocks: &[u8],
     page: &mut [u8],
 ) -> u32
-    ensures { λ r. ⌜ WrittenC (sheet q m v t0 t1 t2 t3) width (now (blocks .entry)) (now (page .entry)) (now (page .exit)) r ⌝ }
+    ensures { λ r. ⌜ WrittenC (sheet q m v t0 t1 t2 t3 s) width (now (blocks .entry)) (now (page .entry)) (now (page .exit)) r ⌝ }
 {
     let p = Parameters {
         q,
@@ -39,6 +40,7 @@ pub extern "C" fn gii_write(
         t1,
         t2,
         t3,
+        s,
     };
     let r = page::write(p, width, blocks, page);
     outcome_number(r)
@@ -54,9 +56,10 @@ pub extern "C" fn gii_judge(
     t1: u32,
     t2: u32,
     t3: u32,
+    s: u32,
     page: &[u8],
 ) -> u32
-    ensures { λ r. ⌜ JudgedC (sheet q m v t0 t1 t2 t3) (now (page .entry)) r ⌝ }
+    ensures { λ r. ⌜ JudgedC (sheet q m v t0 t1 t2 t3 s) (now (page .entry)) r ⌝ }
 {
     let p = Parameters {
         q,
@@ -66,6 +69,7 @@ pub extern "C" fn gii_judge(
         t1,
         t2,
         t3,
+        s,
     };
     verdict_number(page::judge(p, page))
 }
@@ -80,10 +84,11 @@ pub extern "C" fn gii_read_out(
     t1: u32,
     t2: u32,
     t3: u32,
+    s: u32,
     page: &[u8],
     blocks: &mut [u8],
 ) -> u32
-    ensures { λ r. ⌜ ReadOutC (sheet q m v t0 t1 t2 t3) (now (page .entry)) (now (blocks .entry)) (now (blocks .exit)) r ⌝ }
+    ensures { λ r. ⌜ ReadOutC (sheet q m v t0 t1 t2 t3 s) (now (page .entry)) (now (blocks .entry)) (now (blocks .exit)) r ⌝ }
 {
     let p = Parameters {
         q,
@@ -93,6 +98,7 @@ pub extern "C" fn gii_read_out(
         t1,
         t2,
         t3,
+        s,
     };
     let r = page::read_out(p, page, blocks);
     verdict_number(r)
@@ -108,11 +114,12 @@ pub extern "C" fn gii_syndromes(
     t1: u32,
     t2: u32,
     t3: u32,
+    s: u32,
     page: &[u8],
     index: u32,
     list: &mut [u8],
 ) -> u32
-    ensures { λ r. ⌜ SyndromesMadeC (sheet q m v t0 t1 t2 t3) (now (page .entry)) index (now (list .entry)) (now (list .exit)) r ⌝ }
+    ensures { λ r. ⌜ SyndromesMadeC (sheet q m v t0 t1 t2 t3 s) (now (page .entry)) index (now (list .entry)) (now (list .exit)) r ⌝ }
 {
     let p = Parameters {
         q,
@@ -122,6 +129,7 @@ pub extern "C" fn gii_syndromes(
         t1,
         t2,
         t3,
+        s,
     };
     syndrome_bytes(false, p, page, index as usize, list)
 }
@@ -136,11 +144,12 @@ pub extern "C" fn gii_nested_syndromes(
     t1: u32,
     t2: u32,
     t3: u32,
+    s: u32,
     page: &[u8],
     index: u32,
     list: &mut [u8],
 ) -> u32
-    ensures { λ r. ⌜ NestedSyndromesMadeC (sheet q m v t0 t1 t2 t3) (now (page .entry)) index (now (list .entry)) (now (list .exit)) r ⌝ }
+    ensures { λ r. ⌜ NestedSyndromesMadeC (sheet q m v t0 t1 t2 t3 s) (now (page .entry)) index (now (list .entry)) (now (list .exit)) r ⌝ }
 {
     let p = Parameters {
         q,
@@ -150,6 +159,7 @@ pub extern "C" fn gii_nested_syndromes(
         t1,
         t2,
         t3,
+        s,
     };
     syndrome_bytes(true, p, page, index as usize, list)
 }
@@ -164,9 +174,10 @@ pub extern "C" fn gii_quote(
     t1: u32,
     t2: u32,
     t3: u32,
+    s: u32,
     list: &mut [u8],
 ) -> u32
-    ensures { λ r. ⌜ QuoteMadeC (sheet q m v t0 t1 t2 t3) (now (list .entry)) (now (list .exit)) r ⌝ }
+    ensures { λ r. ⌜ QuoteMadeC (sheet q m v t0 t1 t2 t3 s) (now (list .entry)) (now (list .exit)) r ⌝ }
 {
     let p = Parameters {
         q,
@@ -176,14 +187,24 @@ pub extern "C" fn gii_quote(
         t1,
         t2,
         t3,
+        s,
     };
     quote_bytes(p, list)
 }
 
 // The bytes of a page. 0 where the sheet is refused.
 #[no_mangle]
-pub extern "C" fn gii_page_bytes(q: u32, m: u32, v: u32, t0: u32, t1: u32, t2: u32, t3: u32) -> u32
-    ensures { λ r. ⌜ SizeC (sheet q m v t0 t1 t2 t3) (pageBytes (sheet q m v t0 t1 t2 t3)) r ⌝ }
+pub extern "C" fn gii_page_bytes(
+    q: u32,
+    m: u32,
+    v: u32,
+    t0: u32,
+    t1: u32,
+    t2: u32,
+    t3: u32,
+    s: u32,
+) -> u32
+    ensures { λ r. ⌜ SizeC (sheet q m v t0 t1 t2 t3 s) (pageBytes (sheet q m v t0 t1 t2 t3 s)) r ⌝ }
 {
     let p = Parameters {
         q,
@@ -193,6 +214,7 @@ pub extern "C" fn gii_page_bytes(q: u32, m: u32, v: u32, t0: u32, t1: u32, t2: u
         t1,
         t2,
         t3,
+        s,
     };
     let r = sizes::page_bytes(p);
     size_number(r)
@@ -200,8 +222,17 @@ pub extern "C" fn gii_page_bytes(q: u32, m: u32, v: u32, t0: u32, t1: u32, t2: u
 
 // The bytes of all blocks. 0 where the sheet is refused.
 #[no_mangle]
-pub extern "C" fn gii_data_bytes(q: u32, m: u32, v: u32, t0: u32, t1: u32, t2: u32, t3: u32) -> u32
-    ensures { λ r. ⌜ SizeC (sheet q m v t0 t1 t2 t3) (dataBytes (sheet q m v t0 t1 t2 t3)) r ⌝ }
+pub extern "C" fn gii_data_bytes(
+    q: u32,
+    m: u32,
+    v: u32,
+    t0: u32,
+    t1: u32,
+    t2: u32,
+    t3: u32,
+    s: u32,
+) -> u32
+    ensures { λ r. ⌜ SizeC (sheet q m v t0 t1 t2 t3 s) (dataBytes (sheet q m v t0 t1 t2 t3 s)) r ⌝ }
 {
     let p = Parameters {
         q,
@@ -211,6 +242,7 @@ pub extern "C" fn gii_data_bytes(q: u32, m: u32, v: u32, t0: u32, t1: u32, t2: u
         t1,
         t2,
         t3,
+        s,
     };
     let r = sizes::data_bytes(p);
     size_number(r)
@@ -218,8 +250,17 @@ pub extern "C" fn gii_data_bytes(q: u32, m: u32, v: u32, t0: u32, t1: u32, t2: u
 
 // The least number of bits in which two different members can differ, as the formulas give it. 0 where the sheet is refused.
 #[no_mangle]
-pub extern "C" fn gii_distance(q: u32, m: u32, v: u32, t0: u32, t1: u32, t2: u32, t3: u32) -> u32
-    ensures { λ r. ⌜ SizeC (sheet q m v t0 t1 t2 t3) (distance (sheet q m v t0 t1 t2 t3)) r ⌝ }
+pub extern "C" fn gii_distance(
+    q: u32,
+    m: u32,
+    v: u32,
+    t0: u32,
+    t1: u32,
+    t2: u32,
+    t3: u32,
+    s: u32,
+) -> u32
+    ensures { λ r. ⌜ SizeC (sheet q m v t0 t1 t2 t3 s) (distance (sheet q m v t0 t1 t2 t3 s)) r ⌝ }
 {
     let p = Parameters {
         q,
@@ -229,6 +270,7 @@ pub extern "C" fn gii_distance(q: u32, m: u32, v: u32, t0: u32, t1: u32, t2: u32
         t1,
         t2,
         t3,
+        s,
     };
     let r = sizes::distance(p);
     size_number(r)
