@@ -47,6 +47,7 @@ pub record Rules (p : Parameters) : Type 0 where
   pub m-low : p .v < p .m
   pub m-high : p .m ≤ 8
   pub t-low : 1 ≤ strength p 0
+  pub t-apart : strength p 0 < strength p 1
   pub rises : (a : ℕ) → a < p .v → strength p a ≤ strength p (suc a)
   pub high : strength p (p .v) ≤ 64
   pub short : 2 * strength p (p .v) ≤ len p - 1
@@ -119,6 +120,7 @@ module _ (p : Parameters) where
         m-low = ltb→lt (p .v) (p .m) (s2 .1);
         m-high = leb→le (p .m) 8 (s3 .1);
         t-low = leb→le 1 (p .t0) (t1 .0);
+        t-apart = ltb→lt (p .t0) (p .t1) (t1 .1);
         rises = rise p (leb→le (p .v) 3 (s1 .1)) (ltb→lt (p .t0) (p .t1) (t1 .1)) (t2 .1) (t3 .1);
         high = leb→le (strength p (p .v)) 64 (t4 .1);
         short = leb→le (2 * strength p (p .v)) (len p - 1) (t5 .1);

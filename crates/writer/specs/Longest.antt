@@ -2,38 +2,29 @@
 --   largest    the sheet whose input has as many
 use mathlib.Core.Path.{_≡_, refl, sym, ap, _∙_}
 use mathlib.Core.Logic.{inr}
-use mathlib.Core.Bool.{_&&_, not}
 use mathlib.Core.List.{[], _∷_, map}
 use Prim.Native.Nat.{ℕ, zero, suc, _+_, _-_, _*_, _/_, _^_, _≤_, _<_, zero-le}
 use native.Mathlib.Nat as Nat
 use native.Mathlib.Decide.{decLt}
 use native.Mathlib.Numerals.{add-one}
 use native.Mathlib.Omega.{arith}
-use lib.Dec.{leb, ltb, ltb→lt, lit≤}
+use lib.Dec.{lit≤}
 use lib.ListN.{length}
-use Rattle.field.specs.Fields.{BinaryField, Known, fieldOf, fieldOf-exponent, fieldOf-length, by-known}
-use Rattle.field.specs.Irreducible.{both}
-use Rattle.field.specs.Powers.{n-pos}
-use Rattle.generator.specs.Exponents.{exponents, exponents-mono, orbit-exponents, row, values}
-use Rattle.generator.specs.Generator.{length-le, width, width-eq}
+use Rattle.field.specs.Fields.{Known, fieldOf, fieldOf-exponent, fieldOf-length, by-known}
+use Rattle.generator.specs.Exponents.{exponents, row, values}
+use Rattle.generator.specs.Generator.{width, width-eq, width-mono}
 use Rattle.generator.specs.Distinct.{distinct}
 use Rattle.code.specs.declared.Parameters.{Parameters}
-use Rattle.code.specs.Chains.{none}
 use Rattle.code.specs.Accepted.{Rules, accepted, rising}
 use Rattle.code.specs.Code.{checkBits, degree, level}
 use Rattle.code.specs.Layout.{blockOffset, blockSizes, dataBits, dataBytes}
-use Rattle.code.specs.Lists.{_orElse_, _when_, range, sum}
+use Rattle.code.specs.Lists.{range, sum}
 use Rattle.code.specs.Pages.{blockBits-eq, blockSizes-eq}
-use Rattle.code.specs.Parameters.{Accepted, clashes, fieldKnown, len, placeFits, shapeFits, sheetRefusal, strength, strengthsFit}
+use Rattle.code.specs.Parameters.{Accepted, len, sheetRefusal, strength}
 use Rattle.code.specs.Steps.{degree-eq}
 use Rattle.layout.specs.Parts.{offset-all, offset-next, offset-zero}
 
--- ---- degrees do not fall, and those of strengths 1 and 2 at q = 12 are 12 and 24
-width-mono : (B : BinaryField) (s t : ℕ) → s ≤ t → width B s ≤ width B t
-width-mono B s t h =
-    rw (width-eq B s, width-eq B t) (length-le B (exponents (B .n) (B .q) s) (orbit-exponents (B .n) (B .q) (B .size) (n-pos B) s)
-    (exponents (B .n) (B .q) t) (exponents-mono (B .n) (B .q) s t h))
-
+-- ---- the degrees of strengths 1 and 2 at q = 12 are 12 and 24
 many-one : length (exponents 4095 12 1) ≡ 12
 unfolding exponents distinct values row
 many-one = refl
@@ -45,26 +36,19 @@ many-two = refl
 width-twelve : (t : ℕ) → width (fieldOf 12) t ≡ length (exponents 4095 12 t)
 width-twelve t = width-eq (fieldOf 12) t ∙ rw (fieldOf-exponent 12 (inr (inr refl)), fieldOf-length 12 (inr (inr refl))) refl
 
--- ---- t_1 is above t_0
-higher : (p : Parameters) → Accepted p → p .t0 < p .t1
-unfolding sheetRefusal strengthsFit
-higher p A =
-    let a = none 0 (fieldKnown p) (2 when not (shapeFits p) orElse 3 when not (strengthsFit p) orElse 4 when clashes p) A in
-    let b = none 1 (shapeFits p) (3 when not (strengthsFit p) orElse 4 when clashes p) (a .1) in
-    let c = none 2 (strengthsFit p) (4 when clashes p) (b .1) in
-    let t5 = both (leb 1 (p .t0) && ltb (p .t0) (p .t1) && placeFits p 2 && placeFits p 3 && leb (strength p (p .v)) 64)
-    (leb (2 * strength p (p .v)) (len p - 1)) (c .0) in
-    let t4 = both (leb 1 (p .t0) && ltb (p .t0) (p .t1) && placeFits p 2 && placeFits p 3) (leb (strength p (p .v)) 64) (t5 .0) in
-    let t3 = both (leb 1 (p .t0) && ltb (p .t0) (p .t1) && placeFits p 2) (placeFits p 3) (t4 .0) in
-    let t2 = both (leb 1 (p .t0) && ltb (p .t0) (p .t1)) (placeFits p 2) (t3 .0) in
-    ltb→lt (p .t0) (p .t1) (both (leb 1 (p .t0)) (ltb (p .t0) (p .t1)) (t2 .0) .1)
-
 -- ---- data bits: at most 4,095 less c, if there are c check bits at q = 12
 data-most : (q w c : ℕ) → Known q → c ≤ 24 → (q ≡ 12 → c ≤ w) → 2 ^ q - 1 - w ≤ 4095 - c
 data-most q w c known l =
     by-known (λ q. (q ≡ 12 → c ≤ w) → 2 ^ q - 1 - w ≤ 4095 - c) (λ h. omega arith) (λ h. omega arith)
     (λ h. let k : c ≤ w = h refl in omega arith)
     q known
+
+-- ---- one block more of k bytes, after o of them
+one-first : (o k i v : ℕ) → o + 2 * (i - (i - v)) ≤ i * 511 → k ≤ 509 → i < v → o + k + 2 * (i + 1 - (i + 1 - v)) ≤ (i + 1) * 511
+one-first o k i v l h b = omega arith
+
+one-more : (o k i v : ℕ) → o + 2 * (i - (i - v)) ≤ i * 511 → k ≤ 511 → v ≤ i → o + k + 2 * (i + 1 - (i + 1 - v)) ≤ (i + 1) * 511
+one-more o k i v l h b = omega arith
 
 module _ (p : Parameters) (A : Accepted p) where
   R : Rules p
@@ -81,15 +65,15 @@ module _ (p : Parameters) (A : Accepted p) where
 
   block-all : (i : ℕ) → (dataBits p i + 7) / 8 ≤ 511
   block-all i =
-      let b : dataBits p i ≤ 4095 - 12 = data-most (p .q) (checkBits p i) 12 (R .known) (lit≤ tt)
+      let b : len p - checkBits p i ≤ 4095 - 12 = data-most (p .q) (checkBits p i) 12 (R .known) (lit≤ tt)
       (check-least 1 12 i many-one (Nat.le-trans (R .t-low) (rising p R 0 (level p i) zero-le (level-low i)))) in
       omega arith
 
   block-first : (i : ℕ) → i < p .v → (dataBits p i + 7) / 8 ≤ 509
   block-first i h =
       let l : 1 ≤ level p i = omega arith in
-      let s : 2 ≤ strength p 1 = omega (arith, higher p A, R .t-low) in
-      let b : dataBits p i ≤ 4095 - 24 = data-most (p .q) (checkBits p i) 24 (R .known) (lit≤ tt)
+      let s : 2 ≤ strength p 1 = omega (arith, R .t-apart, R .t-low) in
+      let b : len p - checkBits p i ≤ 4095 - 24 = data-most (p .q) (checkBits p i) 24 (R .known) (lit≤ tt)
       (check-least 2 24 i many-two (Nat.le-trans s (rising p R 1 (level p i) l (level-low i)))) in
       omega arith
 
@@ -99,8 +83,9 @@ module _ (p : Parameters) (A : Accepted p) where
   more i h l = rw (← add-one i, offset-next p i h) (go (decLt i (p .v)))
     where
       go : Dec (i < p .v) → blockOffset p i + (dataBits p i + 7) / 8 + 2 * (i + 1 - (i + 1 - p .v)) ≤ (i + 1) * 511
-      go (yes b) = omega (arith, block-first i b)
-      go (no n) = omega (arith, block-all i, Nat.le-of-suc-le-suc (Nat.lt-of-not-le (λ k. n k)))
+      go (yes b) = one-first (blockOffset p i) ((dataBits p i + 7) / 8) i (p .v) l (block-first i b) b
+      go (no n) =
+          one-more (blockOffset p i) ((dataBits p i + 7) / 8) i (p .v) l (block-all i) (Nat.le-of-suc-le-suc (Nat.lt-of-not-le (λ k. n k)))
 
   offset-most : (i : ℕ) → i ≤ p .m → blockOffset p i + 2 * (i - (i - p .v)) ≤ i * 511
   offset-most zero h = omega (arith, offset-zero p)

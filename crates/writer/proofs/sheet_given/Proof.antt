@@ -1,4 +1,5 @@
 use borrow.Author.Needs.{needs}
+use mathlib.Core.Path.{refl}
 use Rattle.writer.specs.Input.{sheet-is}
 use Rattle.writer.proofs.sheet_given.Statement.{statement}
 use Rattle.writer.proofs.sheet_given.Tie as tie
