@@ -223,7 +223,7 @@ fn sheets_of_q_8() {
         (8, 3, [1, 2, 2, 2]),
         (8, 1, [16, 17, 0, 0]),
     ] {
-        let p = Parameters { q: 8, m, v, t };
+        let p = Parameters::full(8, m, v, t);
         run.sheet(&p, &[1, 8, 63, 64], 4);
         run.blank(&p, &[1, 8, 63, 64]);
     }
@@ -242,7 +242,7 @@ fn sheets_of_q_12() {
     let mut run = Run::new(12);
     for (m, v, t) in [(8, 3, [28, 32, 39, 58]), (8, 3, [61, 62, 63, 64]), (2, 1, [63, 64, 0, 0]), (8, 3, [1, 2, 2, 2])]
     {
-        let p = Parameters { q: 12, m, v, t };
+        let p = Parameters::full(12, m, v, t);
         run.sheet(&p, &[1, 7, 8, 32, 63, 64], 4);
         run.blank(&p, &[1, 7, 8, 32, 63, 64]);
     }

@@ -68,7 +68,7 @@ fn every_parameter_over_a_range() {
     let mut compare = |random: &mut Random, p: Parameters| {
         for name in NAMES {
             // Buffers that fit the parameters where these are accepted, and those of sheet A where not.
-            let exact_for = if p.accepted() { p } else { Parameters { q: 4, m: 2, v: 1, t: [1, 2, 0, 0] } };
+            let exact_for = if p.accepted() { p } else { Parameters::full(4, 2, 1, [1, 2, 0, 0]) };
             let call = Call { p, ..exact(random, name, &exact_for) };
             calls += 1;
             if let Err(found) = call.compare(0) {
@@ -79,9 +79,9 @@ fn every_parameter_over_a_range() {
     let wide =
         (0..=140).chain([254, 255, 256, 257, 260, 264, 268, 4094, 4095, 1 << 16, 1 << 31, u32::MAX - 1, u32::MAX]);
     for base in [
-        Parameters { q: 4, m: 3, v: 2, t: [1, 2, 3, 0] },
-        Parameters { q: 8, m: 4, v: 3, t: [4, 8, 16, 42] },
-        Parameters { q: 12, m: 4, v: 1, t: [1, 2, 0, 0] },
+        Parameters::full(4, 3, 2, [1, 2, 3, 0]),
+        Parameters::full(8, 4, 3, [4, 8, 16, 42]),
+        Parameters::full(12, 4, 1, [1, 2, 0, 0]),
     ] {
         for number in wide.clone() {
             compare(&mut random, Parameters { q: number, ..base });
@@ -98,7 +98,7 @@ fn every_parameter_over_a_range() {
     for m in 0..=9 {
         for t0 in 0..=9 {
             for t1 in 0..=9 {
-                compare(&mut random, Parameters { q: 4, m, v: 1, t: [t0, t1, 0, 0] });
+                compare(&mut random, Parameters::full(4, m, 1, [t0, t1, 0, 0]));
             }
         }
     }
@@ -130,8 +130,8 @@ fn every_length_near_the_exact_one() {
 #[test]
 fn every_length_of_a_quote() {
     let mut random = Random::new(seed() + 3);
-    let a = Parameters { q: 4, m: 2, v: 1, t: [1, 2, 0, 0] };
-    let clash = Parameters { q: 4, m: 4, v: 2, t: [1, 2, 3, 0] };
+    let a = Parameters::full(4, 2, 1, [1, 2, 0, 0]);
+    let clash = Parameters::full(4, 4, 2, [1, 2, 3, 0]);
     let refused =
         [Parameters { q: 5, ..a }, Parameters { m: 1, ..a }, Parameters { t: [2, 2, 0, 0], ..a }, clash].into_iter();
     assert!(refused.clone().map(|p| p.refusal()).eq(1..=4));

@@ -51,7 +51,7 @@ fn sizes_of_sheets() {
     for (q, m) in [(8, 2), (8, 8), (12, 2), (12, 8)] {
         for t1 in 2..=64 {
             for t0 in 1..t1 {
-                let p = Parameters { q, m, v: 1, t: [t0, t1, 0, 0] };
+                let p = Parameters::full(q, m, 1, [t0, t1, 0, 0]);
                 let made = sheet(&p);
                 match made.test() {
                     Ok(()) => compare(&p),

@@ -19,9 +19,9 @@ const SAMPLES: usize = 101;
 const SAMPLE_NANOSECONDS: f64 = 1e6;
 const WIDTHS: [u32; 4] = [1, 8, 32, 64];
 const SHEETS: [Parameters; 3] = [
-    Parameters { q: 4, m: 2, v: 1, t: [1, 2, 0, 0] },
-    Parameters { q: 8, m: 4, v: 2, t: [4, 8, 16, 0] },
-    Parameters { q: 12, m: 8, v: 3, t: [28, 32, 39, 58] },
+    Parameters::full(4, 2, 1, [1, 2, 0, 0]),
+    Parameters::full(8, 4, 2, [4, 8, 16, 0]),
+    Parameters::full(12, 8, 3, [28, 32, 39, 58]),
 ];
 
 /// Something that is timed, over and over.
