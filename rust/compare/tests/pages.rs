@@ -1,26 +1,39 @@
-//! Accepted parameters: every call on members, damaged pages and blank pages, archive and reference alike.
+//! Accepted parameters: every call on members, damaged pages and blank pages, archive and reference alike, with full
+//! sub-words and with shortened ones.
 
 use compare::call::{Call, NAMES, Name};
-use compare::draw::{break_nested, exact, flip, list_bytes, say, seed};
+use compare::draw::{break_nested, exact, list_bytes, say, seed};
 use reference::Parameters;
 use reference::calls::BLANK;
+use reference::layout::flip;
 use reference::parameters::Sheet;
-use reference::sample::{Random, all_parameters};
+use reference::sample::{Random, all_parameters, all_shortened};
 use std::collections::BTreeSet;
 
 /// What a test went through.
 struct Run {
     random: Random,
     sheets: usize,
+    shortened: usize,
     calls: usize,
     widths: BTreeSet<u32>,
-    verdicts: BTreeSet<u32>,
+    /// The verdicts, on full sub-words and on shortened ones.
+    verdicts: [BTreeSet<u32>; 2],
+    /// The spare bits that the shortened sub-words had.
+    spare_bits: BTreeSet<usize>,
 }
 
 impl Run {
     fn new(offset: u64) -> Run {
-        let random = Random::new(seed() + offset);
-        Run { random, sheets: 0, calls: 0, widths: BTreeSet::new(), verdicts: BTreeSet::new() }
+        Run {
+            random: Random::new(seed() + offset),
+            sheets: 0,
+            shortened: 0,
+            calls: 0,
+            widths: BTreeSet::new(),
+            verdicts: Default::default(),
+            spare_bits: BTreeSet::new(),
+        }
     }
 
     /// The number and the lent bytes of a call, on which both sides agree.
@@ -44,10 +57,15 @@ impl Run {
         assert_eq!(lent, call.lent, "{:?} of {:?}", call.name, call.p);
     }
 
-    /// Write at some widths, then judge, read out and syndromes of the page and of pages damaged in many ways.
+    /// Write at some widths, then judge, read out and syndromes of the page and of pages damaged in many ways. Where no
+    /// greater s is accepted, the next one is refused.
     fn sheet(&mut self, p: &Parameters, widths: &[u32], pages: usize) {
-        self.sheets += 1;
         let sheet = Sheet::of(p);
+        self.sheets += 1;
+        if p.s > 0 {
+            self.shortened += 1;
+            self.spare_bits.insert(sheet.spare_bits());
+        }
         let mut call = exact(&mut self.random, Name::Write, p);
         let mut page = Vec::new();
         for &width in widths {
@@ -58,10 +76,9 @@ impl Run {
         }
         self.page(p, page.clone());
 
-        let bits = 8 * sheet.sub_word_bytes();
         for i in 0..sheet.m {
             let mut damaged = page.clone();
-            flip(&mut damaged, i * bits + self.random.from_to(0, bits - 2));
+            flip(&mut damaged, sheet.place(i, self.random.from_to(0, sheet.stored() - 1)));
             self.page(p, damaged);
         }
         for _ in 0..3 {
@@ -69,10 +86,10 @@ impl Run {
             break_nested(&mut self.random, &sheet, &mut damaged);
             self.page(p, damaged);
         }
-        let spare = self.random.from_to(0, 255);
+        let spare = self.random.number();
         self.blank_page(p, &sheet.erased(spare));
-        (call.number, call.read) = (self.random.from_to(1, 64) as u32, sheet.ones());
-        self.refused(&call, 13);
+        let width = self.random.from_to(1, 64) as u32;
+        self.ones_written(p, width);
         for _ in 0..pages {
             let drawn = compare::draw::page(&mut self.random, p);
             self.page(p, drawn);
@@ -80,6 +97,9 @@ impl Run {
         for name in NAMES {
             let drawn = exact(&mut self.random, name, p);
             self.compare(&drawn);
+            if p.s == p.most() {
+                self.refused(&Call { p: p.shortened(p.s + 1), ..drawn }, name.refused_by(14));
+            }
         }
     }
 
@@ -89,7 +109,7 @@ impl Run {
         let verdict = self.compare(&read_out).0;
         let judge = self.on_page(Name::Judge, p, &page, 0);
         assert_eq!(self.compare(&judge).0, verdict);
-        self.verdicts.insert(verdict);
+        self.met(p, verdict);
         for _ in 0..2 {
             let index = self.random.from_to(0, p.m as usize - 1) as u32;
             let syndromes = self.on_page(Name::Syndromes, p, &page, index);
@@ -99,6 +119,10 @@ impl Run {
             let syndromes = self.on_page(Name::NestedSyndromes, p, &page, l);
             self.compare(&syndromes);
         }
+    }
+
+    fn met(&mut self, p: &Parameters, verdict: u32) {
+        self.verdicts[usize::from(p.s > 0)].insert(verdict);
     }
 
     /// A call that reads this page, lent drawn bytes of exact length.
@@ -117,41 +141,76 @@ impl Run {
         assert_eq!(self.compare(&judge).0, BLANK, "{p:?}");
         let read_out = self.on_page(Name::ReadOut, p, page, 0);
         assert_eq!(self.compare(&read_out), (BLANK, Sheet::of(p).ones()), "{p:?}");
-        self.verdicts.insert(BLANK);
+        self.met(p, BLANK);
     }
 
-    /// Blank pages with every set of spare bits, and pages with one coefficient 0; at some widths blocks of ones, and blocks
+    /// The blocks of ones: refused by 13 where s is 0; else written, a member that is not blank and gives them back.
+    fn ones_written(&mut self, p: &Parameters, width: u32) {
+        let mut write = exact(&mut self.random, Name::Write, p);
+        (write.number, write.read) = (width, Sheet::of(p).ones());
+        if p.s == 0 {
+            return self.refused(&write, 13);
+        }
+        let page = self.compare(&write).1;
+        let read_out = self.on_page(Name::ReadOut, p, &page, 0);
+        assert_eq!(self.compare(&read_out), (0, write.read), "{p:?}");
+    }
+
+    /// Sets of spare bits: every one, where there are few bits; else every set of one sub-word's, with the others' drawn, and
+    /// every one that all sub-words have.
+    fn spare_sets(&mut self, sheet: &Sheet) -> Vec<u64> {
+        let (m, bits) = (sheet.m, sheet.spare_bits());
+        if m * bits <= 8 {
+            return (0..1 << (m * bits)).collect();
+        }
+        let sets = 0..1 << bits;
+        let all = sets.clone().map(|set| (0..m).fold(0, |spare, _| spare << bits | set));
+        let of_one = (0..m).flat_map(|i| sets.clone().map(move |set| (i * bits, set)));
+        let clear = !((1 << bits) - 1u64);
+        let with_others = of_one.map(|(low, set)| self.random.number() & clear.rotate_left(low as u32) | set << low);
+        all.chain(with_others).collect()
+    }
+
+    /// Blank pages with many sets of spare bits, and pages with one coefficient 0; at some widths blocks of ones, and blocks
     /// with one data bit 0.
     fn blank(&mut self, p: &Parameters, widths: &[u32]) {
         let sheet = Sheet::of(p);
-        let (m, n, every) = (sheet.m, sheet.field.n, (1 << sheet.m) - 1);
-        for spare in 0..=every {
+        let (m, stored, spares) = (sheet.m, sheet.stored(), sheet.spare_places().count());
+        for spare in self.spare_sets(&sheet) {
             self.blank_page(p, &sheet.erased(spare));
         }
+        // None, one, all: fewer where there are no spare bits.
+        let one = if spares == 0 { 0 } else { 1 << self.random.from_to(0, spares - 1) };
+        let sets = BTreeSet::from([0, one, (1 << spares) - 1]);
         // The syndromes' calls know no blank page.
-        for spare in [0, 1 << self.random.from_to(0, m - 1), every] {
+        for &spare in &sets {
             let indices = (0..p.m).map(|i| (Name::Syndromes, i)).chain((0..p.v).map(|l| (Name::NestedSyndromes, l)));
             for (name, index) in indices {
                 let call = self.on_page(name, p, &sheet.erased(spare), index);
-                if spare == 0 {
+                if spare != 0 {
+                    self.refused(&call, 8);
+                } else if p.s == 0 {
                     assert_eq!(self.compare(&call).1, vec![0; call.lent.len()], "{p:?}");
                 } else {
-                    self.refused(&call, 8);
+                    self.compare(&call);
                 }
             }
         }
         for i in 0..m {
-            for k in [0, n - 1, self.random.from_to(0, n - 1)] {
-                for spare in [0, self.random.from_to(1, every)] {
+            for k in [0, stored - 1, self.random.from_to(0, stored - 1)] {
+                for &spare in &sets {
                     let mut page = sheet.erased(spare);
-                    flip(&mut page, i * (n + 1) + k);
+                    flip(&mut page, sheet.place(i, k));
                     for name in [Name::Judge, Name::ReadOut] {
                         let call = self.on_page(name, p, &page, 0);
-                        if spare == 0 {
-                            assert_eq!(self.compare(&call).0, 32 + i as u32, "{p:?}");
-                        } else {
+                        if spare != 0 {
                             self.refused(&call, 8);
+                            continue;
                         }
+                        // Where s is above 0 the sub-words of ones fail too.
+                        let number = self.compare(&call).0;
+                        let expected = if p.s == 0 { 32 + i as u32..=32 + i as u32 } else { 32..=33 };
+                        assert!(expected.contains(&number), "{p:?}: {number}");
                     }
                 }
             }
@@ -159,8 +218,8 @@ impl Run {
 
         let mut write = exact(&mut self.random, Name::Write, p);
         for &width in widths {
+            self.ones_written(p, width);
             (write.number, write.read) = (width, sheet.ones());
-            self.refused(&write, 13);
             let i = self.random.from_to(0, m - 1);
             flip(&mut write.read, sheet.block_start(i) + self.random.from_to(0, sheet.block_bits(i) - 1));
             self.compare(&write);
@@ -176,18 +235,41 @@ impl Run {
         }
     }
 
+    /// Drawn sheets, as many with full sub-words as with shortened ones: so many widths and pages of each, and one in
+    /// `blank_in` with blank pages.
+    fn drawn(&mut self, q: u32, sheets: usize, widths: usize, blank_in: usize) {
+        for k in 0..sheets {
+            let full = self.random.parameters(q);
+            let shortened = self.random.shortened(&full);
+            for p in [full, shortened] {
+                self.sheet(&p, &Run::widths_of(k, widths), widths);
+                if k % blank_in == 0 {
+                    self.blank(&p, &Run::widths_of(k / blank_in, widths));
+                }
+            }
+        }
+    }
+
     /// The widths of the k-th sheet: the least, the greatest, and `count` that take turns, so that every width has its.
     fn widths_of(k: usize, count: usize) -> Vec<u32> {
         (0..count).map(|c| 1 + ((k * count + c) % 64) as u32).chain([1, 64]).collect()
     }
 
-    /// Says what was gone through, and asks that every width and every verdict of `verdicts` occurred.
-    fn end(self, title: &str, verdicts: &[u32]) {
-        let Run { sheets, calls, widths, verdicts: met, .. } = self;
-        let line = format!("{title}: {sheets} sheets, {calls} calls, verdicts {met:?}, seed {}", seed());
+    /// Says what was gone through, and asks that every width occurred, every verdict of `verdicts` on full and on shortened
+    /// sub-words, and each number of spare bits on shortened ones.
+    fn end(self, title: &str, verdicts: &[u32], spare_bits: &[usize]) {
+        let Run { sheets, shortened, calls, widths, verdicts: met, spare_bits: spares, .. } = self;
+        let line = format!(
+            "{title}: {sheets} sheets, {shortened} of them shortened, {calls} calls, verdicts {:?} and, shortened, {:?}, \
+             spare bits {spares:?}, seed {}",
+            met[0],
+            met[1],
+            seed()
+        );
         say(&line);
         assert_eq!(widths.len(), 64);
-        assert!(verdicts.iter().all(|verdict| met.contains(verdict)), "{line}");
+        assert!(verdicts.iter().all(|verdict| met.iter().all(|met| met.contains(verdict))), "{line}");
+        assert!(spares.into_iter().eq(spare_bits.iter().copied()), "{line}");
     }
 }
 
@@ -203,11 +285,12 @@ fn every_sheet_of_q_4() {
     let all = all_parameters(4, 8);
     assert_eq!(all.len(), 104);
     let widths: Vec<u32> = (1..=64).collect();
-    for p in &all {
-        run.sheet(p, &widths, 40);
-        run.blank(p, &widths);
+    for p in all.iter().flat_map(all_shortened) {
+        run.sheet(&p, &widths, 40);
+        run.blank(&p, &widths);
     }
-    run.end("q = 4", &[0, 32, 33, 34, 35, 36, 64, 65, 66, BLANK]);
+    assert_eq!(run.sheets, 186);
+    run.end("q = 4", &[0, 32, 33, 34, 35, 36, 64, 65, 66, BLANK], &[2, 3, 4, 5, 6, 7]);
 }
 
 #[test]
@@ -224,17 +307,17 @@ fn sheets_of_q_8() {
         (8, 1, [16, 17, 0, 0]),
     ] {
         let p = Parameters::full(8, m, v, t);
-        run.sheet(&p, &[1, 8, 63, 64], 4);
-        run.blank(&p, &[1, 8, 63, 64]);
-    }
-    for k in 0..count(3000) {
-        let p = run.random.parameters(8);
-        run.sheet(&p, &Run::widths_of(k, 4), 4);
-        if k % 150 == 0 {
-            run.blank(&p, &Run::widths_of(k / 150, 4));
+        for p in [p, p.shortened(p.most() / 2), p.shortened(p.most())] {
+            run.sheet(&p, &[1, 8, 63, 64], 4);
+            run.blank(&p, &[1, 8, 63, 64]);
         }
     }
-    run.end("q = 8", &[0, 32, 33, 34, 35, 36, 37, 38, 39, 64, 65, 66, BLANK]);
+    // Every s.
+    for (k, p) in all_shortened(&Parameters::full(8, 3, 2, [2, 3, 5, 0])).enumerate() {
+        run.sheet(&p, &Run::widths_of(k, 2), 2);
+    }
+    run.drawn(8, count(3000), 4, 150);
+    run.end("q = 8", &[0, 32, 33, 34, 35, 36, 37, 38, 39, 64, 65, 66, BLANK], &[0, 1, 2, 3, 4, 5, 6, 7]);
 }
 
 #[test]
@@ -243,15 +326,16 @@ fn sheets_of_q_12() {
     for (m, v, t) in [(8, 3, [28, 32, 39, 58]), (8, 3, [61, 62, 63, 64]), (2, 1, [63, 64, 0, 0]), (8, 3, [1, 2, 2, 2])]
     {
         let p = Parameters::full(12, m, v, t);
-        run.sheet(&p, &[1, 7, 8, 32, 63, 64], 4);
-        run.blank(&p, &[1, 7, 8, 32, 63, 64]);
-    }
-    for k in 0..count(1500) {
-        let p = run.random.parameters(12);
-        run.sheet(&p, &Run::widths_of(k, 2), 2);
-        if k % 300 == 0 {
-            run.blank(&p, &Run::widths_of(k / 300, 2));
+        for p in [p, p.shortened(p.most() / 2), p.shortened(p.most())] {
+            run.sheet(&p, &[1, 7, 8, 32, 63, 64], 4);
+            run.blank(&p, &[1, 7, 8, 32, 63, 64]);
         }
     }
-    run.end("q = 12", &[0, 32, 33, 34, 35, 36, 37, 38, 39, 64, 65, 66, BLANK]);
+    // Every s of the lowest bytes, and one in many of the others.
+    let p = Parameters::full(12, 2, 1, [1, 2, 0, 0]);
+    for (k, p) in all_shortened(&p).filter(|p| p.s % 97 == 0 || p.s + 80 > p.most()).enumerate() {
+        run.sheet(&p, &Run::widths_of(k, 1), 1);
+    }
+    run.drawn(12, count(1500), 2, 300);
+    run.end("q = 12", &[0, 32, 33, 34, 35, 36, 37, 38, 39, 64, 65, 66, BLANK], &[0, 1, 2, 3, 4, 5, 6, 7]);
 }

@@ -204,12 +204,20 @@ fn members_are_pages() {
 }
 
 /// The least number of bits in which pages differ is at least the least of (v + 1 − a)(2 t_a + 1), on every sheet of
-/// q = 4, at every s, with at most 20 data bits; pages are linear, so all sums of the pages of single bits are gone through.
+/// q = 4, at every s, and on sheets of q = 8 and 12 at the greatest s, with at most 20 data bits; pages are linear, so all
+/// sums of the pages of single bits are gone through.
 #[test]
 fn distance() {
     let (mut sheets, mut shortened, mut met) = (0, 0, 0);
-    for p in all_of_q_4() {
+    let pairs = || (1..=3).flat_map(|t0| (t0 + 1..=4).map(move |t1| [t0, t1, 0, 0]));
+    let larger = [8, 12].into_iter().flat_map(|q| pairs().map(move |t| Parameters::full(q, 2, 1, t)));
+    let larger = larger.flat_map(|p| (p.most() - 3..=p.most()).map(move |s| p.shortened(s)));
+    for p in all_of_q_4().chain(larger) {
         let sheet = Sheet::of(&p);
+        if (0..sheet.m).map(|i| sheet.block_bits(i)).sum::<usize>() > 20 {
+            continue;
+        }
+        assert!(sheet.page_bytes() <= 16, "{p:?}");
         let units: Vec<u128> = (0..sheet.m)
             .flat_map(|i| (0..sheet.block_bits(i)).map(move |r| (i, r)))
             .map(|(i, r)| {
@@ -218,9 +226,6 @@ fn distance() {
                 written(&p, &blocks).unwrap().iter().rev().fold(0, |page, &byte| page << 8 | u128::from(byte))
             })
             .collect();
-        if units.len() > 20 {
-            continue;
-        }
         let mut page = 0;
         let mut least = u32::MAX;
         for count in 1u32..1 << units.len() {
@@ -234,7 +239,7 @@ fn distance() {
         shortened += u32::from(p.s > 0);
         met += u32::from(least == bound);
     }
-    assert!(sheets > 100 && shortened > 50 && met > 0, "{sheets} sheets, {shortened} shortened, {met} at their bound");
+    assert!(sheets > 150 && shortened > 80 && met > 0, "{sheets} sheets, {shortened} shortened, {met} at their bound");
 }
 
 /// Where none of three pages is blank, pages add up as their blocks do. The pages of blocks and of the same blocks with
