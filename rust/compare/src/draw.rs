@@ -14,6 +14,21 @@ pub fn seed() -> u64 {
     std::env::var("GII_SEED").map_or(1, |text| text.parse().expect("GII_SEED is a number"))
 }
 
+/// How much is gone through, in hundredths: GII_CASES, or 100.
+fn hundredths() -> usize {
+    std::env::var("GII_CASES").map_or(100, |text| text.parse().expect("GII_CASES is a number"))
+}
+
+/// How many cases are drawn, by the hundredths; some in any case.
+pub fn count(full: usize) -> usize {
+    (full * hundredths() / 100).max(24)
+}
+
+/// Of a list that is gone through, one case in so many is taken, by the hundredths; never fewer than one in eight.
+pub fn one_in() -> usize {
+    (100 / hundredths().max(1)).clamp(1, 8)
+}
+
 /// A line for the reader, past the capture of the test harness.
 #[allow(clippy::explicit_write)]
 pub fn say(line: &str) {

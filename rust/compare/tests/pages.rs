@@ -2,7 +2,7 @@
 //! sub-words and with shortened ones.
 
 use compare::call::{Call, NAMES, Name};
-use compare::draw::{break_nested, exact, list_bytes, say, seed};
+use compare::draw::{break_nested, count, exact, list_bytes, one_in, say, seed};
 use reference::Parameters;
 use reference::calls::BLANK;
 use reference::layout::flip;
@@ -157,7 +157,7 @@ impl Run {
     }
 
     /// Sets of spare bits: every one, where there are few bits; else every set of one sub-word's, with the others' drawn, and
-    /// every one that all sub-words have.
+    /// every one that all sub-words have alike. At q = 12, where pages take longest, of the first and the last sub-word alone.
     fn spare_sets(&mut self, sheet: &Sheet) -> Vec<u64> {
         let (m, bits) = (sheet.m, sheet.spare_bits());
         if m * bits <= 8 {
@@ -165,7 +165,8 @@ impl Run {
         }
         let sets = 0..1 << bits;
         let all = sets.clone().map(|set| (0..m).fold(0, |spare, _| spare << bits | set));
-        let of_one = (0..m).flat_map(|i| sets.clone().map(move |set| (i * bits, set)));
+        let one_in = if sheet.field.q == 12 { m - 1 } else { 1 };
+        let of_one = (0..m).step_by(one_in).flat_map(|i| sets.clone().map(move |set| (i * bits, set)));
         let clear = !((1 << bits) - 1u64);
         let with_others = of_one.map(|(low, set)| self.random.number() & clear.rotate_left(low as u32) | set << low);
         all.chain(with_others).collect()
@@ -273,12 +274,6 @@ impl Run {
     }
 }
 
-/// How many sheets are drawn; GII_CASES sets another number, in hundredths.
-fn count(full: usize) -> usize {
-    let hundredths = std::env::var("GII_CASES").map_or(100, |text| text.parse().expect("GII_CASES is a number"));
-    (full * hundredths / 100).max(32)
-}
-
 #[test]
 fn every_sheet_of_q_4() {
     let mut run = Run::new(4);
@@ -313,7 +308,7 @@ fn sheets_of_q_8() {
         }
     }
     // Every s.
-    for (k, p) in all_shortened(&Parameters::full(8, 3, 2, [2, 3, 5, 0])).enumerate() {
+    for (k, p) in all_shortened(&Parameters::full(8, 3, 2, [2, 3, 5, 0])).step_by(one_in()).enumerate() {
         run.sheet(&p, &Run::widths_of(k, 2), 2);
     }
     run.drawn(8, count(3000), 4, 150);
@@ -333,9 +328,9 @@ fn sheets_of_q_12() {
     }
     // Every s of the lowest bytes, and one in many of the others.
     let p = Parameters::full(12, 2, 1, [1, 2, 0, 0]);
-    for (k, p) in all_shortened(&p).filter(|p| p.s % 97 == 0 || p.s + 80 > p.most()).enumerate() {
+    for (k, p) in all_shortened(&p).filter(|p| p.s % 97 == 0 || p.s + 80 > p.most()).step_by(one_in()).enumerate() {
         run.sheet(&p, &Run::widths_of(k, 1), 1);
     }
-    run.drawn(12, count(1500), 2, 300);
+    run.drawn(12, count(1000), 2, 200);
     run.end("q = 12", &[0, 32, 33, 34, 35, 36, 37, 38, 39, 64, 65, 66, BLANK], &[0, 1, 2, 3, 4, 5, 6, 7]);
 }

@@ -2,7 +2,7 @@
 //! stays. A blank page, which is no refusal, has its place among them. Full sub-words and shortened ones.
 
 use compare::call::{Call, NAMES, Name};
-use compare::draw::{conditions, exact, say, seed, spoil};
+use compare::draw::{conditions, exact, one_in, say, seed, spoil};
 use reference::Parameters;
 use reference::calls::{BLANK, QUOTE_BYTES};
 use reference::parameters::Sheet;
@@ -51,6 +51,7 @@ fn first_number_and_untouched_bytes() {
             sheets.extend([p, random.shortened(&p)]);
         }
     }
+    let sheets: Vec<Parameters> = sheets.into_iter().step_by(one_in()).collect();
     for p in &sheets {
         calls += refuse(&mut random, p, &mut met);
     }
