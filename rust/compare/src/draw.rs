@@ -19,9 +19,9 @@ fn hundredths() -> usize {
     std::env::var("GII_CASES").map_or(100, |text| text.parse().expect("GII_CASES is a number"))
 }
 
-/// How many cases are drawn, by the hundredths; some in any case.
+/// How many cases are drawn, by the hundredths; never fewer than 32, so that two widths each make all 64.
 pub fn count(full: usize) -> usize {
-    (full * hundredths() / 100).max(24)
+    (full * hundredths() / 100).max(32)
 }
 
 /// Of a list that is gone through, one case in so many is taken, by the hundredths; never fewer than one in eight.
