@@ -27,12 +27,12 @@ for fault in data-high zero-page level-0-only write-touches-nothing width-37 one
     syndromes-say-blank syndromes-of-erased \
     shortening-one-too-many shortening-modulo-2-8 shortening-modulo-2-16 shortening-after-width shortening-after-list \
     shortening-before-clash distance-without-14 full-sub-words data-bytes-without-s quote-without-s low-bits-lost \
-    spare-bits-left spare-top-bit-only nested-folded syndromes-from-the-top blank-over-n blank-all-but-top-bit \
+    low-spare-bits-left spare-top-bit-only nested-folded syndromes-from-the-top blank-over-n blank-all-but-top-bit \
     ones-refused-shortened \
-    data-high@s level-0-only@s width-37@s last-byte-left@s overrun@s nested-power@s judge-names-last-nested@s \
-    read-out-of-members-only@s unused-bits-left@s last-syndrome-left@s half-written-refusal@s page-before-blocks@s \
-    blank-after-stray@s blank-before-page@s blank-before-blocks@s blank-by-one-sub-word@s blank-by-sub-word-0@s \
-    blank-mixed-missed@s blank-spare-bits-left@s syndromes-of-erased@s; do
+    data-high@s width-37@s last-byte-left@s nested-power@s judge-names-last-nested@s read-out-of-members-only@s \
+    unused-bits-left@s last-syndrome-left@s half-written-refusal@s page-before-blocks@s blank-after-stray@s \
+    blank-before-page@s blank-before-blocks@s blank-by-one-sub-word@s blank-mixed-missed@s blank-spare-bits-left@s \
+    syndromes-of-erased@s; do
     tried=$((tried + 1))
     if run "$fault"; then
         found="NOT FOUND"

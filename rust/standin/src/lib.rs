@@ -262,9 +262,9 @@ fn write(p: &Parameters, width: u32, blocks: &[u8], page: &mut [u8]) -> u32 {
     if fault("low-bits-lost") {
         without_low_bits(p, blocks, page);
     }
-    if fault("spare-bits-left") {
-        let sheet = Sheet::of(p);
-        sheet.spare_places().filter(|&place| bit(&old, place)).for_each(|place| set(page, place));
+    if fault("low-spare-bits-left") {
+        let low = |&place: &usize| place % 8 < 7 && bit(&old, place);
+        Sheet::of(p).spare_places().filter(low).for_each(|place| set(page, place));
     }
     if fault("width-37") && width == 37 {
         page[0] ^= 1;
