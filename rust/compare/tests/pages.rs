@@ -331,6 +331,6 @@ fn sheets_of_q_12() {
     for (k, p) in all_shortened(&p).filter(|p| p.s % 97 == 0 || p.s + 80 > p.most()).step_by(one_in()).enumerate() {
         run.sheet(&p, &Run::widths_of(k, 1), 1);
     }
-    run.drawn(12, count(1000), 2, 200);
+    run.drawn(12, count(1300), 2, 300);
     run.end("q = 12", &[0, 32, 33, 34, 35, 36, 37, 38, 39, 64, 65, 66, BLANK], &[0, 1, 2, 3, 4, 5, 6, 7]);
 }
