@@ -9,17 +9,16 @@ use reference::layout::flip;
 use reference::parameters::Sheet;
 use reference::sample::{Random, all_parameters, all_shortened};
 use std::collections::BTreeSet;
+use std::ops::RangeInclusive;
 
 /// What a test went through.
 struct Run {
     random: Random,
     sheets: usize,
-    shortened: usize,
     calls: usize,
     widths: BTreeSet<u32>,
-    /// The verdicts, on full sub-words and on shortened ones.
-    verdicts: [BTreeSet<u32>; 2],
-    /// The spare bits that the shortened sub-words had.
+    verdicts: BTreeSet<u32>,
+    /// How many spare bits a sub-word had.
     spare_bits: BTreeSet<usize>,
 }
 
@@ -28,10 +27,9 @@ impl Run {
         Run {
             random: Random::new(seed() + offset),
             sheets: 0,
-            shortened: 0,
             calls: 0,
             widths: BTreeSet::new(),
-            verdicts: Default::default(),
+            verdicts: BTreeSet::new(),
             spare_bits: BTreeSet::new(),
         }
     }
@@ -62,10 +60,7 @@ impl Run {
     fn sheet(&mut self, p: &Parameters, widths: &[u32], pages: usize) {
         let sheet = Sheet::of(p);
         self.sheets += 1;
-        if p.s > 0 {
-            self.shortened += 1;
-            self.spare_bits.insert(sheet.spare_bits());
-        }
+        self.spare_bits.insert(sheet.spare_bits());
         let mut call = exact(&mut self.random, Name::Write, p);
         let mut page = Vec::new();
         for &width in widths {
@@ -109,7 +104,7 @@ impl Run {
         let verdict = self.compare(&read_out).0;
         let judge = self.on_page(Name::Judge, p, &page, 0);
         assert_eq!(self.compare(&judge).0, verdict);
-        self.met(p, verdict);
+        self.verdicts.insert(verdict);
         for _ in 0..2 {
             let index = self.random.from_to(0, p.m as usize - 1) as u32;
             let syndromes = self.on_page(Name::Syndromes, p, &page, index);
@@ -119,10 +114,6 @@ impl Run {
             let syndromes = self.on_page(Name::NestedSyndromes, p, &page, l);
             self.compare(&syndromes);
         }
-    }
-
-    fn met(&mut self, p: &Parameters, verdict: u32) {
-        self.verdicts[usize::from(p.s > 0)].insert(verdict);
     }
 
     /// A call that reads this page, lent drawn bytes of exact length.
@@ -141,7 +132,7 @@ impl Run {
         assert_eq!(self.compare(&judge).0, BLANK, "{p:?}");
         let read_out = self.on_page(Name::ReadOut, p, page, 0);
         assert_eq!(self.compare(&read_out), (BLANK, Sheet::of(p).ones()), "{p:?}");
-        self.met(p, BLANK);
+        self.verdicts.insert(BLANK);
     }
 
     /// The blocks of ones: refused by 13 where s is 0; else written, a member that is not blank and gives them back.
@@ -236,17 +227,13 @@ impl Run {
         }
     }
 
-    /// Drawn sheets, as many with full sub-words as with shortened ones: so many widths and pages of each, and one in
-    /// `blank_in` with blank pages.
-    fn drawn(&mut self, q: u32, sheets: usize, widths: usize, blank_in: usize) {
+    /// Drawn sheets, with so many widths and pages of each; one in `blank_in` with blank pages.
+    fn drawn(&mut self, draw: impl Fn(&mut Random) -> Parameters, sheets: usize, widths: usize, blank_in: usize) {
         for k in 0..sheets {
-            let full = self.random.parameters(q);
-            let shortened = self.random.shortened(&full);
-            for p in [full, shortened] {
-                self.sheet(&p, &Run::widths_of(k, widths), widths);
-                if k % blank_in == 0 {
-                    self.blank(&p, &Run::widths_of(k / blank_in, widths));
-                }
+            let p = draw(&mut self.random);
+            self.sheet(&p, &Run::widths_of(k, widths), widths);
+            if k % blank_in == 0 {
+                self.blank(&p, &Run::widths_of(k / blank_in, widths));
             }
         }
     }
@@ -256,81 +243,121 @@ impl Run {
         (0..count).map(|c| 1 + ((k * count + c) % 64) as u32).chain([1, 64]).collect()
     }
 
-    /// Says what was gone through, and asks that every width occurred, every verdict of `verdicts` on full and on shortened
-    /// sub-words, and each number of spare bits on shortened ones.
-    fn end(self, title: &str, verdicts: &[u32], spare_bits: &[usize]) {
-        let Run { sheets, shortened, calls, widths, verdicts: met, spare_bits: spares, .. } = self;
-        let line = format!(
-            "{title}: {sheets} sheets, {shortened} of them shortened, {calls} calls, verdicts {:?} and, shortened, {:?}, \
-             spare bits {spares:?}, seed {}",
-            met[0],
-            met[1],
-            seed()
-        );
+    /// Says what was gone through, and asks that every width and every verdict of `verdicts` occurred, and sub-words with
+    /// these numbers of spare bits.
+    fn end(self, title: &str, verdicts: &[u32], spare_bits: RangeInclusive<usize>) {
+        let Run { sheets, calls, widths, verdicts: met, spare_bits: spare, .. } = self;
+        let line =
+            format!("{title}: {sheets} sheets, {calls} calls, verdicts {met:?}, spare bits {spare:?}, seed {}", seed());
         say(&line);
         assert_eq!(widths.len(), 64);
-        assert!(verdicts.iter().all(|verdict| met.iter().all(|met| met.contains(verdict))), "{line}");
-        assert!(spares.into_iter().eq(spare_bits.iter().copied()), "{line}");
+        assert!(verdicts.iter().all(|verdict| met.contains(verdict)), "{line}");
+        assert!(spare.into_iter().eq(spare_bits), "{line}");
     }
+}
+
+/// The verdicts of sheets with eight sub-words and three nested words; those of q = 4 have five sub-words at most.
+const VERDICTS: [u32; 13] = [0, 32, 33, 34, 35, 36, 64, 65, 66, BLANK, 37, 38, 39];
+
+/// Sheets of q = 8 and 12 that are gone through in any case: the greatest strengths, by the number of sub-words; equal
+/// generators at levels 0 and 1; the sheet of the requirement.
+const SHEETS_OF_Q_8: [Parameters; 7] = [
+    Parameters::full(8, 2, 1, [63, 64, 0, 0]),
+    Parameters::full(8, 3, 2, [62, 63, 64, 0]),
+    Parameters::full(8, 4, 3, [1, 42, 42, 42]),
+    Parameters::full(8, 5, 3, [39, 40, 41, 42]),
+    Parameters::full(8, 8, 3, [22, 23, 24, 25]),
+    Parameters::full(8, 8, 3, [1, 2, 2, 2]),
+    Parameters::full(8, 8, 1, [16, 17, 0, 0]),
+];
+const SHEETS_OF_Q_12: [Parameters; 4] = [
+    Parameters::full(12, 8, 3, [28, 32, 39, 58]),
+    Parameters::full(12, 8, 3, [61, 62, 63, 64]),
+    Parameters::full(12, 2, 1, [63, 64, 0, 0]),
+    Parameters::full(12, 8, 3, [1, 2, 2, 2]),
+];
+
+/// A sheet shortened by half of the greatest s and by the greatest.
+fn halved_and_least(p: &Parameters) -> [Parameters; 2] {
+    [p.shortened(p.most().div_ceil(2)), p.shortened(p.most())]
 }
 
 #[test]
 fn every_sheet_of_q_4() {
     let mut run = Run::new(4);
-    let all = all_parameters(4, 8);
-    assert_eq!(all.len(), 104);
     let widths: Vec<u32> = (1..=64).collect();
-    for p in all.iter().flat_map(all_shortened) {
+    for p in all_parameters(4, 8) {
         run.sheet(&p, &widths, 40);
         run.blank(&p, &widths);
     }
-    assert_eq!(run.sheets, 186);
-    run.end("q = 4", &[0, 32, 33, 34, 35, 36, 64, 65, 66, BLANK], &[2, 3, 4, 5, 6, 7]);
+    assert_eq!(run.sheets, 104);
+    run.end("q = 4", &VERDICTS[..10], 1..=1);
+}
+
+#[test]
+fn every_shortened_sheet_of_q_4() {
+    let mut run = Run::new(5);
+    let widths: Vec<u32> = (1..=64).collect();
+    for p in all_parameters(4, 8).iter().flat_map(all_shortened).filter(|p| p.s > 0) {
+        run.sheet(&p, &widths, 40);
+        run.blank(&p, &widths);
+    }
+    assert_eq!(run.sheets, 82);
+    // Nine to fourteen coefficients are stored.
+    run.end("q = 4, shortened", &VERDICTS[..10], 2..=7);
 }
 
 #[test]
 fn sheets_of_q_8() {
     let mut run = Run::new(8);
-    // The greatest strengths, by the number of sub-words; equal generators at levels 0 and 1.
-    for (m, v, t) in [
-        (2, 1, [63, 64, 0, 0]),
-        (3, 2, [62, 63, 64, 0]),
-        (4, 3, [1, 42, 42, 42]),
-        (5, 3, [39, 40, 41, 42]),
-        (8, 3, [22, 23, 24, 25]),
-        (8, 3, [1, 2, 2, 2]),
-        (8, 1, [16, 17, 0, 0]),
-    ] {
-        let p = Parameters::full(8, m, v, t);
-        for p in [p, p.shortened(p.most() / 2), p.shortened(p.most())] {
-            run.sheet(&p, &[1, 8, 63, 64], 4);
-            run.blank(&p, &[1, 8, 63, 64]);
-        }
+    for p in SHEETS_OF_Q_8 {
+        run.sheet(&p, &[1, 8, 63, 64], 4);
+        run.blank(&p, &[1, 8, 63, 64]);
+    }
+    run.drawn(|random| random.parameters(8), count(3000), 4, 150);
+    run.end("q = 8", &VERDICTS, 1..=1);
+}
+
+#[test]
+fn shortened_sheets_of_q_8() {
+    let mut run = Run::new(9);
+    for p in SHEETS_OF_Q_8.iter().flat_map(halved_and_least).filter(|p| p.s > 0) {
+        run.sheet(&p, &[1, 8, 63, 64], 4);
+        run.blank(&p, &[1, 8, 63, 64]);
     }
     // Every s.
-    for (k, p) in all_shortened(&Parameters::full(8, 3, 2, [2, 3, 5, 0])).step_by(one_in()).enumerate() {
+    let p = Parameters::full(8, 3, 2, [2, 3, 5, 0]);
+    for (k, p) in all_shortened(&p).skip(1).step_by(one_in()).enumerate() {
         run.sheet(&p, &Run::widths_of(k, 2), 2);
     }
-    run.drawn(8, count(3000), 4, 150);
-    run.end("q = 8", &[0, 32, 33, 34, 35, 36, 37, 38, 39, 64, 65, 66, BLANK], &[0, 1, 2, 3, 4, 5, 6, 7]);
+    run.drawn(|random| random.shortened_parameters(8), count(3000), 4, 150);
+    run.end("q = 8, shortened", &VERDICTS, 0..=7);
 }
 
 #[test]
 fn sheets_of_q_12() {
     let mut run = Run::new(12);
-    for (m, v, t) in [(8, 3, [28, 32, 39, 58]), (8, 3, [61, 62, 63, 64]), (2, 1, [63, 64, 0, 0]), (8, 3, [1, 2, 2, 2])]
-    {
-        let p = Parameters::full(12, m, v, t);
-        for p in [p, p.shortened(p.most() / 2), p.shortened(p.most())] {
-            run.sheet(&p, &[1, 7, 8, 32, 63, 64], 4);
-            run.blank(&p, &[1, 7, 8, 32, 63, 64]);
-        }
+    for p in SHEETS_OF_Q_12 {
+        run.sheet(&p, &[1, 7, 8, 32, 63, 64], 4);
+        run.blank(&p, &[1, 7, 8, 32, 63, 64]);
     }
-    // Every s of the lowest bytes, and one in many of the others.
+    run.drawn(|random| random.parameters(12), count(1500), 2, 300);
+    run.end("q = 12", &VERDICTS, 1..=1);
+}
+
+#[test]
+fn shortened_sheets_of_q_12() {
+    let mut run = Run::new(13);
+    for p in SHEETS_OF_Q_12.iter().flat_map(halved_and_least) {
+        run.sheet(&p, &[1, 7, 8, 32, 63, 64], 4);
+        run.blank(&p, &[1, 7, 8, 32, 63, 64]);
+    }
+    // Every s near the greatest, and one in many below.
     let p = Parameters::full(12, 2, 1, [1, 2, 0, 0]);
-    for (k, p) in all_shortened(&p).filter(|p| p.s % 97 == 0 || p.s + 80 > p.most()).step_by(one_in()).enumerate() {
+    let some = all_shortened(&p).skip(1).filter(|p| p.s % 97 == 0 || p.s + 80 > p.most());
+    for (k, p) in some.step_by(one_in()).enumerate() {
         run.sheet(&p, &Run::widths_of(k, 1), 1);
     }
-    run.drawn(12, count(1300), 2, 300);
-    run.end("q = 12", &[0, 32, 33, 34, 35, 36, 37, 38, 39, 64, 65, 66, BLANK], &[0, 1, 2, 3, 4, 5, 6, 7]);
+    run.drawn(|random| random.shortened_parameters(12), count(1500), 2, 300);
+    run.end("q = 12, shortened", &VERDICTS, 0..=7);
 }

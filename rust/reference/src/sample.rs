@@ -79,6 +79,17 @@ impl Random {
         p.shortened(s.clamp(1, most) as u32)
     }
 
+    /// Accepted parameters of a field with shortened sub-words.
+    pub fn shortened_parameters(&mut self, q: u32) -> Parameters {
+        loop {
+            let full = self.parameters(q);
+            let drawn = self.shortened(&full);
+            if drawn.s > 0 {
+                return drawn;
+            }
+        }
+    }
+
     /// Blocks that fit: all bits drawn, or few ones, or many.
     pub fn blocks(&mut self, sheet: &Sheet) -> Vec<u8> {
         let ones_in_eight = [0, 1, 4, 4, 4, 4, 7, 8][self.from_to(0, 7)];
