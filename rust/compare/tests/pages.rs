@@ -358,6 +358,6 @@ fn shortened_sheets_of_q_12() {
     for (k, p) in some.step_by(one_in()).enumerate() {
         run.sheet(&p, &Run::widths_of(k, 1), 1);
     }
-    run.drawn(|random| random.shortened_parameters(12), count(1500), 2, 300);
+    run.drawn(|random| random.shortened_parameters(12), count(1000), 2, 200);
     run.end("q = 12, shortened", &VERDICTS, 0..=7);
 }
