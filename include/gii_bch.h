@@ -210,7 +210,7 @@ uint32_t gii_distance(uint32_t q, uint32_t m, uint32_t v, uint32_t t0, uint32_t 
 struct gii_sheet {
     uint32_t q, m, v;
     uint32_t t[4]; /* t0 .. t3 */
-    uint32_t s;    /* 0 for full sub-words */
+    uint32_t s;    /* 0, which it is where an initializer leaves it out, for full sub-words */
 };
 
 static inline uint32_t gii_sheet_write(const struct gii_sheet *sheet, uint32_t width, const uint8_t *blocks,

@@ -25,8 +25,8 @@ for fault in data-high zero-page level-0-only write-touches-nothing width-37 one
     blank-where-spare-set blank-mixed-missed blank-blocks-left blank-spare-bits-left \
     ones-written ones-half-written ones-last-bit-missed ones-by-block-0 ones-before-page ones-before-stray \
     syndromes-say-blank syndromes-of-erased \
-    shortening-one-too-many shortening-modulo-2-8 shortening-modulo-2-16 shortening-after-width shortening-after-list \
-    shortening-before-clash distance-without-14 full-sub-words data-bytes-without-s quote-without-s low-bits-lost \
+    shortening-one-too-many shortening-one-too-few shortening-by-level-0 shortening-modulo-2-8 shortening-modulo-2-16 \
+    shortening-after-width shortening-after-list shortening-before-clash distance-without-14 full-sub-words data-bytes-without-s quote-without-s low-bits-lost \
     low-spare-bits-left spare-top-bit-only nested-folded syndromes-from-the-top blank-over-n blank-all-but-top-bit \
     ones-refused-shortened \
     data-high@s width-37@s last-byte-left@s nested-power@s judge-names-last-nested@s read-out-of-members-only@s \

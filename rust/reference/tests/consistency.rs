@@ -128,7 +128,7 @@ fn accepted_shortenings() {
 }
 
 /// A word is a multiple of the generator exactly when it vanishes at the roots; the degree is the number of different
-/// j × 2^s modulo n.
+/// j × 2^e modulo n.
 #[test]
 fn multiples_and_roots() {
     let mut random = Random::new(2);
@@ -136,7 +136,7 @@ fn multiples_and_roots() {
         let field = Field::of(q);
         for t in (1..=64).filter(|t| 2 * t < field.n) {
             let level = Level::of(field, t);
-            let mut exponents: Vec<_> = (1..=2 * t).flat_map(|j| (0..q).map(move |s| (j << s) % field.n)).collect();
+            let mut exponents: Vec<_> = (1..=2 * t).flat_map(|j| (0..q).map(move |e| (j << e) % field.n)).collect();
             exponents.sort();
             exponents.dedup();
             assert_eq!(level.degree(), exponents.len(), "q = {q}, t = {t}");

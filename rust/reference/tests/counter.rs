@@ -160,8 +160,8 @@ fn degrees() {
     ] {
         let field = Field::of(q);
         assert_eq!(Level::of(field, t).degree(), expected, "q = {q}, t = {t}");
-        // The number of different j × 2^s modulo n.
-        let exponents: BTreeSet<_> = (1..=2 * t).flat_map(|j| (0..q).map(move |s| (j << s) % field.n)).collect();
+        // The number of different j × 2^e modulo n.
+        let exponents: BTreeSet<_> = (1..=2 * t).flat_map(|j| (0..q).map(move |e| (j << e) % field.n)).collect();
         assert_eq!(exponents.len(), expected, "q = {q}, t = {t}");
     }
     // 33 is 9 × 2^5 modulo 255, so that α^33 and α^34 are roots already.

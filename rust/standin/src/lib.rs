@@ -37,9 +37,16 @@ fn taken(p: Parameters) -> Parameters {
     if fault("shortening-modulo-2-8") && p.q < 12 {
         return p.shortened(p.s % (1 << 8));
     }
-    // The s above the greatest passes for the greatest.
-    let above = fault("shortening-one-too-many") && p.refusal() == 14;
-    if above && p.s == p.most() + 1 { p.shortened(p.most()) } else { p }
+    if fault("shortening-one-too-few") && p.accepted() && p.s == p.most() {
+        return p.shortened(p.s + 1);
+    }
+    // An s above the greatest that is accepted passes for the greatest.
+    let passes = match p.refusal() {
+        14 if fault("shortening-one-too-many") => p.s == p.most() + 1,
+        14 if fault("shortening-by-level-0") => p.s <= Parameters { v: 0, ..p }.most(),
+        _ => false,
+    };
+    if passes { p.shortened(p.most()) } else { p }
 }
 
 fn refuses(number: u32) -> bool {
@@ -390,7 +397,7 @@ fn degree(sheet: &Sheet, level: &Level) -> usize {
     }
     if fault("quote-coset-twice") {
         // The coset of each odd j, counted before or not.
-        let coset = |j: usize| (0..q).map(|s| (j << s) % n).collect::<BTreeSet<_>>().len();
+        let coset = |j: usize| (0..q).map(|e| (j << e) % n).collect::<BTreeSet<_>>().len();
         return odd(level.t).map(coset).sum();
     }
     level.degree()
