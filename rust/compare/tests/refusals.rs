@@ -79,8 +79,8 @@ fn every_parameter_over_a_range() {
             }
         }
     };
-    let wide =
-        (0..=140).chain([254, 255, 256, 257, 260, 264, 268, 4094, 4095, 1 << 16, 1 << 31, u32::MAX - 1, u32::MAX]);
+    let small = (0..=140).step_by(one_in());
+    let wide = small.chain([254, 255, 256, 257, 260, 264, 268, 4094, 4095, 1 << 16, 1 << 31, u32::MAX - 1, u32::MAX]);
     for base in [
         Parameters::full(4, 3, 2, [1, 2, 3, 0]),
         Parameters::full(8, 4, 3, [4, 8, 16, 42]),
