@@ -18,27 +18,39 @@
  *   m         the number of sub-words, v + 1 to 8
  *   v         1 to 3: there are v + 1 levels of strength
  *   t0 .. t3  the strengths: 1 <= t0 < t1 <= .. <= t_v <= 64 and 2 t_v <= n - 1; those past t_v are 0
+ *   s         the shortening: the top s coefficients of every sub-word are 0 and are not stored; 0 for full sub-words, at
+ *             most n - w_v - 1 (w_v below), so that every block has a data bit
  *
  * and no clash: for d from 1 to m - 1 and j from 1 to 2 t_v, d * j is no multiple of n.
  *
  * Buffers
  *
- *   page      m sub-words, one behind another, of 2^q / 8 bytes each. The coefficient of x^k is bit k mod 8, least first,
- *             of byte k div 8 of its sub-word; the top bit of each last byte is spare and 0. gii_page_bytes gives the size.
- *             A page is blank when every coefficient of every sub-word is 1, whatever its spare bits are: so a board is
- *             delivered, erased, every byte FF. A blank page is no member, and no blocks are written as one.
- *   blocks    m blocks, one behind another, each on whole bytes. Sub-word i has w check bits and block i has n - w data
- *             bits, so that it takes (n - w + 7) / 8 bytes; bit r of it, least first, is the coefficient of x^(w + r).
+ *   page      m sub-words, one behind another. A sub-word stores n - s coefficients, those of x^0 to x^(n-s-1), and takes
+ *             (n - s + 7) / 8 bytes: 2^q / 8 where s is 0. The coefficient of x^k is bit k mod 8, least first, of byte
+ *             k div 8 of its sub-word. The bits above the last coefficient in each last byte are spare and 0: one where s
+ *             is 0, none where n - s is a multiple of 8, seven at most. gii_page_bytes gives the size.
+ *             A page is blank when every stored coefficient of every sub-word is 1, whatever its spare bits are: so a
+ *             board is delivered, erased, every byte FF. A blank page is no member, and no blocks are written as one.
+ *   blocks    m blocks, one behind another, each on whole bytes. Sub-word i has w check bits and block i has n - s - w data
+ *             bits, so that it takes (n - s - w + 7) / 8 bytes; bit r of it, least first, is the coefficient of x^(w + r).
  *             The unused top bits of its last byte are 0. Here w = w_(v-i) for i < v and w_0 from i = v on, and w_a, the
- *             degree of the generator of strength t_a, is the number of different values of j * 2^s mod n, for j from 1
- *             to 2 t_a and s from 0 to q - 1. At q = 4, t = 1, 2, 3, 4 it is 4, 8, 10, 14; at most it is q * t_a.
+ *             degree of the generator of strength t_a, is the number of different values of j * 2^e mod n, for j from 1
+ *             to 2 t_a and e from 0 to q - 1. At q = 4, t = 1, 2, 3, 4 it is 4, 8, 10, 14; at most it is q * t_a.
  *             gii_data_bytes gives the size of all blocks, gii_quote the data bits of each.
  *   list      16-bit numbers, two bytes each, low byte first, which gii_number reads: the syndromes S_1, S_2, .., 2 t
  *             numbers on GII_LIST_BYTES(t) bytes, or a quote, 12 numbers on GII_QUOTE_BYTES bytes.
  *
- *   Examples  q 4, m 2, v 1, t 1, 2:              page 4 bytes, blocks 1 + 2 = 3 bytes
+ *   Examples, where none is named s is 0
+ *
+ *             q 4, m 2, v 1, t 1, 2:              page 4 bytes, blocks 1 + 2 = 3 bytes
  *             q 8, m 4, v 2, t 4, 8, 16:          page 128 bytes, blocks 17 + 24 + 28 + 28 = 97 bytes
  *             q 12, m 8, v 3, t 28, 32, 39, 58:   page 4096 bytes, blocks 426 + 455 + 464 + 5 * 470 = 3695 bytes
+ *             the same with s 1900:               page 8 * 275 = 2200 bytes, 5 spare bits a sub-word,
+ *                                                 blocks 189 + 217 + 227 + 5 * 233 = 1798 bytes
+ *             q 12, m 4, v 1, t 4, 12, s 3071:    page 4 * 128 = 512 bytes, no spare bits, blocks 110 + 3 * 122 = 476 bytes
+ *
+ * A shortened sub-word is the full one with zeros in its top s places: check bits, syndromes, nested words (which keep n
+ * places, x^n being 1) and the distance are those of the full sheet.
  *
  * What the caller owes, and what no function can test:
  *
@@ -50,10 +62,10 @@
  * The bytes behind a pointer to const are never altered. A lent buffer is altered only by a call that is not refused, and
  * then wholly: what it held before is of no account.
  *
- * Results are of enum gii_answer. Of the refusals whose conditions a call meets the least number is given, and a refusal
- * leaves every byte of every buffer as it was. gii_judge and gii_read_out know a blank page before they look for stray
- * bits; no other function answers GII_BLANK. gii_page_bytes, gii_data_bytes and gii_distance give a size, or 0 where the
- * sheet is refused.
+ * Results are of enum gii_answer. Conditions are tested in the order 1, 2, 3, 4, 14, 5, 6, 7, 8, 9, 10, 13: of the refusals
+ * whose conditions a call meets the first of these is given, and a refusal leaves every byte of every buffer as it was.
+ * gii_judge and gii_read_out know a blank page after 7 and before 8, which is for stray bits; no other function answers
+ * GII_BLANK. gii_page_bytes, gii_data_bytes and gii_distance give a size, or 0 where the sheet is refused.
  */
 #ifndef GII_BCH_H
 #define GII_BCH_H
@@ -62,10 +74,10 @@
 #include <stdint.h>
 
 /* The version. A function or a number that goes or is given a new meaning moves the first number on. */
-#define GII_BCH_VERSION_MAJOR 3
+#define GII_BCH_VERSION_MAJOR 4
 #define GII_BCH_VERSION_MINOR 0
 #define GII_BCH_VERSION_PATCH 0
-#define GII_BCH_VERSION "3.0.0"
+#define GII_BCH_VERSION "4.0.0"
 
 /* Bytes of a list of 2t syndromes: t is t0 for a sub-word, t_(v-l) for nested word l. */
 #define GII_LIST_BYTES(t) ((size_t)4 * (size_t)(t))
@@ -75,7 +87,7 @@
 #define GII_QUOTE_DEGREE(a) ((size_t)(a))
 #define GII_QUOTE_DATA_BITS(i) ((size_t)4 + (size_t)(i))
 
-/* The most bytes of a page (q 12, m 8), of blocks (q 12, m 8, v 1, t 1, 2) and of a list (t 64). */
+/* The most bytes of a page (q 12, m 8, s 0), of blocks (q 12, m 8, v 1, t 1, 2, s 0) and of a list (t 64). */
 #define GII_PAGE_MAX 4096
 #define GII_BLOCKS_MAX 4086
 #define GII_LIST_MAX 256
@@ -85,7 +97,7 @@ enum gii_answer {
     GII_DONE = 0,   /* done */
     GII_MEMBER = 0, /* the page is a member of the code */
 
-    /* Refusals. The functions here give 1 to 10 and 13. */
+    /* Refusals. The functions here give 1 to 10, 13 and 14; 14 is tested after 4 and before 5. */
     GII_FIELD = 1,         /* q is not 4, 8 or 12 */
     GII_SHAPE = 2,         /* v or m is out of range */
     GII_STRENGTHS = 3,     /* a rule on t0 to t_v is broken, or a place past t_v is not 0 */
@@ -96,14 +108,15 @@ enum gii_answer {
     GII_STRAY = 8,         /* a spare bit of a page, or an unused bit of the blocks, that is read is 1 */
     GII_INDEX = 9,         /* there is no such sub-word or nested word */
     GII_LIST = 10,         /* the list's length is not exact */
-    GII_FULL = 11,         /* a register would take more than n coefficients */
+    GII_FULL = 11,         /* a register would take more than n - s coefficients */
     GII_REGISTER = 12,     /* a register's level or remainder is out of range */
-    GII_BLANK_BLOCKS = 13, /* the page of the blocks would be blank: every data bit is 1 */
+    GII_BLANK_BLOCKS = 13, /* the page of the blocks would be blank: s is 0, and every data bit is 1 */
+    GII_SHORTENING = 14,   /* s is above n - w_v - 1 */
 
     /* Verdicts on a page. */
     GII_SUB_WORD = 32,    /* 32 + i: sub-word i is the lowest that is no multiple of g_0 */
     GII_NESTED_WORD = 64, /* 64 + l: every sub-word is, and nested word l is the lowest that is no multiple of g_(v-l) */
-    GII_BLANK = 96        /* the page is blank: every coefficient is 1 */
+    GII_BLANK = 96        /* the page is blank: every stored coefficient is 1 */
 };
 
 /* Whether a number is a refusal. Refusals are 1 to 31, all numbers from 32 on verdicts. */
@@ -117,132 +130,142 @@ extern "C" {
  * Write: the page of the blocks, check bits and all, into `page`.
  *
  * `width` is the number of coefficients taken in a step, 1 to 64; it never alters a result. The page is a member of the
- * code, and gii_read_out gives its blocks back. No page that is written is blank: blocks whose data bits are all 1, the
- * only ones whose page would be, are refused.
+ * code, and gii_read_out gives its blocks back. No page that is written is blank: where s is 0, blocks whose data bits are
+ * all 1, the only ones whose page would be, are refused; where s is above 0 there are none such, and these blocks are
+ * written like any others.
  *
- * Returns GII_DONE, or refuses: 1 to 4, 5, 6, 7, 8 (an unused bit of the blocks), 13 (every data bit is 1).
+ * Returns GII_DONE, or refuses: 1 to 4, 14, 5, 6, 7, 8 (an unused bit of the blocks), 13 (s is 0 and every data bit is 1).
  */
 uint32_t gii_write(uint32_t q, uint32_t m, uint32_t v, uint32_t t0, uint32_t t1, uint32_t t2, uint32_t t3,
-                   uint32_t width, const uint8_t *blocks, size_t blocks_len, uint8_t *page, size_t page_len);
+                   uint32_t s, uint32_t width, const uint8_t *blocks, size_t blocks_len, uint8_t *page, size_t page_len);
 
 /*
  * Read out: the data bits of the page, member or not, blank or not, into `blocks`. Nothing is corrected. Of a blank page
  * every data bit is 1, and every unused bit is 0 as ever, whatever the spare bits are.
  *
- * Returns what gii_judge gives for the page, or refuses: 1 to 4, 6, 7, 8 (a spare bit of a page that is not blank).
+ * Returns what gii_judge gives for the page, or refuses: 1 to 4, 14, 6, 7, 8 (a spare bit of a page that is not blank).
  */
 uint32_t gii_read_out(uint32_t q, uint32_t m, uint32_t v, uint32_t t0, uint32_t t1, uint32_t t2, uint32_t t3,
-                      const uint8_t *page, size_t page_len, uint8_t *blocks, size_t blocks_len);
+                      uint32_t s, const uint8_t *page, size_t page_len, uint8_t *blocks, size_t blocks_len);
 
 /*
  * Judge: whether the page is a member of the code.
  *
  * Returns GII_BLANK for a blank page, whatever its spare bits are. For any other it returns GII_MEMBER; or GII_SUB_WORD + i
  * for the lowest sub-word i that is no multiple of g_0; or, if all are, GII_NESTED_WORD + l for the lowest nested word l
- * that is no multiple of g_(v-l), nested word l being the sum over i of x^(l i) c_i with x^n = 1. Or it refuses: 1 to 4, 7,
- * 8 (a spare bit of a page that is not blank).
+ * that is no multiple of g_(v-l), nested word l being the sum over i of x^(l i) c_i with x^n = 1, whatever s is. Or it
+ * refuses: 1 to 4, 14, 7, 8 (a spare bit of a page that is not blank).
  */
 uint32_t gii_judge(uint32_t q, uint32_t m, uint32_t v, uint32_t t0, uint32_t t1, uint32_t t2, uint32_t t3,
-                   const uint8_t *page, size_t page_len);
+                   uint32_t s, const uint8_t *page, size_t page_len);
 
 /*
  * Syndromes of a sub-word: S_j, the value of sub-word `index` at alpha^j, for j from 1 to 2 t0, into `list`, of
  * GII_LIST_BYTES(t0) bytes. An element is a number below 2^q, alpha is 2; the field polynomials are 0x13, 0x11D, 0x1053.
  *
- * Returns GII_DONE, or refuses: 1 to 4, 7, 8 (a spare bit anywhere in the page, blank or not), 9 (index >= m), 10.
+ * Returns GII_DONE, or refuses: 1 to 4, 14, 7, 8 (a spare bit anywhere in the page, blank or not), 9 (index >= m), 10.
  */
 uint32_t gii_syndromes(uint32_t q, uint32_t m, uint32_t v, uint32_t t0, uint32_t t1, uint32_t t2, uint32_t t3,
-                       const uint8_t *page, size_t page_len, uint32_t index, uint8_t *list, size_t list_len);
+                       uint32_t s, const uint8_t *page, size_t page_len, uint32_t index, uint8_t *list, size_t list_len);
 
 /*
  * Syndromes of nested word `index`, likewise, for j from 1 to 2 t_(v-index): GII_LIST_BYTES(t_(v-index)) bytes.
  *
- * Returns GII_DONE, or refuses: 1 to 4, 7, 8 (a spare bit anywhere in the page, blank or not), 9 (index >= v), 10.
+ * Returns GII_DONE, or refuses: 1 to 4, 14, 7, 8 (a spare bit anywhere in the page, blank or not), 9 (index >= v), 10.
  */
 uint32_t gii_nested_syndromes(uint32_t q, uint32_t m, uint32_t v, uint32_t t0, uint32_t t1, uint32_t t2, uint32_t t3,
-                              const uint8_t *page, size_t page_len, uint32_t index, uint8_t *list, size_t list_len);
+                              uint32_t s, const uint8_t *page, size_t page_len, uint32_t index, uint8_t *list,
+                              size_t list_len);
 
 /*
  * Quote: what the sheet comes to, 12 numbers into `list`, of GII_QUOTE_BYTES bytes: the degrees w_0 to w_3, 0 past v; then
- * the data bits of block 0 to block 7, 0 past the last block. Block i has n - w_(v-i) data bits for i < v and n - w_0 from
- * i = v on. It needs no page, and tells whether a sheet is accepted.
+ * the data bits of block 0 to block 7, 0 past the last block. Block i has n - s - w_(v-i) data bits for i < v and
+ * n - s - w_0 from i = v on. It needs no page, and tells whether a sheet is accepted; asked with s 0, it tells the greatest
+ * s, one less than the data bits of block 0.
  *
- * At q 12, m 8, v 3, t 28, 32, 39, 58: 336, 384, 462, 690; 3405, 3633, 3711, 3759, 3759, 3759, 3759, 3759.
+ * At q 12, m 8, v 3, t 28, 32, 39, 58, s 0: 336, 384, 462, 690; 3405, 3633, 3711, 3759, 3759, 3759, 3759, 3759.
+ * With s 1900: 336, 384, 462, 690; 1505, 1733, 1811, 1859, 1859, 1859, 1859, 1859.
  *
- * Returns GII_DONE, or refuses: 1 to 4, 10.
+ * Returns GII_DONE, or refuses: 1 to 4, 14, 10.
  */
 uint32_t gii_quote(uint32_t q, uint32_t m, uint32_t v, uint32_t t0, uint32_t t1, uint32_t t2, uint32_t t3,
-                   uint8_t *list, size_t list_len);
+                   uint32_t s, uint8_t *list, size_t list_len);
 
 /* Bytes of a page; 0 where the sheet is refused. */
-uint32_t gii_page_bytes(uint32_t q, uint32_t m, uint32_t v, uint32_t t0, uint32_t t1, uint32_t t2, uint32_t t3);
+uint32_t gii_page_bytes(uint32_t q, uint32_t m, uint32_t v, uint32_t t0, uint32_t t1, uint32_t t2, uint32_t t3,
+                        uint32_t s);
 
 /* Bytes of all blocks, each on whole bytes; 0 where the sheet is refused. */
-uint32_t gii_data_bytes(uint32_t q, uint32_t m, uint32_t v, uint32_t t0, uint32_t t1, uint32_t t2, uint32_t t3);
+uint32_t gii_data_bytes(uint32_t q, uint32_t m, uint32_t v, uint32_t t0, uint32_t t1, uint32_t t2, uint32_t t3,
+                        uint32_t s);
 
 /*
  * Distance: two different members differ in at least so many bits, the smallest of (v + 1)(2 t0 + 1) and
  * b (2 t_(v-b+1) + 1) for b from 1 to v; 0 where the sheet is refused.
  */
-uint32_t gii_distance(uint32_t q, uint32_t m, uint32_t v, uint32_t t0, uint32_t t1, uint32_t t2, uint32_t t3);
+uint32_t gii_distance(uint32_t q, uint32_t m, uint32_t v, uint32_t t0, uint32_t t1, uint32_t t2, uint32_t t3,
+                      uint32_t s);
 
 /* The parameters of a code in one place, and the functions above on them. Later versions may add members behind these. */
 struct gii_sheet {
     uint32_t q, m, v;
     uint32_t t[4]; /* t0 .. t3 */
+    uint32_t s;    /* 0, which it is where an initializer leaves it out, for full sub-words */
 };
 
 static inline uint32_t gii_sheet_write(const struct gii_sheet *sheet, uint32_t width, const uint8_t *blocks,
                                        size_t blocks_len, uint8_t *page, size_t page_len)
 {
-    return gii_write(sheet->q, sheet->m, sheet->v, sheet->t[0], sheet->t[1], sheet->t[2], sheet->t[3],
+    return gii_write(sheet->q, sheet->m, sheet->v, sheet->t[0], sheet->t[1], sheet->t[2], sheet->t[3], sheet->s,
                      width, blocks, blocks_len, page, page_len);
 }
 
 static inline uint32_t gii_sheet_read_out(const struct gii_sheet *sheet, const uint8_t *page, size_t page_len,
                                           uint8_t *blocks, size_t blocks_len)
 {
-    return gii_read_out(sheet->q, sheet->m, sheet->v, sheet->t[0], sheet->t[1], sheet->t[2], sheet->t[3],
+    return gii_read_out(sheet->q, sheet->m, sheet->v, sheet->t[0], sheet->t[1], sheet->t[2], sheet->t[3], sheet->s,
                         page, page_len, blocks, blocks_len);
 }
 
 static inline uint32_t gii_sheet_judge(const struct gii_sheet *sheet, const uint8_t *page, size_t page_len)
 {
-    return gii_judge(sheet->q, sheet->m, sheet->v, sheet->t[0], sheet->t[1], sheet->t[2], sheet->t[3], page, page_len);
+    return gii_judge(sheet->q, sheet->m, sheet->v, sheet->t[0], sheet->t[1], sheet->t[2], sheet->t[3], sheet->s,
+                     page, page_len);
 }
 
 static inline uint32_t gii_sheet_syndromes(const struct gii_sheet *sheet, const uint8_t *page, size_t page_len,
                                            uint32_t index, uint8_t *list, size_t list_len)
 {
-    return gii_syndromes(sheet->q, sheet->m, sheet->v, sheet->t[0], sheet->t[1], sheet->t[2], sheet->t[3],
+    return gii_syndromes(sheet->q, sheet->m, sheet->v, sheet->t[0], sheet->t[1], sheet->t[2], sheet->t[3], sheet->s,
                          page, page_len, index, list, list_len);
 }
 
 static inline uint32_t gii_sheet_nested_syndromes(const struct gii_sheet *sheet, const uint8_t *page, size_t page_len,
                                                   uint32_t index, uint8_t *list, size_t list_len)
 {
-    return gii_nested_syndromes(sheet->q, sheet->m, sheet->v, sheet->t[0], sheet->t[1], sheet->t[2], sheet->t[3],
+    return gii_nested_syndromes(sheet->q, sheet->m, sheet->v, sheet->t[0], sheet->t[1], sheet->t[2], sheet->t[3], sheet->s,
                                 page, page_len, index, list, list_len);
 }
 
 static inline uint32_t gii_sheet_quote(const struct gii_sheet *sheet, uint8_t *list, size_t list_len)
 {
-    return gii_quote(sheet->q, sheet->m, sheet->v, sheet->t[0], sheet->t[1], sheet->t[2], sheet->t[3], list, list_len);
+    return gii_quote(sheet->q, sheet->m, sheet->v, sheet->t[0], sheet->t[1], sheet->t[2], sheet->t[3], sheet->s,
+                     list, list_len);
 }
 
 static inline uint32_t gii_sheet_page_bytes(const struct gii_sheet *sheet)
 {
-    return gii_page_bytes(sheet->q, sheet->m, sheet->v, sheet->t[0], sheet->t[1], sheet->t[2], sheet->t[3]);
+    return gii_page_bytes(sheet->q, sheet->m, sheet->v, sheet->t[0], sheet->t[1], sheet->t[2], sheet->t[3], sheet->s);
 }
 
 static inline uint32_t gii_sheet_data_bytes(const struct gii_sheet *sheet)
 {
-    return gii_data_bytes(sheet->q, sheet->m, sheet->v, sheet->t[0], sheet->t[1], sheet->t[2], sheet->t[3]);
+    return gii_data_bytes(sheet->q, sheet->m, sheet->v, sheet->t[0], sheet->t[1], sheet->t[2], sheet->t[3], sheet->s);
 }
 
 static inline uint32_t gii_sheet_distance(const struct gii_sheet *sheet)
 {
-    return gii_distance(sheet->q, sheet->m, sheet->v, sheet->t[0], sheet->t[1], sheet->t[2], sheet->t[3]);
+    return gii_distance(sheet->q, sheet->m, sheet->v, sheet->t[0], sheet->t[1], sheet->t[2], sheet->t[3], sheet->s);
 }
 
 /* The number at a place of a list, 0 the first. */
@@ -266,9 +289,10 @@ static inline const char *gii_answer_text(uint32_t number)
     case GII_STRAY: return "stray: a spare or unused bit is 1";
     case GII_INDEX: return "index: no such sub-word or nested word";
     case GII_LIST: return "list: the length is not exact";
-    case GII_FULL: return "full: a register would take more than n coefficients";
+    case GII_FULL: return "full: a register would take more than n - s coefficients";
     case GII_REGISTER: return "register: level or remainder out of range";
     case GII_BLANK_BLOCKS: return "blank: the page would be all ones";
+    case GII_SHORTENING: return "shortening: s is above n - w_v - 1";
     case GII_SUB_WORD + 0: return "sub-word 0 fails";
     case GII_SUB_WORD + 1: return "sub-word 1 fails";
     case GII_SUB_WORD + 2: return "sub-word 2 fails";

@@ -1,12 +1,13 @@
 #!/usr/bin/env bash
 # The benchmark, on a machine that does nothing else: times of the C calls and of the library's leaves into
-# docs/BENCHMARKS.md, and their drawing into docs/benchmarks.svg.
+# docs/BENCHMARKS.md, and their drawing into docs/benchmarks.svg. Prints what shortened sub-words save, and fails where it is
+# too little.
 set -euo pipefail
 cd "$(dirname "$0")"
 mkdir -p target
 (cd .. && rt staticlib gii_bch) > target/bench.log
 cargo build --offline --quiet --release -p compare
-target/release/bench target/figures.csv > target/calls.md
+target/release/bench target/figures.csv > target/calls.md || { tail -n 1 target/calls.md; echo 'writes of shortened sub-words are slower than that'; exit 1; }
 ./leaves.sh > target/leaves.md
 python3 plot.py target/figures.csv ../docs/benchmarks.svg
 cat > ../docs/BENCHMARKS.md <<TEXT
@@ -27,3 +28,4 @@ On the sheet q 12, m 8, v 3, t 28, 32, 39, 58, beside plain versions that take a
 
 $(cat target/leaves.md)
 TEXT
+tail -n 1 target/calls.md

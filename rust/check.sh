@@ -1,8 +1,8 @@
 #!/usr/bin/env bash
 # All that surrounds the archive, in one run: what it exports and needs, the header in C and C++, the installed library under the
-# C program, the stack of the calls, any calls from C, the Rust crate's examples, the reference, the comparison, any calls beside
-# it. The archive is that of GII_ARCHIVE (a path from rust/), or ../target/staticlib/libgii_bch.a; FUZZ sets the number of any
-# calls.
+# C program, the stack of the calls, any calls from C, the Rust crate's examples, the reference, the comparison, the time that
+# shortened sub-words save, any calls beside the reference. The archive is that of GII_ARCHIVE (a path from rust/), or
+# ../target/staticlib/libgii_bch.a; FUZZ sets the number of any calls.
 set -euo pipefail
 cd "$(dirname "$0")"
 ../tools/needed.sh gcc g++ cargo nm

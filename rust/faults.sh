@@ -1,7 +1,7 @@
 #!/usr/bin/env bash
 # Whether the tests find what is wrong: the reference stands in for the archive, first as it is, which every test must
-# pass, then with one fault at a time, which some test must find. Prints for each fault the tests that fail, and whether
-# the any calls part; last, how many were tried and not found.
+# pass, then with one fault at a time, which some test must find; NAME@s is a fault on shortened sub-words alone. Prints for
+# each fault the tests that fail, and whether the any calls part; last, how many were tried and not found.
 set -euo pipefail
 cd "$(dirname "$0")"
 export GII_ARCHIVE=target/release/libstandin.a GII_CASES=${GII_CASES:-2}
@@ -24,7 +24,15 @@ for fault in data-high zero-page level-0-only write-touches-nothing width-37 one
     blank-after-stray blank-before-page blank-before-blocks blank-a-member blank-by-one-sub-word blank-by-sub-word-0 \
     blank-where-spare-set blank-mixed-missed blank-blocks-left blank-spare-bits-left \
     ones-written ones-half-written ones-last-bit-missed ones-by-block-0 ones-before-page ones-before-stray \
-    syndromes-say-blank syndromes-of-erased; do
+    syndromes-say-blank syndromes-of-erased \
+    shortening-one-too-many shortening-one-too-few shortening-by-level-0 shortening-modulo-2-8 shortening-modulo-2-16 \
+    shortening-after-width shortening-after-list shortening-before-clash distance-without-14 full-sub-words data-bytes-without-s quote-without-s low-bits-lost \
+    low-spare-bits-left spare-top-bit-only nested-folded syndromes-from-the-top blank-over-n blank-all-but-top-bit \
+    ones-refused-shortened \
+    data-high@s width-37@s last-byte-left@s nested-power@s judge-names-last-nested@s read-out-of-members-only@s \
+    unused-bits-left@s last-syndrome-left@s half-written-refusal@s page-before-blocks@s blank-after-stray@s \
+    blank-before-page@s blank-before-blocks@s blank-by-one-sub-word@s blank-mixed-missed@s blank-spare-bits-left@s \
+    syndromes-of-erased@s; do
     tried=$((tried + 1))
     if run "$fault"; then
         found="NOT FOUND"

@@ -1,9 +1,9 @@
 /*
  * Any calls from C: any numbers, any lengths, any bytes, on buffers of their own from malloc. Each answer is one that the
  * call may give and has a text, what is only read stays, a refusal leaves every byte, a quote fits the sizes, which are in
- * range or 0, lengths by the sizes are never refused, stray bits are, blank pages are known, read out as ones and never
- * written. Usage: fuzz CALLS SEED. It is built with the sanitizers, and without them for valgrind, which sees every access
- * of the archive.
+ * range or 0, lengths by the sizes are never refused, stray bits are, s is where the quote of full sub-words says so, blank
+ * pages are known, read out as ones and never written. Usage: fuzz CALLS SEED. It is built with the sanitizers, and without
+ * them for valgrind, which sees every access of the archive.
  */
 #include "gii_bch.h"
 
@@ -31,6 +31,31 @@ static int once_in(uint32_t n)
     return below(n) == 0;
 }
 
+/* The greatest s of a sheet, by the quote of its full sub-words: one less than the data bits of block 0; -1 where that is
+ * refused. */
+static int64_t most(const struct gii_sheet *s)
+{
+    struct gii_sheet full = *s;
+    uint8_t quote[GII_QUOTE_BYTES];
+    full.s = 0;
+    return gii_sheet_quote(&full, quote, sizeof quote) == GII_DONE ? (int64_t)gii_number(quote, GII_QUOTE_DATA_BITS(0)) - 1 : -1;
+}
+
+/* An s that is 0, small, any, the greatest, one more, or any number. */
+static uint32_t any_shortening(const struct gii_sheet *s)
+{
+    uint32_t end = (uint32_t)(most(s) + 1);
+    switch (below(8)) {
+    case 0: return below(10);
+    case 1:
+    case 2: return end ? below(end) : 0;
+    case 3: return end ? end - 1 : 0;
+    case 4: return once_in(3) ? end : 0;
+    case 5: return once_in(3) ? (uint32_t)any() : 0;
+    default: return 0;
+    }
+}
+
 static struct gii_sheet any_sheet(void)
 {
     struct gii_sheet s;
@@ -42,10 +67,11 @@ static struct gii_sheet any_sheet(void)
         s.t[a] = a <= s.v ? t : 0;
         t += a == 0 ? 1 + below(most / 4 + 1) : below(most / 4 + 1);
     }
-    uint32_t *field[] = {&s.q, &s.m, &s.v, &s.t[0], &s.t[1], &s.t[2], &s.t[3]};
+    s.s = any_shortening(&s);
+    uint32_t *field[] = {&s.q, &s.m, &s.v, &s.t[0], &s.t[1], &s.t[2], &s.t[3], &s.s};
     if (once_in(6))
-        *field[below(7)] = once_in(2) ? (uint32_t)any() : below(70);
-    for (int k = 0, wild = once_in(50); wild && k < 7; k++)
+        *field[below(8)] = once_in(2) ? (uint32_t)any() : below(70);
+    for (int k = 0, wild = once_in(50); wild && k < 8; k++)
         *field[k] = once_in(2) ? (uint32_t)any() : below(70);
     return s;
 }
@@ -95,15 +121,22 @@ static void give_back(struct buffer b)
     free(b.before);
 }
 
+/* A refusal that any call may give. */
 static int refused(uint32_t r)
 {
-    return GII_IS_REFUSAL(r) && r <= GII_LIST;
+    return GII_IS_REFUSAL(r) && (r <= GII_LIST || r == GII_SHORTENING);
 }
 
 static int verdict(uint32_t r)
 {
     return r == GII_MEMBER || (r >= GII_SUB_WORD && r < GII_SUB_WORD + 8) || (r >= GII_NESTED_WORD && r < GII_NESTED_WORD + 3) ||
            r == GII_BLANK;
+}
+
+/* The coefficients of a sub-word that a page of an accepted sheet stores. */
+static uint32_t stored(const struct gii_sheet *s)
+{
+    return ((uint32_t)1 << s->q) - 1 - s->s;
 }
 
 /* The sizes of a sheet: all 0, or all in range. */
@@ -113,15 +146,17 @@ struct sizes {
 
 static int in_range(const struct gii_sheet *s, struct sizes is)
 {
+    if ((is.page > 0) != ((int64_t)s->s <= most(s)))
+        return 0;
     if (is.page == 0)
         return is.data == 0 && is.distance == 0;
     if (s->v < 1 || s->v > 3 || s->m <= s->v || s->m > 8)
         return 0;
-    return is.page <= GII_PAGE_MAX && is.page % s->m == 0 && is.data > 0 && is.data <= GII_BLOCKS_MAX && is.data < is.page &&
+    return is.page <= GII_PAGE_MAX && is.page == s->m * ((stored(s) + 7) / 8) && is.data > 0 && is.data <= GII_BLOCKS_MAX && is.data < is.page &&
            is.distance > 2 * s->t[0] + 1 && is.distance <= 2 * s->t[s->v] + 1 && is.distance <= (s->v + 1) * (2 * s->t[0] + 1);
 }
 
-/* Whether a quote fits the sizes, which are in range: check bits and data bits are all bits of a sub-word but the spare one. */
+/* Whether a quote fits the sizes, which are in range: check bits and data bits are all coefficients stored of a sub-word. */
 static int fits(const struct gii_sheet *s, struct sizes is, const uint8_t *quote)
 {
     uint32_t data = 0;
@@ -130,35 +165,44 @@ static int fits(const struct gii_sheet *s, struct sizes is, const uint8_t *quote
             return 0;
     for (uint32_t i = 0; i < 8; i++) {
         uint32_t bits = gii_number(quote, GII_QUOTE_DATA_BITS(i)), check = gii_number(quote, GII_QUOTE_DEGREE(i < s->v ? s->v - i : 0));
-        if (i < s->m ? bits == 0 || bits + check != 8 * (is.page / s->m) - 1 : bits != 0)
+        if (i < s->m ? bits == 0 || bits + check != stored(s) : bits != 0)
             return 0;
         data += (bits + 7) / 8;
     }
     return data == is.data;
 }
 
-/* A page of a sheet: its spare bits cleared, but one in `left`. */
-static void clear_spare(const struct gii_sheet *s, size_t exact, struct buffer page, uint32_t left)
+/* The spare bits of the last byte of a sub-word. */
+static uint8_t spare_of(const struct gii_sheet *s)
 {
-    for (size_t i = 0, word = exact / (s->m ? s->m : 1); word && i < page.length; i++)
-        if ((i + 1) % word == 0 && !once_in(left))
-            page.bytes[i] &= 127;
+    return (uint8_t)~((1u << ((stored(s) - 1) % 8 + 1)) - 1);
+}
+
+/* A page of an accepted sheet: its spare bits cleared; in one sub-word of `left` none of them, in one of `left` any. */
+static void clear_spare(const struct gii_sheet *s, struct buffer page, uint32_t left)
+{
+    size_t word = (stored(s) + 7) / 8;
+    for (size_t i = word; i <= page.length; i += word)
+        if (!once_in(left))
+            page.bytes[i - 1] &= (uint8_t)~(spare_of(s) & (once_in(left) ? any() : 255));
 }
 
 /* Whether every coefficient of a page of exact length is 1. */
-static int blank(struct buffer page, size_t word)
+static int blank(const struct gii_sheet *s, struct buffer page)
 {
+    size_t word = page.length / s->m;
     for (size_t i = 0; i < page.length; i++)
-        if ((page.bytes[i] | ((i + 1) % word ? 0 : 128)) != 255)
+        if ((page.bytes[i] | ((i + 1) % word ? 0 : spare_of(s))) != 255)
             return 0;
     return 1;
 }
 
 /* Whether a spare bit of it is. */
-static int stray(struct buffer page, size_t word)
+static int stray(const struct gii_sheet *s, struct buffer page)
 {
+    size_t word = page.length / s->m;
     for (size_t i = word; i <= page.length; i += word)
-        if (page.bytes[i - 1] & 128)
+        if (page.bytes[i - 1] & spare_of(s))
             return 1;
     return 0;
 }
@@ -210,13 +254,13 @@ int main(int argc, char **argv)
         size_t list = call == 5 ? GII_QUOTE_BYTES : GII_LIST_BYTES(call == 3 ? s.t[0] % 100 : level);
         struct buffer page = lend(exact), other = lend(call < 2 ? is.data : list);
         uint32_t r;
-        if (call && once_in(6)) {
-            memset(page.bytes, 255, page.length);
-            clear_spare(&s, exact, page, 2);
-            if (once_in(3))
+        if (call && sized && is.page) {
+            int ones = once_in(6);
+            if (ones)
+                memset(page.bytes, 255, page.length);
+            clear_spare(&s, page, ones ? 2 : 20);
+            if (ones && once_in(3))
                 flip_any(page);
-        } else if (call) {
-            clear_spare(&s, exact, page, 20);
         } else if (sized && is.data && other.length == is.data && once_in(4)) {
             ones(&s, is, other.bytes);
             if (once_in(3))
@@ -225,12 +269,12 @@ int main(int argc, char **argv)
         note(page);
         note(other);
         int paged = sized && is.page && page.length == is.page;
-        int erased = paged && blank(page, is.page / s.m), spare = paged && stray(page, is.page / s.m);
+        int erased = paged && blank(&s, page), spare = paged && stray(&s, page);
         switch (call) {
         case 0:
             r = gii_sheet_write(&s, once_in(9) ? (uint32_t)any() : below(66), other.bytes, other.length, page.bytes, page.length);
             good = kept(other) && (r == 0 || kept(page));
-            good = good && (refused(r) || (paged && r == (is_ones(&s, is, other) ? GII_BLANK_BLOCKS : GII_DONE)));
+            good = good && (refused(r) || (paged && r == (s.s == 0 && is_ones(&s, is, other) ? GII_BLANK_BLOCKS : GII_DONE)));
             break;
         case 1:
             r = gii_sheet_read_out(&s, page.bytes, page.length, other.bytes, other.length);
@@ -252,13 +296,17 @@ int main(int argc, char **argv)
         default:
             r = gii_sheet_quote(&s, other.bytes, other.length);
             good = r == 0 ? sized && is.page && other.length == GII_QUOTE_BYTES && fits(&s, is, other.bytes)
-                          : kept(other) && (is.page ? r == GII_LIST && other.length != GII_QUOTE_BYTES : r <= GII_CLASH);
+                          : kept(other) && (is.page ? r == GII_LIST && other.length != GII_QUOTE_BYTES : r <= GII_CLASH || r == GII_SHORTENING);
             break;
         }
+        /* 14 comes before all but 1 to 4, which the quote of full sub-words has too. */
+        good = good && (r == GII_SHORTENING) == (most(&s) >= 0 && is.page == 0);
         good = good && sized && has_text(r) && !(r == GII_PAGE && page.length == is.page) && !(r == GII_BLOCKS && other.length == is.data);
         if (!good) {
-            printf("call %lu of seed %llu: %d answers %u (%s) for q %u m %u v %u t %u %u %u %u, sizes %u %u %u\n", k, (unsigned long long)seed, call, r,
-                   gii_answer_text(r), s.q, s.m, s.v, s.t[0], s.t[1], s.t[2], s.t[3], is.page, is.data, is.distance);
+            printf("call %lu of seed %llu: %d answers %u (%s) for q %u m %u v %u t %u %u %u %u s %u, sizes %u %u %u\n", k, (unsigned long long)seed, call, r,
+                   gii_answer_text(r), s.q, s.m, s.v, s.t[0], s.t[1], s.t[2], s.t[3], s.s, is.page, is.data, is.distance);
+            give_back(page);
+            give_back(other);
             return 1;
         }
         answers[r & 127]++;

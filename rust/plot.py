@@ -14,7 +14,7 @@ from xml.sax.saxutils import escape
 
 COLOURS = ["#1b6ca8", "#c8553d", "#3a7d44", "#7b4fa3", "#8a6d1d"]
 MARKS = ["ring", "triangle", "dot", "square", "diamond"]
-WIDTH, HEIGHT, LEFT, RIGHT, TOP, BOTTOM, NAMES, GAP = 920, 400, 80, 610, 40, 60, 650, 16
+WIDTH, HEIGHT, LEFT, RIGHT, TOP, BOTTOM, NAMES, GAP = 970, 400, 80, 610, 40, 60, 650, 16
 
 
 class Axis:
@@ -76,10 +76,15 @@ def panel(top, title, x_title, lines, crc, crc_name):
         at = y.place(10**power)
         out.append(f'<line x1="{LEFT}" x2="{RIGHT}" y1="{at:.1f}" y2="{at:.1f}" stroke="#ddd"/>')
         out.append(text(LEFT - 6, at + 4, time_text(10**power), "end"))
+    last = -math.inf
     for value in sorted({p[0] for p in points}):
-        out.append(f'<line x1="{x.place(value):.1f}" x2="{x.place(value):.1f}" y1="{y.low}" y2="{y.low + 5}" stroke="#888"/>')
-        out.append(text(x.place(value), y.low + 19, f"{value:,.0f}"))
-    out.append(text((LEFT + RIGHT) / 2, y.low + 42, x_title))
+        at = x.place(value)
+        out.append(f'<line x1="{at:.1f}" x2="{at:.1f}" y1="{y.low}" y2="{y.low + 5}" stroke="#888"/>')
+        # A number that would touch the one before it stands lower.
+        touches = at - last < 50
+        out.append(text(at, y.low + (30 if touches else 19), f"{value:,.0f}"))
+        last = -math.inf if touches else at
+    out.append(text((LEFT + RIGHT) / 2, y.low + 46, x_title))
     ends = [(y.place(line.points[-1][1]), x.place(line.points[-1][0]), line.name, line.colour) for line in lines]
     for time in crc:
         at = y.place(time)

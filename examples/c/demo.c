@@ -1,7 +1,7 @@
 /*
  * The C functions at work: a sheet is quoted, a page is written, judged, damaged, judged and read out, an erased page is
- * known as blank, and every refusal is shown to leave its buffers. Every length comes from the calls. Prints what it does;
- * the first surprise ends it with status 1.
+ * known as blank, all that with full and with shortened sub-words, and every refusal is shown to leave its buffers. Every
+ * length comes from the calls. Prints what it does; the first surprise ends it with status 1.
  *
  *   rt staticlib gii_bch
  *   cc -O2 -Iinclude examples/c/demo.c target/staticlib/libgii_bch.a -o target/demo && target/demo
@@ -23,11 +23,23 @@ static void must(int holds, const char *what)
         exit(1);
 }
 
+/* The coefficients of a sub-word that a page stores. */
+static uint32_t stored(const struct gii_sheet *s)
+{
+    return ((uint32_t)1 << s->q) - 1 - s->s;
+}
+
+/* The spare bits of the last byte of a sub-word: 0 to 7. */
+static uint32_t spare_bits(const struct gii_sheet *s)
+{
+    return 8 * (gii_sheet_page_bytes(s) / s->m) - stored(s);
+}
+
 /* What the sheet comes to, into `quote`; the sizes fit it. */
 static void quoted(const struct gii_sheet *s, uint8_t *quote)
 {
     uint32_t page_len = gii_sheet_page_bytes(s), data_len = gii_sheet_data_bytes(s), bytes = 0, a, i, bits;
-    int fits = 1;
+    int fits = page_len == s->m * ((stored(s) + 7) / 8);
 
     memset(quote, 0xA5, GII_QUOTE_BYTES);
     must(gii_sheet_quote(s, quote, GII_QUOTE_BYTES) == GII_DONE, "quoted");
@@ -41,13 +53,12 @@ static void quoted(const struct gii_sheet *s, uint8_t *quote)
            (unsigned)gii_sheet_distance(s));
 
     for (i = 0; i < s->m; i++) {
-        /* The bits of a sub-word but the spare one are check bits and data bits. */
         bits = gii_number(quote, GII_QUOTE_DATA_BITS(i));
         a = i < s->v ? s->v - i : 0;
-        fits = fits && bits + gii_number(quote, GII_QUOTE_DEGREE(a)) == 8 * (page_len / s->m) - 1;
+        fits = fits && bits + gii_number(quote, GII_QUOTE_DEGREE(a)) == stored(s);
         bytes += (bits + 7) / 8;
     }
-    must(fits, "check bits and data bits fill the sub-words");
+    must(fits, "check bits and data bits fill the sub-words, these the page");
     must(bytes == data_len, "the blocks, each on whole bytes, fill the data bytes");
     for (a = s->v + 1; a < 4; a++)
         fits = fits && gii_number(quote, GII_QUOTE_DEGREE(a)) == 0;
@@ -92,8 +103,8 @@ static void round_trip(const struct gii_sheet *s)
     uint32_t i, t;
     int zero;
 
-    printf("q %u, m %u, v %u, t %u, %u, %u, %u\n", (unsigned)s->q, (unsigned)s->m, (unsigned)s->v, (unsigned)s->t[0],
-           (unsigned)s->t[1], (unsigned)s->t[2], (unsigned)s->t[3]);
+    printf("q %u, m %u, v %u, t %u, %u, %u, %u, s %u\n", (unsigned)s->q, (unsigned)s->m, (unsigned)s->v,
+           (unsigned)s->t[0], (unsigned)s->t[1], (unsigned)s->t[2], (unsigned)s->t[3], (unsigned)s->s);
     quoted(s, quote);
     fill_blocks(s, quote, blocks);
     print_bytes("blocks", blocks, blocks_len);
@@ -122,7 +133,7 @@ static void round_trip(const struct gii_sheet *s)
 
     for (i = 0; i < s->m; i++) {
         memcpy(other, page, page_len);
-        other[i * (page_len / s->m) + 1] ^= 0x10;
+        other[i * (page_len / s->m) + 1] ^= 0x01;
         must(gii_sheet_judge(s, other, page_len) == GII_SUB_WORD + i, "one bit flipped: its sub-word fails");
         must(gii_sheet_read_out(s, other, page_len, out, blocks_len) == GII_SUB_WORD + i, "read out says so too");
         must(gii_sheet_syndromes(s, other, page_len, i, list, GII_LIST_BYTES(s->t[0])) == GII_DONE, "syndromes");
@@ -130,7 +141,7 @@ static void round_trip(const struct gii_sheet *s)
     }
 }
 
-/* A page as it is delivered, every byte FF; and the blocks that it has, which are not written. */
+/* A page as it is delivered, every byte FF; and the blocks that it has, which are written only where s is above 0. */
 static void erased_page(const struct gii_sheet *s)
 {
     static uint8_t page[GII_PAGE_MAX], other[GII_PAGE_MAX], ones[GII_BLOCKS_MAX], out[GII_BLOCKS_MAX];
@@ -138,6 +149,7 @@ static void erased_page(const struct gii_sheet *s)
     uint8_t list[GII_LIST_MAX], quote[GII_QUOTE_BYTES];
     uint32_t number, i, r, bits;
 
+    printf("  %u spare bits a sub-word\n", (unsigned)spare_bits(s));
     memset(page, 0xFF, page_len);
     must(gii_sheet_judge(s, page, page_len) == GII_BLANK, "an erased page is blank");
     memset(ones, 0xA5, sizeof ones);
@@ -151,38 +163,52 @@ static void erased_page(const struct gii_sheet *s)
             out[k + r / 8] |= (uint8_t)(1u << r % 8);
     }
     must(memcmp(out, ones, blocks_len) == 0, "every data bit is 1, every unused bit 0");
-    must(gii_sheet_syndromes(s, page, page_len, 0, list, GII_LIST_BYTES(s->t[0])) == GII_STRAY,
-         "its syndromes are refused: its spare bits are 1");
+    must(gii_sheet_syndromes(s, page, page_len, 0, list, GII_LIST_BYTES(s->t[0])) == (spare_bits(s) ? GII_STRAY : GII_DONE),
+         "its syndromes are refused where it has spare bits: they are 1");
 
     for (i = 0; i < s->m; i++) {
-        page[(i + 1) * sub_word - 1] = 0x7F;
-        must(gii_sheet_judge(s, page, page_len) == GII_BLANK, "a spare bit cleared: blank");
-        memset(out, 0xA5, sizeof out);
-        must(gii_sheet_read_out(s, page, page_len, out, blocks_len) == GII_BLANK, "read out says so too");
-        must(memcmp(out, ones, blocks_len) == 0, "the same blocks");
+        for (bits = 0; bits < spare_bits(s); bits++) {
+            page[(i + 1) * sub_word - 1] ^= (uint8_t)(0x80u >> bits);
+            must(gii_sheet_judge(s, page, page_len) == GII_BLANK, "a spare bit cleared: blank");
+            memset(out, 0xA5, sizeof out);
+            must(gii_sheet_read_out(s, page, page_len, out, blocks_len) == GII_BLANK, "read out says so too");
+            must(memcmp(out, ones, blocks_len) == 0, "the same blocks");
+        }
     }
     for (i = 0; i < s->m; i++) {
         memcpy(other, page, page_len);
         other[i * sub_word] ^= 0x01;
-        must(gii_sheet_judge(s, other, page_len) == GII_SUB_WORD + i, "one coefficient 0: not blank, its sub-word fails");
+        number = gii_sheet_judge(s, other, page_len);
+        if (s->s == 0)
+            must(number == GII_SUB_WORD + i, "one coefficient 0: not blank, its sub-word fails");
+        else
+            must(number == GII_SUB_WORD || number == GII_SUB_WORD + 1, "one coefficient 0: not blank, a sub-word fails");
     }
 
     memset(page, 0xA5, page_len);
     memcpy(other, page, page_len);
     number = gii_sheet_write(s, 64, ones, blocks_len, page, page_len);
-    must(number == GII_BLANK_BLOCKS && GII_IS_REFUSAL(number), "blocks of all ones are refused");
-    must(memcmp(page, other, page_len) == 0, "every byte of the page stays");
+    if (s->s == 0) {
+        must(number == GII_BLANK_BLOCKS && GII_IS_REFUSAL(number), "blocks of all ones are refused");
+        must(memcmp(page, other, page_len) == 0, "every byte of the page stays");
+    } else {
+        must(number == GII_DONE, "blocks of all ones are written: their page is not blank");
+        must(gii_sheet_read_out(s, page, page_len, out, blocks_len) == GII_MEMBER, "the page is a member");
+        must(memcmp(out, ones, blocks_len) == 0, "the blocks come back");
+    }
     ones[0] ^= 0x01;
     must(gii_sheet_write(s, 64, ones, blocks_len, page, page_len) == GII_DONE, "one data bit cleared: written");
     must(gii_sheet_read_out(s, page, page_len, out, blocks_len) == GII_MEMBER, "the page is a member");
     must(memcmp(out, ones, blocks_len) == 0, "the blocks come back");
 }
 
-/* A quote that is known number for number, and known sizes. */
+/* A quote that is known number for number, with data bits less s, and known sizes. */
 static void known_quote(void)
 {
-    static const struct gii_sheet large = {12, 8, 3, {28, 32, 39, 58}}, middle = {8, 4, 2, {4, 8, 16, 0}};
+    static const struct gii_sheet large = {12, 8, 3, {28, 32, 39, 58}, 0}, middle = {8, 4, 2, {4, 8, 16, 0}, 0};
+    static const struct gii_sheet small = {12, 4, 1, {4, 12, 0, 0}, 3071};
     static const uint32_t expected[] = {336, 384, 462, 690, 3405, 3633, 3711, 3759, 3759, 3759, 3759, 3759};
+    struct gii_sheet shortened = large;
     uint8_t list[GII_QUOTE_BYTES];
     size_t k;
     int equal = sizeof list == 2 * (sizeof expected / sizeof *expected);
@@ -196,13 +222,31 @@ static void known_quote(void)
     must(gii_sheet_data_bytes(&large) == 3695, "data 3695 bytes");
     must(gii_sheet_distance(&large) == 117, "distance 117, 2 t_3 + 1");
     must(gii_sheet_distance(&middle) == 27, "distance 27, 3 (2 t_0 + 1), of q 8, m 4, v 2, t 4, 8, 16");
+
+    shortened.s = 1900;
+    must(gii_sheet_quote(&shortened, list, sizeof list) == GII_DONE, "quoted with s 1900");
+    for (k = 0; k < sizeof expected / sizeof *expected; k++)
+        equal = equal && gii_number(list, k) == expected[k] - (k < GII_QUOTE_DATA_BITS(0) ? 0 : shortened.s);
+    must(equal, "the same degrees, and each data bits less 1900");
+    must(gii_sheet_page_bytes(&shortened) == 2200, "page 2200 bytes");
+    must(gii_sheet_data_bytes(&shortened) == 1798, "data 1798 bytes");
+    must(gii_sheet_distance(&shortened) == 117, "distance 117");
+    must(gii_sheet_page_bytes(&small) == 512 && gii_sheet_data_bytes(&small) == 476,
+         "page 512 bytes, data 476 bytes, of q 12, m 4, v 1, t 4, 12, s 3071");
+
+    shortened.s = expected[GII_QUOTE_DATA_BITS(0)] - 1;
+    must(gii_sheet_quote(&shortened, list, sizeof list) == GII_DONE, "quoted with the greatest s, 3404");
+    must(gii_number(list, GII_QUOTE_DATA_BITS(0)) == 1, "block 0 has one data bit");
+    shortened.s++;
+    must(gii_sheet_quote(&shortened, list, sizeof list) == GII_SHORTENING, "refused with s 3405");
 }
 
 /* The counter's cases that are known byte for byte. */
 static void known_pages(void)
 {
-    static const struct gii_sheet a = {4, 2, 1, {1, 2, 0, 0}};
+    static const struct gii_sheet a = {4, 2, 1, {1, 2, 0, 0}, 0}, shorter = {4, 2, 1, {1, 2, 0, 0}, 5};
     static const uint8_t blocks[3] = {0x01, 0x01, 0x00}, page[4] = {0xC2, 0x01, 0x13, 0x00};
+    static const uint8_t mixed[4] = {0xFF, 0x03, 0xFF, 0xA7};
     static const uint8_t one[4] = {0x01}, multiple[4] = {0x13}, second[4] = {0x02}, syndromes[8] = {2, 0, 4, 0, 8, 0, 3, 0};
     static const uint8_t erased[4] = {0xFF, 0xFF, 0xFF, 0xFF}, clear[4] = {0xFF, 0x7F, 0xFF, 0x7F}, ones[3] = {0x7F, 0xFF, 0x07};
     uint8_t out[4], list[8];
@@ -217,6 +261,18 @@ static void known_pages(void)
     must(gii_sheet_judge(&a, one, sizeof one) == GII_SUB_WORD + 0, "01 00 00 00: sub-word 0 fails");
     must(gii_sheet_judge(&a, multiple, sizeof multiple) == GII_NESTED_WORD + 0, "13 00 00 00: nested word 0 fails");
     must(gii_sheet_nested_syndromes(&a, second, sizeof second, 0, list, sizeof list) == GII_DONE, "syndromes of 02 00");
+    must(memcmp(list, syndromes, sizeof list) == 0, "2, 4, 8, 3");
+
+    printf("the same with s 5: ten coefficients on two bytes\n");
+    memset(out, 0xA5, sizeof out);
+    must(gii_sheet_write(&shorter, 8, blocks, 2, out, sizeof out) == GII_DONE, "blocks 01 / 01 written");
+    must(memcmp(out, page, sizeof page) == 0, "page C2 01 13 00");
+    must(gii_sheet_judge(&shorter, erased, sizeof erased) == GII_BLANK, "FF FF FF FF is blank");
+    must(gii_sheet_judge(&shorter, mixed, sizeof mixed) == GII_BLANK, "FF 03 FF A7 is blank");
+    must(gii_sheet_read_out(&shorter, mixed, sizeof mixed, out, 2) == GII_BLANK, "FF 03 FF A7 read out");
+    must(out[0] == 0x03 && out[1] == 0x3F, "blocks 03 / 3F");
+    must(gii_sheet_judge(&shorter, clear, sizeof clear) == GII_BLANK, "FF 7F FF 7F is blank");
+    must(gii_sheet_nested_syndromes(&shorter, second, sizeof second, 0, list, sizeof list) == GII_DONE, "syndromes of 02 00");
     must(memcmp(list, syndromes, sizeof list) == 0, "2, 4, 8, 3");
 }
 
@@ -271,10 +327,14 @@ static void without_sizes(const struct gii_sheet *s, const char *what)
 
 static void refusals(void)
 {
-    static const struct gii_sheet a = {4, 2, 1, {1, 2, 0, 0}};
-    static const struct gii_sheet field = {5, 2, 1, {1, 2, 0, 0}}, shape = {4, 1, 1, {1, 2, 0, 0}};
-    static const struct gii_sheet strengths = {4, 2, 1, {2, 2, 0, 0}}, clash = {4, 4, 2, {1, 2, 3, 0}};
-    static const struct gii_sheet greatest = {UINT32_MAX, UINT32_MAX, UINT32_MAX, {UINT32_MAX, UINT32_MAX, UINT32_MAX, UINT32_MAX}};
+    static const struct gii_sheet a = {4, 2, 1, {1, 2, 0, 0}, 0};
+    static const struct gii_sheet field = {5, 2, 1, {1, 2, 0, 0}, 0}, shape = {4, 1, 1, {1, 2, 0, 0}, 0};
+    static const struct gii_sheet strengths = {4, 2, 1, {2, 2, 0, 0}, 0}, clash = {4, 4, 2, {1, 2, 3, 0}, 0};
+    static const struct gii_sheet short_clash = {4, 4, 2, {1, 2, 3, 0}, UINT32_MAX};
+    static const struct gii_sheet shortening = {4, 2, 1, {1, 2, 0, 0}, 7}, shortest = {4, 2, 1, {1, 2, 0, 0}, UINT32_MAX};
+    static const struct gii_sheet shorter = {4, 2, 1, {1, 2, 0, 0}, 5};
+    static const struct gii_sheet greatest = {UINT32_MAX, UINT32_MAX, UINT32_MAX,
+                                              {UINT32_MAX, UINT32_MAX, UINT32_MAX, UINT32_MAX}, UINT32_MAX};
     const size_t data = gii_sheet_data_bytes(&a), page = gii_sheet_page_bytes(&a);
     struct lent fits, stray, ones, ones_stray, erased;
     int call;
@@ -303,6 +363,10 @@ static void refusals(void)
         refused(c, &strengths, number, data, page, list, &fits, GII_STRENGTHS, "t 2, 2");
         refused(c, &clash, number, data, page, list, &fits, GII_CLASH, "m 4, t 1, 2, 3");
         refused(c, &greatest, UINT32_MAX, 0, 0, 0, &stray, GII_FIELD, "everything wrong");
+        refused(c, &shortening, number, data, page, list, &fits, GII_SHORTENING, "s 7");
+        refused(c, &shortest, number, data, page, list, &erased, GII_SHORTENING, "s 4294967295");
+        refused(c, &shortening, UINT32_MAX, 0, 0, 0, &stray, GII_SHORTENING, "s 7 and all but the sheet wrong");
+        refused(c, &short_clash, number, data, page, list, &fits, GII_CLASH, "clash and s 4294967295");
         if (c == WRITE) {
             refused(c, &a, 0, data, page, list, &fits, GII_WIDTH, "width 0");
             refused(c, &a, 65, data, page, list, &fits, GII_WIDTH, "width 65");
@@ -315,6 +379,7 @@ static void refusals(void)
             refused(c, &a, number, data + 1, page, list, &fits, GII_BLOCKS, "a byte of blocks more");
             refused(c, &a, number, 0, page, list, &fits, GII_BLOCKS, "no blocks");
             refused(c, &a, number, data - 1, page, list, &erased, GII_BLOCKS, "erased, a byte of blocks less");
+            refused(c, &shorter, number, data, page, list, &fits, GII_BLOCKS, "s 5, blocks for s 0");
         }
         if (c != QUOTE) {
             refused(c, &a, number, data, page - 1, list, &fits, GII_PAGE, "a byte of page less");
@@ -343,12 +408,14 @@ static void refusals(void)
     without_sizes(&strengths, "t 2, 2");
     without_sizes(&clash, "m 4, t 1, 2, 3");
     without_sizes(&greatest, "everything wrong");
+    without_sizes(&shortening, "s 7");
+    without_sizes(&shortest, "s 4294967295");
 }
 
 /* What the header gives beside the functions. */
 static void header(void)
 {
-    static const struct gii_sheet most = {12, 8, 1, {1, 2, 0, 0}};
+    static const struct gii_sheet most = {12, 8, 1, {1, 2, 0, 0}, 0};
     char version[16];
 
     printf("the header\n");
@@ -356,6 +423,7 @@ static void header(void)
     must(strcmp(version, GII_BCH_VERSION) == 0, "version " GII_BCH_VERSION);
     must(gii_sheet_page_bytes(&most) == GII_PAGE_MAX && gii_sheet_data_bytes(&most) == GII_BLOCKS_MAX, "the most bytes");
     must(GII_LIST_BYTES(64) == GII_LIST_MAX, "the longest list");
+    must(GII_IS_REFUSAL(GII_FIELD) && GII_IS_REFUSAL(GII_SHORTENING), "refusals");
     must(!GII_IS_REFUSAL(GII_DONE) && !GII_IS_REFUSAL(GII_SUB_WORD) && !GII_IS_REFUSAL(GII_BLANK) && !GII_IS_REFUSAL(UINT32_MAX),
          "no refusals");
 }
@@ -363,9 +431,13 @@ static void header(void)
 int main(void)
 {
     static const struct gii_sheet sheets[] = {
-        {4, 2, 1, {1, 2, 0, 0}},
-        {8, 4, 2, {4, 8, 16, 0}},
-        {12, 8, 3, {28, 32, 39, 58}},
+        {4, 2, 1, {1, 2, 0, 0}, 0},
+        {8, 4, 2, {4, 8, 16, 0}, 0},
+        {12, 8, 3, {28, 32, 39, 58}, 0},
+        {4, 2, 1, {1, 2, 0, 0}, 6},
+        {8, 4, 2, {4, 8, 16, 0}, 100},
+        {12, 8, 3, {28, 32, 39, 58}, 1900},
+        {12, 4, 1, {4, 12, 0, 0}, 3071},
     };
     size_t k;
 

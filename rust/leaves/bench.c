@@ -177,8 +177,8 @@ int main(void)
     MEASURE("the same, L = 1", SAMPLES, 10, sink += leaf_remainders(SHEET, 1, 10, word, sizeof word, row, 13));
     printf("| L = 1 to L = 64 | | %.1f times |\n", last / wide_time);
     MEASURE("plain: the remainder, a bit at a time", SAMPLES, 1, plain_remainder(gw, w, word, r));
-    MEASURE("116 syndromes of a nested word, everything afresh", SAMPLES, 1, sink += gii_nested_syndromes(SHEET, page, sizeof page, 0, list, sizeof list));
-    MEASURE("56 syndromes of a sub-word, everything afresh", SAMPLES, 1, sink += gii_syndromes(SHEET, page, sizeof page, 0, list, GII_LIST_BYTES(28)));
+    MEASURE("116 syndromes of a nested word, everything afresh", SAMPLES, 1, sink += gii_nested_syndromes(SHEET, 0, page, sizeof page, 0, list, sizeof list));
+    MEASURE("56 syndromes of a sub-word, everything afresh", SAMPLES, 1, sink += gii_syndromes(SHEET, 0, page, sizeof page, 0, list, GII_LIST_BYTES(28)));
     MEASURE("plain: 116 syndromes, a bit at a time", 11, 1, plain_syndromes(116, word));
     return 0;
 }

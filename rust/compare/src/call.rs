@@ -137,7 +137,7 @@ impl Call {
 
 /// The reference's parameters as the archive's.
 pub fn sheet(p: &Parameters) -> Sheet {
-    Sheet::new(p.q, p.m, p.v, p.t)
+    Sheet::new(p.q, p.m, p.v, p.t).shortened(p.s)
 }
 
 /// The length and the bytes, or the first of them.

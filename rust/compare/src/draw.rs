@@ -3,7 +3,7 @@
 use crate::call::{Call, NAMES, Name};
 use reference::Parameters;
 use reference::calls::{BLANK, QUOTE_BYTES};
-use reference::layout::{bit, set};
+use reference::layout::{bit, flip, set};
 use reference::parameters::Sheet;
 use reference::sample::Random;
 use std::io::Write;
@@ -12,6 +12,21 @@ use std::iter::repeat_with;
 /// The seed: GII_SEED, or 1.
 pub fn seed() -> u64 {
     std::env::var("GII_SEED").map_or(1, |text| text.parse().expect("GII_SEED is a number"))
+}
+
+/// How much is gone through, in hundredths: GII_CASES, or 100.
+fn hundredths() -> usize {
+    std::env::var("GII_CASES").map_or(100, |text| text.parse().expect("GII_CASES is a number"))
+}
+
+/// How many cases are drawn, by the hundredths; never fewer than 32, so that two widths each make all 64.
+pub fn count(full: usize) -> usize {
+    (full * hundredths() / 100).max(32)
+}
+
+/// Of a list that is gone through, one case in so many is taken, by the hundredths; never fewer than one in eight.
+pub fn one_in() -> usize {
+    (100 / hundredths().max(1)).clamp(1, 8)
 }
 
 /// A line for the reader, past the capture of the test harness.
@@ -35,14 +50,13 @@ pub fn page(random: &mut Random, p: &Parameters) -> Vec<u8> {
     let mut page = match random.from_to(0, 9) {
         0 => vec![0; sheet.page_bytes()],
         1 => sheet.erased(0),
-        2 => random.bytes(sheet.page_bytes()),
+        2 => random.bytes(sheet.page_bytes()).iter().zip(sheet.erased(0)).map(|(byte, ones)| byte & ones).collect(),
         _ => {
             let mut page = vec![0; sheet.page_bytes()];
             sheet.put_page(&sheet.encode(&sheet.words_of_blocks(&random.blocks(&sheet))), &mut page);
             page
         }
     };
-    page.chunks_mut(sheet.sub_word_bytes()).for_each(|bytes| *bytes.last_mut().unwrap() &= 0x7F);
     match random.from_to(0, 5) {
         0 => flip(&mut page, random.place(&sheet)),
         1 => (0..random.from_to(2, 70)).for_each(|_| flip(&mut page, random.place(&sheet))),
@@ -52,31 +66,29 @@ pub fn page(random: &mut Random, p: &Parameters) -> Vec<u8> {
     page
 }
 
-pub fn flip(page: &mut [u8], place: usize) {
-    page[place / 8] ^= 1 << (place % 8);
-}
-
 /// Adds multiples of g_0 to the first sub-words, so that all sub-words stay right. With one of them nested word 0 changes,
-/// with h and h only nested word 1 and above, with x h, (1 + x) h and h only nested word 2.
+/// with h and h only nested word 1 and above, with x h, (1 + x) h and h only nested word 2. A full sub-word is turned round,
+/// a shortened one keeps its top coefficients 0.
 pub fn break_nested(random: &mut Random, sheet: &Sheet, page: &mut [u8]) {
     let n = sheet.field.n;
     let g = &sheet.levels[0].generator;
-    let at = random.from_to(0, n - 1);
-    let mut add = |i: usize, shift: usize| {
-        (0..g.len()).filter(|&k| g[k]).for_each(|k| flip(page, i * (n + 1) + (at + shift + k) % n));
-    };
-    let factors: &[(usize, usize)] = match random.from_to(0, sheet.v.min(2)) {
+    // How far up h can be moved; x h may not have room.
+    let room = if sheet.s == 0 { n } else { sheet.stored() - g.len() };
+    let factors: &[(usize, usize)] = match random.from_to(0, sheet.v.min(if room > 0 { 2 } else { 1 })) {
         0 => &[(0, 0)],
         1 => &[(0, 0), (1, 0)],
         _ => &[(0, 1), (1, 0), (1, 1), (2, 0)],
     };
-    factors.iter().for_each(|&(i, shift)| add(i, shift));
+    let at = random.from_to(0, room - factors[0].1);
+    for (i, shift) in factors {
+        (0..g.len()).filter(|&k| g[k]).for_each(|k| flip(page, sheet.place(*i, (at + shift + k) % n)));
+    }
 }
 
-/// Blocks that fit and are not all ones, which write refuses.
+/// Blocks that fit and, where s is 0, are not all ones, which write refuses.
 fn writable(random: &mut Random, sheet: &Sheet) -> Vec<u8> {
     let ones = sheet.ones();
-    repeat_with(|| random.blocks(sheet)).find(|blocks| *blocks != ones).unwrap()
+    repeat_with(|| random.blocks(sheet)).find(|blocks| sheet.s > 0 || *blocks != ones).unwrap()
 }
 
 /// A call that is not refused.
@@ -102,12 +114,12 @@ pub fn exact(random: &mut Random, name: Name, p: &Parameters) -> Call {
 /// The conditions that a call can meet, in the order in which they are tested. That a page is blank is no refusal.
 pub fn conditions(name: Name) -> &'static [u32] {
     match name {
-        Name::Write => &[1, 2, 3, 4, 5, 6, 7, 8, 13],
-        Name::ReadOut => &[1, 2, 3, 4, 6, 7, BLANK, 8],
-        Name::Judge => &[1, 2, 3, 4, 7, BLANK, 8],
-        Name::Syndromes | Name::NestedSyndromes => &[1, 2, 3, 4, 7, 8, 9, 10],
-        Name::Quote => &[1, 2, 3, 4, 10],
-        Name::PageBytes | Name::DataBytes | Name::Distance => &[1, 2, 3, 4],
+        Name::Write => &[1, 2, 3, 4, 14, 5, 6, 7, 8, 13],
+        Name::ReadOut => &[1, 2, 3, 4, 14, 6, 7, BLANK, 8],
+        Name::Judge => &[1, 2, 3, 4, 14, 7, BLANK, 8],
+        Name::Syndromes | Name::NestedSyndromes => &[1, 2, 3, 4, 14, 7, 8, 9, 10],
+        Name::Quote => &[1, 2, 3, 4, 14, 10],
+        Name::PageBytes | Name::DataBytes | Name::Distance => &[1, 2, 3, 4, 14],
     }
 }
 
@@ -169,14 +181,36 @@ pub fn spoil(random: &mut Random, call: &mut Call, condition: u32) -> bool {
             call.number = any_of(random, &[end, end + 1, end.max(8), 255, 256, 1 << 31, GREATEST]);
         }
         10 => cut(random, &mut call.lent),
-        13 => call.read = sheet.unwrap().ones(),
+        13 => {
+            let sheet = sheet.unwrap();
+            if sheet.s > 0 {
+                return false;
+            }
+            call.read = sheet.ones();
+        }
+        14 => p.s = too_short(random, p),
         BLANK => {
-            let spare = random.from_to(0, 255);
+            let spare = random.number();
             call.read.iter_mut().zip(sheet.unwrap().erased(spare)).for_each(|(byte, ones)| *byte |= ones);
         }
         _ => panic!("no condition {condition}"),
     }
     true
+}
+
+/// An s that is above the greatest: by one, by some, around n, by 2^8, 2^16 or 2^31 above an s that is accepted, any.
+fn too_short(random: &mut Random, p: &Parameters) -> u32 {
+    let (most, n) = (p.most(), (1 << p.q) - 1);
+    let accepted = random.from_to(0, most as usize) as u32;
+    let s = match random.from_to(0, 5) {
+        0 => most + 1,
+        1 => most + random.from_to(1, 300) as u32,
+        2 => any_of(random, &[n - 1, n, n + 1, 2 * n]),
+        3 => accepted + any_of(random, &[1 << 8, 1 << 12, 1 << 16, 1 << 31]),
+        4 => any_of(random, &[1 << 8, 1 << 16, (1 << 16) - 1, 1 << 31, GREATEST - most, GREATEST - 1, GREATEST]),
+        _ => (random.number() >> 32) as u32,
+    };
+    s.max(most + 1)
 }
 
 fn any_of(random: &mut Random, numbers: &[u32]) -> u32 {
@@ -204,7 +238,7 @@ fn stray_places(sheet: &Sheet, name: Name) -> Vec<usize> {
             let used = sheet.ones();
             (0..8 * used.len()).filter(|&place| !bit(&used, place)).collect()
         }
-        _ => (1..=sheet.m).map(|i| i * (sheet.field.n + 1) - 1).collect(),
+        _ => sheet.spare_places().collect(),
     }
 }
 
@@ -217,7 +251,10 @@ pub fn any(random: &mut Random) -> Call {
     let q = [4, 4, 4, 4, 4, 4, 4, 8, 8, 12][random.from_to(0, 9)];
     // One in five of q = 12 is kept: they take longest.
     let q = if q == 12 && !random.once_in(5) { 4 } else { q };
-    let p = random.parameters(q);
+    let mut p = random.parameters(q);
+    if random.once_in(2) {
+        p = random.shortened(&p);
+    }
     let mut call = exact(random, name, &p);
     if random.once_in(2) {
         for &condition in conditions(name).iter().rev() {
@@ -228,12 +265,13 @@ pub fn any(random: &mut Random) -> Call {
     }
     if random.once_in(4) {
         let number = wild_number(random);
-        match random.from_to(0, 7) {
+        match random.from_to(0, 8) {
             0 => call.p.q = number,
             1 => call.p.m = number,
             2 => call.p.v = number,
             3 => call.number = number,
-            place => call.p.t[place - 4] = number,
+            4 => call.p.s = number,
+            place => call.p.t[place - 5] = number,
         }
     }
     call
@@ -253,7 +291,8 @@ fn wild_number(random: &mut Random) -> u32 {
 
 fn wild(random: &mut Random, name: Name) -> Call {
     let mut number = || wild_number(random);
-    let p = Parameters { q: number(), m: number(), v: number(), t: [number(), number(), number(), number()] };
+    let t = [number(), number(), number(), number()];
+    let p = Parameters { q: number(), m: number(), v: number(), t, s: number() };
     let number = number();
     let length = |random: &mut Random| match random.from_to(0, 3) {
         0 => 0,

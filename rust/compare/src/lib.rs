@@ -1,4 +1,6 @@
-//! The archive, through the crate gii-bch, and the reference: calls made to both, and calls drawn from a seed.
+//! The archive, through the crate gii-bch, and the reference: calls made to both, calls drawn from a seed, and the time that
+//! shortened sub-words save.
 
 pub mod call;
 pub mod draw;
+pub mod work;

@@ -1,12 +1,15 @@
-//! Accepted parameters: every call on members, damaged pages and blank pages, archive and reference alike.
+//! Accepted parameters: every call on members, damaged pages and blank pages, archive and reference alike, with full
+//! sub-words and with shortened ones.
 
 use compare::call::{Call, NAMES, Name};
-use compare::draw::{break_nested, exact, flip, list_bytes, say, seed};
+use compare::draw::{break_nested, count, exact, list_bytes, one_in, say, seed};
 use reference::Parameters;
 use reference::calls::BLANK;
+use reference::layout::flip;
 use reference::parameters::Sheet;
-use reference::sample::{Random, all_parameters};
+use reference::sample::{Random, all_parameters, all_shortened};
 use std::collections::BTreeSet;
+use std::ops::RangeInclusive;
 
 /// What a test went through.
 struct Run {
@@ -15,12 +18,20 @@ struct Run {
     calls: usize,
     widths: BTreeSet<u32>,
     verdicts: BTreeSet<u32>,
+    /// How many spare bits a sub-word had.
+    spare_bits: BTreeSet<usize>,
 }
 
 impl Run {
     fn new(offset: u64) -> Run {
-        let random = Random::new(seed() + offset);
-        Run { random, sheets: 0, calls: 0, widths: BTreeSet::new(), verdicts: BTreeSet::new() }
+        Run {
+            random: Random::new(seed() + offset),
+            sheets: 0,
+            calls: 0,
+            widths: BTreeSet::new(),
+            verdicts: BTreeSet::new(),
+            spare_bits: BTreeSet::new(),
+        }
     }
 
     /// The number and the lent bytes of a call, on which both sides agree.
@@ -44,10 +55,12 @@ impl Run {
         assert_eq!(lent, call.lent, "{:?} of {:?}", call.name, call.p);
     }
 
-    /// Write at some widths, then judge, read out and syndromes of the page and of pages damaged in many ways.
+    /// Write at some widths, then judge, read out and syndromes of the page and of pages damaged in many ways. Where no
+    /// greater s is accepted, the next one is refused.
     fn sheet(&mut self, p: &Parameters, widths: &[u32], pages: usize) {
-        self.sheets += 1;
         let sheet = Sheet::of(p);
+        self.sheets += 1;
+        self.spare_bits.insert(sheet.spare_bits());
         let mut call = exact(&mut self.random, Name::Write, p);
         let mut page = Vec::new();
         for &width in widths {
@@ -58,10 +71,9 @@ impl Run {
         }
         self.page(p, page.clone());
 
-        let bits = 8 * sheet.sub_word_bytes();
         for i in 0..sheet.m {
             let mut damaged = page.clone();
-            flip(&mut damaged, i * bits + self.random.from_to(0, bits - 2));
+            flip(&mut damaged, sheet.place(i, self.random.from_to(0, sheet.stored() - 1)));
             self.page(p, damaged);
         }
         for _ in 0..3 {
@@ -69,10 +81,10 @@ impl Run {
             break_nested(&mut self.random, &sheet, &mut damaged);
             self.page(p, damaged);
         }
-        let spare = self.random.from_to(0, 255);
+        let spare = self.random.number();
         self.blank_page(p, &sheet.erased(spare));
-        (call.number, call.read) = (self.random.from_to(1, 64) as u32, sheet.ones());
-        self.refused(&call, 13);
+        let width = self.random.from_to(1, 64) as u32;
+        self.ones_written(p, width);
         for _ in 0..pages {
             let drawn = compare::draw::page(&mut self.random, p);
             self.page(p, drawn);
@@ -80,6 +92,9 @@ impl Run {
         for name in NAMES {
             let drawn = exact(&mut self.random, name, p);
             self.compare(&drawn);
+            if p.s == p.most() {
+                self.refused(&Call { p: p.shortened(p.s + 1), ..drawn }, name.refused_by(14));
+            }
         }
     }
 
@@ -120,38 +135,74 @@ impl Run {
         self.verdicts.insert(BLANK);
     }
 
-    /// Blank pages with every set of spare bits, and pages with one coefficient 0; at some widths blocks of ones, and blocks
+    /// The blocks of ones: refused by 13 where s is 0; else written, a member that is not blank and gives them back.
+    fn ones_written(&mut self, p: &Parameters, width: u32) {
+        let mut write = exact(&mut self.random, Name::Write, p);
+        (write.number, write.read) = (width, Sheet::of(p).ones());
+        if p.s == 0 {
+            return self.refused(&write, 13);
+        }
+        let page = self.compare(&write).1;
+        let read_out = self.on_page(Name::ReadOut, p, &page, 0);
+        assert_eq!(self.compare(&read_out), (0, write.read), "{p:?}");
+    }
+
+    /// Sets of spare bits: every one, where there are few bits; else every set of one sub-word's, with the others' drawn, and
+    /// every one that all sub-words have alike. At q = 12, where pages take longest, of the first and the last sub-word alone.
+    fn spare_sets(&mut self, sheet: &Sheet) -> Vec<u64> {
+        let (m, bits) = (sheet.m, sheet.spare_bits());
+        if m * bits <= 8 {
+            return (0..1 << (m * bits)).collect();
+        }
+        let sets = 0..1 << bits;
+        let all = sets.clone().map(|set| (0..m).fold(0, |spare, _| spare << bits | set));
+        let one_in = if sheet.field.q == 12 { m - 1 } else { 1 };
+        let of_one = (0..m).step_by(one_in).flat_map(|i| sets.clone().map(move |set| (i * bits, set)));
+        let clear = !((1 << bits) - 1u64);
+        let with_others = of_one.map(|(low, set)| self.random.number() & clear.rotate_left(low as u32) | set << low);
+        all.chain(with_others).collect()
+    }
+
+    /// Blank pages with many sets of spare bits, and pages with one coefficient 0; at some widths blocks of ones, and blocks
     /// with one data bit 0.
     fn blank(&mut self, p: &Parameters, widths: &[u32]) {
         let sheet = Sheet::of(p);
-        let (m, n, every) = (sheet.m, sheet.field.n, (1 << sheet.m) - 1);
-        for spare in 0..=every {
+        let (m, stored, spares) = (sheet.m, sheet.stored(), sheet.spare_places().count());
+        for spare in self.spare_sets(&sheet) {
             self.blank_page(p, &sheet.erased(spare));
         }
+        // None, one, all: fewer where there are no spare bits.
+        let one = if spares == 0 { 0 } else { 1 << self.random.from_to(0, spares - 1) };
+        let sets = BTreeSet::from([0, one, (1 << spares) - 1]);
         // The syndromes' calls know no blank page.
-        for spare in [0, 1 << self.random.from_to(0, m - 1), every] {
+        for &spare in &sets {
             let indices = (0..p.m).map(|i| (Name::Syndromes, i)).chain((0..p.v).map(|l| (Name::NestedSyndromes, l)));
             for (name, index) in indices {
                 let call = self.on_page(name, p, &sheet.erased(spare), index);
-                if spare == 0 {
+                if spare != 0 {
+                    self.refused(&call, 8);
+                } else if p.s == 0 {
                     assert_eq!(self.compare(&call).1, vec![0; call.lent.len()], "{p:?}");
                 } else {
-                    self.refused(&call, 8);
+                    self.compare(&call);
                 }
             }
         }
         for i in 0..m {
-            for k in [0, n - 1, self.random.from_to(0, n - 1)] {
-                for spare in [0, self.random.from_to(1, every)] {
+            for k in [0, stored - 1, self.random.from_to(0, stored - 1)] {
+                for &spare in &sets {
                     let mut page = sheet.erased(spare);
-                    flip(&mut page, i * (n + 1) + k);
+                    flip(&mut page, sheet.place(i, k));
                     for name in [Name::Judge, Name::ReadOut] {
                         let call = self.on_page(name, p, &page, 0);
-                        if spare == 0 {
-                            assert_eq!(self.compare(&call).0, 32 + i as u32, "{p:?}");
-                        } else {
+                        if spare != 0 {
                             self.refused(&call, 8);
+                            continue;
                         }
+                        // Where s is above 0 the sub-words of ones fail too.
+                        let number = self.compare(&call).0;
+                        let expected = if p.s == 0 { 32 + i as u32..=32 + i as u32 } else { 32..=33 };
+                        assert!(expected.contains(&number), "{p:?}: {number}");
                     }
                 }
             }
@@ -159,8 +210,8 @@ impl Run {
 
         let mut write = exact(&mut self.random, Name::Write, p);
         for &width in widths {
+            self.ones_written(p, width);
             (write.number, write.read) = (width, sheet.ones());
-            self.refused(&write, 13);
             let i = self.random.from_to(0, m - 1);
             flip(&mut write.read, sheet.block_start(i) + self.random.from_to(0, sheet.block_bits(i) - 1));
             self.compare(&write);
@@ -176,82 +227,137 @@ impl Run {
         }
     }
 
+    /// Drawn sheets, with so many widths and pages of each; one in `blank_in` with blank pages.
+    fn drawn(&mut self, draw: impl Fn(&mut Random) -> Parameters, sheets: usize, widths: usize, blank_in: usize) {
+        for k in 0..sheets {
+            let p = draw(&mut self.random);
+            self.sheet(&p, &Run::widths_of(k, widths), widths);
+            if k % blank_in == 0 {
+                self.blank(&p, &Run::widths_of(k / blank_in, widths));
+            }
+        }
+    }
+
     /// The widths of the k-th sheet: the least, the greatest, and `count` that take turns, so that every width has its.
     fn widths_of(k: usize, count: usize) -> Vec<u32> {
         (0..count).map(|c| 1 + ((k * count + c) % 64) as u32).chain([1, 64]).collect()
     }
 
-    /// Says what was gone through, and asks that every width and every verdict of `verdicts` occurred.
-    fn end(self, title: &str, verdicts: &[u32]) {
-        let Run { sheets, calls, widths, verdicts: met, .. } = self;
-        let line = format!("{title}: {sheets} sheets, {calls} calls, verdicts {met:?}, seed {}", seed());
+    /// Says what was gone through, and asks that every width and every verdict of `verdicts` occurred, and sub-words with
+    /// these numbers of spare bits.
+    fn end(self, title: &str, verdicts: &[u32], spare_bits: RangeInclusive<usize>) {
+        let Run { sheets, calls, widths, verdicts: met, spare_bits: spare, .. } = self;
+        let line =
+            format!("{title}: {sheets} sheets, {calls} calls, verdicts {met:?}, spare bits {spare:?}, seed {}", seed());
         say(&line);
         assert_eq!(widths.len(), 64);
         assert!(verdicts.iter().all(|verdict| met.contains(verdict)), "{line}");
+        assert!(spare.into_iter().eq(spare_bits), "{line}");
     }
 }
 
-/// How many sheets are drawn; GII_CASES sets another number, in hundredths.
-fn count(full: usize) -> usize {
-    let hundredths = std::env::var("GII_CASES").map_or(100, |text| text.parse().expect("GII_CASES is a number"));
-    (full * hundredths / 100).max(32)
+/// The verdicts of sheets with eight sub-words and three nested words; those of q = 4 have five sub-words at most.
+const VERDICTS: [u32; 13] = [0, 32, 33, 34, 35, 36, 64, 65, 66, BLANK, 37, 38, 39];
+
+/// Sheets of q = 8 and 12 that are gone through in any case: the greatest strengths, by the number of sub-words; equal
+/// generators at levels 0 and 1; the sheet of the requirement.
+const SHEETS_OF_Q_8: [Parameters; 7] = [
+    Parameters::full(8, 2, 1, [63, 64, 0, 0]),
+    Parameters::full(8, 3, 2, [62, 63, 64, 0]),
+    Parameters::full(8, 4, 3, [1, 42, 42, 42]),
+    Parameters::full(8, 5, 3, [39, 40, 41, 42]),
+    Parameters::full(8, 8, 3, [22, 23, 24, 25]),
+    Parameters::full(8, 8, 3, [1, 2, 2, 2]),
+    Parameters::full(8, 8, 1, [16, 17, 0, 0]),
+];
+const SHEETS_OF_Q_12: [Parameters; 4] = [
+    Parameters::full(12, 8, 3, [28, 32, 39, 58]),
+    Parameters::full(12, 8, 3, [61, 62, 63, 64]),
+    Parameters::full(12, 2, 1, [63, 64, 0, 0]),
+    Parameters::full(12, 8, 3, [1, 2, 2, 2]),
+];
+
+/// A sheet shortened by half of the greatest s and by the greatest.
+fn halved_and_least(p: &Parameters) -> [Parameters; 2] {
+    [p.shortened(p.most().div_ceil(2)), p.shortened(p.most())]
 }
 
 #[test]
 fn every_sheet_of_q_4() {
     let mut run = Run::new(4);
-    let all = all_parameters(4, 8);
-    assert_eq!(all.len(), 104);
     let widths: Vec<u32> = (1..=64).collect();
-    for p in &all {
-        run.sheet(p, &widths, 40);
-        run.blank(p, &widths);
+    for p in all_parameters(4, 8) {
+        run.sheet(&p, &widths, 40);
+        run.blank(&p, &widths);
     }
-    run.end("q = 4", &[0, 32, 33, 34, 35, 36, 64, 65, 66, BLANK]);
+    assert_eq!(run.sheets, 104);
+    run.end("q = 4", &VERDICTS[..10], 1..=1);
+}
+
+#[test]
+fn every_shortened_sheet_of_q_4() {
+    let mut run = Run::new(5);
+    let widths: Vec<u32> = (1..=64).collect();
+    for p in all_parameters(4, 8).iter().flat_map(all_shortened).filter(|p| p.s > 0) {
+        run.sheet(&p, &widths, 40);
+        run.blank(&p, &widths);
+    }
+    assert_eq!(run.sheets, 82);
+    // Nine to fourteen coefficients are stored.
+    run.end("q = 4, shortened", &VERDICTS[..10], 2..=7);
 }
 
 #[test]
 fn sheets_of_q_8() {
     let mut run = Run::new(8);
-    // The greatest strengths, by the number of sub-words; equal generators at levels 0 and 1.
-    for (m, v, t) in [
-        (2, 1, [63, 64, 0, 0]),
-        (3, 2, [62, 63, 64, 0]),
-        (4, 3, [1, 42, 42, 42]),
-        (5, 3, [39, 40, 41, 42]),
-        (8, 3, [22, 23, 24, 25]),
-        (8, 3, [1, 2, 2, 2]),
-        (8, 1, [16, 17, 0, 0]),
-    ] {
-        let p = Parameters { q: 8, m, v, t };
+    for p in SHEETS_OF_Q_8 {
         run.sheet(&p, &[1, 8, 63, 64], 4);
         run.blank(&p, &[1, 8, 63, 64]);
     }
-    for k in 0..count(3000) {
-        let p = run.random.parameters(8);
-        run.sheet(&p, &Run::widths_of(k, 4), 4);
-        if k % 150 == 0 {
-            run.blank(&p, &Run::widths_of(k / 150, 4));
-        }
+    run.drawn(|random| random.parameters(8), count(3000), 4, 150);
+    run.end("q = 8", &VERDICTS, 1..=1);
+}
+
+#[test]
+fn shortened_sheets_of_q_8() {
+    let mut run = Run::new(9);
+    for p in SHEETS_OF_Q_8.iter().flat_map(halved_and_least).filter(|p| p.s > 0) {
+        run.sheet(&p, &[1, 8, 63, 64], 4);
+        run.blank(&p, &[1, 8, 63, 64]);
     }
-    run.end("q = 8", &[0, 32, 33, 34, 35, 36, 37, 38, 39, 64, 65, 66, BLANK]);
+    // Every s.
+    let p = Parameters::full(8, 3, 2, [2, 3, 5, 0]);
+    for (k, p) in all_shortened(&p).skip(1).step_by(one_in()).enumerate() {
+        run.sheet(&p, &Run::widths_of(k, 2), 2);
+    }
+    run.drawn(|random| random.shortened_parameters(8), count(3000), 4, 150);
+    run.end("q = 8, shortened", &VERDICTS, 0..=7);
 }
 
 #[test]
 fn sheets_of_q_12() {
     let mut run = Run::new(12);
-    for (m, v, t) in [(8, 3, [28, 32, 39, 58]), (8, 3, [61, 62, 63, 64]), (2, 1, [63, 64, 0, 0]), (8, 3, [1, 2, 2, 2])]
-    {
-        let p = Parameters { q: 12, m, v, t };
+    for p in SHEETS_OF_Q_12 {
         run.sheet(&p, &[1, 7, 8, 32, 63, 64], 4);
         run.blank(&p, &[1, 7, 8, 32, 63, 64]);
     }
-    for k in 0..count(1500) {
-        let p = run.random.parameters(12);
-        run.sheet(&p, &Run::widths_of(k, 2), 2);
-        if k % 300 == 0 {
-            run.blank(&p, &Run::widths_of(k / 300, 2));
-        }
+    run.drawn(|random| random.parameters(12), count(1500), 2, 300);
+    run.end("q = 12", &VERDICTS, 1..=1);
+}
+
+#[test]
+fn shortened_sheets_of_q_12() {
+    let mut run = Run::new(13);
+    for p in SHEETS_OF_Q_12.iter().flat_map(halved_and_least) {
+        run.sheet(&p, &[1, 7, 8, 32, 63, 64], 4);
+        run.blank(&p, &[1, 7, 8, 32, 63, 64]);
     }
-    run.end("q = 12", &[0, 32, 33, 34, 35, 36, 37, 38, 39, 64, 65, 66, BLANK]);
+    // Every s near the greatest, and one in many below.
+    let p = Parameters::full(12, 2, 1, [1, 2, 0, 0]);
+    let some = all_shortened(&p).skip(1).filter(|p| p.s % 97 == 0 || p.s + 80 > p.most());
+    for (k, p) in some.step_by(one_in()).enumerate() {
+        run.sheet(&p, &Run::widths_of(k, 1), 1);
+    }
+    run.drawn(|random| random.shortened_parameters(12), count(1000), 2, 200);
+    run.end("q = 12, shortened", &VERDICTS, 0..=7);
 }

@@ -1,13 +1,16 @@
 //! Refusals: every set of conditions that a call can meet gives the number of the first, no size is given, and every byte
-//! stays. A blank page, which is no refusal, has its place among them.
+//! stays. A blank page, which is no refusal, has its place among them. Full sub-words and shortened ones.
 
 use compare::call::{Call, NAMES, Name};
-use compare::draw::{conditions, exact, say, seed, spoil};
+use compare::draw::{conditions, exact, one_in, say, seed, spoil};
 use reference::Parameters;
 use reference::calls::{BLANK, QUOTE_BYTES};
 use reference::parameters::Sheet;
-use reference::sample::{Random, all_parameters};
+use reference::sample::{Random, all_parameters, all_shortened};
 use std::collections::BTreeSet;
+
+/// A small sheet.
+const A: Parameters = Parameters::full(4, 2, 1, [1, 2, 0, 0]);
 
 /// Every set of conditions, met by each call, on the given parameters.
 fn refuse(random: &mut Random, p: &Parameters, met: &mut BTreeSet<(Name, u32)>) -> usize {
@@ -37,22 +40,22 @@ fn refuse(random: &mut Random, p: &Parameters, met: &mut BTreeSet<(Name, u32)>) 
 }
 
 #[test]
-fn least_number_and_untouched_bytes() {
+fn first_number_and_untouched_bytes() {
     let mut random = Random::new(seed());
     let mut met = BTreeSet::new();
     let mut calls = 0;
-    for p in all_parameters(4, 8) {
-        calls += refuse(&mut random, &p, &mut met);
+    let mut sheets: Vec<Parameters> = all_parameters(4, 8).iter().flat_map(all_shortened).collect();
+    for (q, pairs) in [(8, 15), (12, 1)] {
+        for _ in 0..pairs {
+            let p = random.parameters(q);
+            sheets.extend([p, random.shortened(&p)]);
+        }
     }
-    for _ in 0..30 {
-        let p = random.parameters(8);
-        calls += refuse(&mut random, &p, &mut met);
+    let sheets: Vec<Parameters> = sheets.into_iter().step_by(one_in()).collect();
+    for p in &sheets {
+        calls += refuse(&mut random, p, &mut met);
     }
-    for _ in 0..3 {
-        let p = random.parameters(12);
-        calls += refuse(&mut random, &p, &mut met);
-    }
-    say(&format!("refusals: {calls} calls, seed {}", seed()));
+    say(&format!("refusals: {} sheets, {calls} calls, seed {}", sheets.len(), seed()));
     for name in NAMES {
         for &condition in conditions(name) {
             assert!(met.contains(&(name, condition)), "{name:?} never gave {condition}");
@@ -68,7 +71,7 @@ fn every_parameter_over_a_range() {
     let mut compare = |random: &mut Random, p: Parameters| {
         for name in NAMES {
             // Buffers that fit the parameters where these are accepted, and those of sheet A where not.
-            let exact_for = if p.accepted() { p } else { Parameters { q: 4, m: 2, v: 1, t: [1, 2, 0, 0] } };
+            let exact_for = if p.accepted() { p } else { A };
             let call = Call { p, ..exact(random, name, &exact_for) };
             calls += 1;
             if let Err(found) = call.compare(0) {
@@ -76,12 +79,12 @@ fn every_parameter_over_a_range() {
             }
         }
     };
-    let wide =
-        (0..=140).chain([254, 255, 256, 257, 260, 264, 268, 4094, 4095, 1 << 16, 1 << 31, u32::MAX - 1, u32::MAX]);
+    let small = (0..=140).step_by(one_in());
+    let wide = small.chain([254, 255, 256, 257, 260, 264, 268, 4094, 4095, 1 << 16, 1 << 31, u32::MAX - 1, u32::MAX]);
     for base in [
-        Parameters { q: 4, m: 3, v: 2, t: [1, 2, 3, 0] },
-        Parameters { q: 8, m: 4, v: 3, t: [4, 8, 16, 42] },
-        Parameters { q: 12, m: 4, v: 1, t: [1, 2, 0, 0] },
+        Parameters::full(4, 3, 2, [1, 2, 3, 0]),
+        Parameters::full(8, 4, 3, [4, 8, 16, 42]),
+        Parameters::full(12, 4, 1, [1, 2, 0, 0]),
     ] {
         for number in wide.clone() {
             compare(&mut random, Parameters { q: number, ..base });
@@ -92,13 +95,22 @@ fn every_parameter_over_a_range() {
                 t[place] = number;
                 compare(&mut random, Parameters { t, ..base });
             }
+            compare(&mut random, base.shortened(number));
+        }
+        // Round the greatest s and n, at the end of the numbers, and s that would pass modulo a power of 2.
+        let (most, n) = (base.most(), (1 << base.q) - 1);
+        let near =
+            (most.saturating_sub(9)..=most + 9).chain(n - 2..=n + 2).chain(u32::MAX - most - 1..=u32::MAX - most + 1);
+        let modulo = [8, 12, 15, 16, 24, 31].into_iter().flat_map(|power| [0, 1, most].map(|s| s + (1 << power)));
+        for s in near.chain(modulo) {
+            compare(&mut random, base.shortened(s));
         }
     }
     // Every shape and every pair of strengths of q = 4, accepted or not.
     for m in 0..=9 {
         for t0 in 0..=9 {
             for t1 in 0..=9 {
-                compare(&mut random, Parameters { q: 4, m, v: 1, t: [t0, t1, 0, 0] });
+                compare(&mut random, Parameters::full(4, m, 1, [t0, t1, 0, 0]));
             }
         }
     }
@@ -108,11 +120,12 @@ fn every_parameter_over_a_range() {
 #[test]
 fn every_length_near_the_exact_one() {
     let mut random = Random::new(seed() + 2);
-    for q in [4, 8, 12] {
-        let p = random.parameters(q);
+    let full = [4, 8, 12].map(|q| random.parameters(q));
+    let shortened = [A, full[1], full[2]].map(|p| random.shortened(&p));
+    for p in full.into_iter().chain(shortened) {
         for name in NAMES.into_iter().filter(|name| name.reads()) {
             let call = exact(&mut random, name, &p);
-            for read in (0..call.read.len() + 40).filter(|&length| q == 4 || length + 40 > call.read.len()) {
+            for read in (0..call.read.len() + 40).filter(|&length| p.q == 4 || length + 40 > call.read.len()) {
                 for lent in [0, call.lent.len().saturating_sub(1), call.lent.len(), call.lent.len() + 1] {
                     let mut call = call.clone();
                     call.read.resize(read, 0);
@@ -126,17 +139,71 @@ fn every_length_near_the_exact_one() {
     }
 }
 
+/// Buffers that fit the same sheet at another s are refused where they differ: the blocks by 6, then the page by 7.
+#[test]
+fn lengths_of_another_shortening() {
+    let mut random = Random::new(seed() + 4);
+    let mut met = BTreeSet::new();
+    let mut sheets = vec![A; 30];
+    for (q, drawn) in [(8, 60), (12, 10)] {
+        sheets.extend((0..drawn).map(|_| random.parameters(q)));
+    }
+    for full in sheets {
+        let p = random.shortened(&full);
+        for (p, of) in [(p, full), (full, p), (p, random.shortened(&full))] {
+            let (sheet, other) = (Sheet::of(&p), Sheet::of(&of));
+            let blocks_differ = sheet.blocks_bytes() != other.blocks_bytes();
+            let pages_differ = sheet.page_bytes() != other.page_bytes();
+            for name in NAMES.into_iter().filter(|name| name.reads()) {
+                let (right, wrong) = (exact(&mut random, name, &p), exact(&mut random, name, &of));
+                let has_blocks = matches!(name, Name::Write | Name::ReadOut);
+                for (blocks, page) in [(true, false), (false, true), (true, true)] {
+                    let number = match name {
+                        _ if blocks && blocks_differ && has_blocks => 6,
+                        _ if page && pages_differ => 7,
+                        _ => continue,
+                    };
+                    let (read, lent) = match name {
+                        Name::Write => (blocks, page),
+                        _ => (page, blocks && has_blocks),
+                    };
+                    let mut call = right.clone();
+                    if read {
+                        call.read = wrong.read.clone();
+                    }
+                    if lent {
+                        call.lent = wrong.lent.clone();
+                    }
+                    let found = call.compare(0).unwrap_or_else(|found| panic!("seed {}: {found}", seed()));
+                    assert_eq!(found, (number, call.lent), "{name:?} {p:?} with buffers of s = {}", of.s);
+                    met.insert((name, number));
+                }
+            }
+        }
+    }
+    let with_blocks = [Name::Write, Name::ReadOut].map(|name| (name, 6));
+    let with_page = NAMES.into_iter().filter(|name| name.reads()).map(|name| (name, 7));
+    assert_eq!(met, with_page.chain(with_blocks).collect());
+}
+
 /// Every length of the quote's list but one is refused by 10, and only where the parameters are not refused.
 #[test]
 fn every_length_of_a_quote() {
     let mut random = Random::new(seed() + 3);
-    let a = Parameters { q: 4, m: 2, v: 1, t: [1, 2, 0, 0] };
-    let clash = Parameters { q: 4, m: 4, v: 2, t: [1, 2, 3, 0] };
-    let refused =
-        [Parameters { q: 5, ..a }, Parameters { m: 1, ..a }, Parameters { t: [2, 2, 0, 0], ..a }, clash].into_iter();
-    assert!(refused.clone().map(|p| p.refusal()).eq(1..=4));
-    let drawn: Vec<Parameters> = [4, 8, 12].into_iter().map(|q| random.parameters(q)).collect();
-    for p in refused.chain([a]).chain(drawn) {
+    let clash = Parameters::full(4, 4, 2, [1, 2, 3, 0]);
+    let refused = [
+        Parameters { q: 5, ..A },
+        Parameters { m: 1, ..A },
+        Parameters { t: [2, 2, 0, 0], ..A },
+        clash,
+        clash.shortened(u32::MAX),
+        A.shortened(A.most() + 1),
+        A.shortened(u32::MAX),
+    ];
+    assert_eq!(refused.map(|p| p.refusal()), [1, 2, 3, 4, 4, 14, 14]);
+    let drawn = [4, 8, 12].map(|q| random.parameters(q));
+    let shortened = [A, drawn[1], drawn[2]].map(|p| random.shortened(&p));
+    for p in refused.into_iter().chain([A]).chain(drawn).chain(shortened) {
         // Small ones, and ones that are the exact length modulo 2^8 or 2^16.
         for length in (0..=4 * QUOTE_BYTES).chain([QUOTE_BYTES + (1 << 8), QUOTE_BYTES + (1 << 16)]) {
             let call = Call { name: Name::Quote, p, number: 0, read: Vec::new(), lent: random.bytes(length) };

@@ -1,9 +1,10 @@
 //! Sizes: what the crate gii-bch gives of a sheet by the archive's calls, beside the reference.
 
 use compare::call::sheet;
+use compare::draw::{count, one_in, seed};
 use gii_bch::{Refusal, Sheet as Made};
 use reference::parameters::{Parameters, Sheet};
-use reference::sample::{Random, all_parameters};
+use reference::sample::{Random, all_parameters, all_shortened};
 
 fn compare(p: &Parameters) {
     let (made, expected) = (sheet(p), Sheet::of(p));
@@ -38,20 +39,34 @@ fn refused(made: &Made, refusal: Refusal) {
     assert_eq!(made.nested_list_bytes(0), Err(refusal), "{made:?}");
 }
 
-/// All sheets of q = 4; at q = 8 and 12 all pairs of strengths, and drawn sheets of more levels. The header's greatest sizes
-/// are met, and none is above.
+/// A sheet at every s that is accepted, and the first and some others that are not.
+fn compare_shortened(p: &Parameters) {
+    all_shortened(p).step_by(one_in()).for_each(|p| compare(&p));
+    let (most, n) = (p.most(), (1 << p.q) - 1);
+    for s in [most + 1, most + 2, n, n + 1, most + (1 << 8).max(n), most + (1 << 16), u32::MAX - most, u32::MAX] {
+        refused(&sheet(&p.shortened(s)), Refusal::Shortening);
+    }
+}
+
+/// All sheets of q = 4; at q = 8 and 12 all pairs of strengths, and drawn sheets of more levels; every s of some of them. The
+/// header's greatest sizes are met, and none is above.
 #[test]
 fn sizes_of_sheets() {
-    all_parameters(4, 8).iter().for_each(compare);
-    let mut random = Random::new(compare::draw::seed());
+    all_parameters(4, 8).iter().for_each(compare_shortened);
+    let mut random = Random::new(seed());
     for q in [8, 12] {
-        (0..200).for_each(|_| compare(&random.parameters(q)));
+        (0..count(200)).for_each(|_| compare(&random.parameters(q)));
+        (0..6).for_each(|_| compare_shortened(&random.parameters(q)));
     }
     let (mut page, mut data, mut list) = (0, 0, 0);
+    // The least, the greatest and, but where lists are thinned out, all between.
+    let strengths = |least: u32, greatest: u32| {
+        (least..=greatest).filter(move |&t| t == least || (greatest - t) % one_in() as u32 == 0)
+    };
     for (q, m) in [(8, 2), (8, 8), (12, 2), (12, 8)] {
-        for t1 in 2..=64 {
-            for t0 in 1..t1 {
-                let p = Parameters { q, m, v: 1, t: [t0, t1, 0, 0] };
+        for t1 in strengths(2, 64) {
+            for t0 in strengths(1, t1 - 1) {
+                let p = Parameters::full(q, m, 1, [t0, t1, 0, 0]);
                 let made = sheet(&p);
                 match made.test() {
                     Ok(()) => compare(&p),

@@ -22,8 +22,22 @@
 //! # Ok::<(), gii_bch::Refusal>(())
 //! ```
 //!
-//! A page is *blank* when every coefficient of every sub-word is 1, whatever its spare bits are: so boards are delivered,
-//! erased, every byte FF. A blank page is no member, and none is ever written.
+//! A page is *blank* when every stored coefficient of every sub-word is 1, whatever its spare bits are: so boards are
+//! delivered, erased, every byte FF. A blank page is no member, and none is ever written.
+//!
+//! A sheet may be *shortened* by s, for chips with small pages: the top s coefficients of every sub-word are 0 and are not
+//! stored, and every block has s data bits less. Check bits, syndromes and the distance stay those of the full sheet.
+//!
+//! ```
+//! use gii_bch::{Sheet, Verdict};
+//!
+//! let sheet = Sheet::new(12, 4, 1, [4, 12, 0, 0]).shortened(3071);
+//! assert_eq!((sheet.page_bytes()?, sheet.data_bytes()?), (512, 476));
+//! let mut page = [0; 512];
+//! sheet.write(64, &[0x55; 476], &mut page)?;
+//! assert_eq!(sheet.judge(&page)?, Verdict::Member);
+//! # Ok::<(), gii_bch::Refusal>(())
+//! ```
 //!
 //! `build.rs` links the archive that the variable `GII_ARCHIVE` names (a path from `rust/`), or
 //! `target/staticlib/libgii_bch.a` of the repository, which `rt staticlib gii_bch` makes. It is for x86-64 and takes at
@@ -35,13 +49,13 @@
 use core::array::from_fn;
 use core::fmt;
 
-/// Declares C functions, whose first seven parameters are those of the sheet.
+/// Declares C functions, whose first eight parameters are those of the sheet.
 macro_rules! c_functions {
     ($(fn $name:ident($($parameter:ident: $kind:ty),*);)*) => {
         mod c {
             unsafe extern "C" {
                 $(pub fn $name(
-                    q: u32, m: u32, v: u32, t0: u32, t1: u32, t2: u32, t3: u32, $($parameter: $kind),*
+                    q: u32, m: u32, v: u32, t0: u32, t1: u32, t2: u32, t3: u32, s: u32, $($parameter: $kind),*
                 ) -> u32;)*
             }
         }
@@ -63,9 +77,9 @@ c_functions! {
 /// Calls a C function with the parameters of a sheet before the others, and gives its number.
 macro_rules! call {
     ($name:ident, $sheet:expr $(, $argument:expr)*) => {{
-        let &Sheet { q, m, v, t: [t0, t1, t2, t3] } = $sheet;
+        let &Sheet { q, m, v, t: [t0, t1, t2, t3], s } = $sheet;
         // Every pointer given below is a slice's, with its length.
-        unsafe { c::$name(q, m, v, t0, t1, t2, t3 $(, $argument)*) }
+        unsafe { c::$name(q, m, v, t0, t1, t2, t3, s $(, $argument)*) }
     }};
 }
 
@@ -81,6 +95,9 @@ pub struct Sheet {
     pub v: u32,
     /// The strengths: 1 ≤ t_0 < t_1 ≤ .. ≤ t_v ≤ 64 and 2 t_v ≤ n − 1; those past t_v are 0.
     pub t: [u32; 4],
+    /// The shortening: so many of the top coefficients of every sub-word are 0 and are not stored. 0 for full sub-words, at
+    /// most n − w_v − 1.
+    pub s: u32,
 }
 
 /// What a sheet comes to: the check bits and the data bits of its sub-words.
@@ -88,7 +105,7 @@ pub struct Sheet {
 pub struct Quote {
     /// The degrees w_0 to w_v of the generators; 0 past v.
     pub degrees: [u16; 4],
-    /// The data bits of each block: n − w_(v−i) of block i for i < v, n − w_0 from i = v on; 0 past the last block.
+    /// The data bits of each block: n − s − w_(v−i) of block i for i < v, n − s − w_0 from i = v on; 0 past the last block.
     pub data_bits: [u16; 8],
 }
 
@@ -104,11 +121,12 @@ pub enum Verdict {
     SubWord(u32),
     /// Every sub-word is a multiple of g_0; this nested word l is the lowest that is no multiple of g_(v−l).
     NestedWord(u32),
-    /// Blank: every coefficient is 1, whatever the spare bits are.
+    /// Blank: every stored coefficient is 1, whatever the spare bits are.
     Blank,
 }
 
-/// Why a call was refused: the least of the conditions that it met. Every byte lent to it is as it was.
+/// Why a call was refused: the first of the conditions that it met, in the order in which they stand here, but that the
+/// shortening comes after the clash and before the width. Every byte lent to it is as it was.
 #[derive(Clone, Copy, Debug, PartialEq, Eq, PartialOrd, Ord, Hash)]
 #[non_exhaustive]
 pub enum Refusal {
@@ -132,11 +150,13 @@ pub enum Refusal {
     Index = 9,
     /// The list's length is not exact.
     List = 10,
-    /// The page of the blocks would be blank: every data bit is 1.
+    /// The page of the blocks would be blank: s is 0, and every data bit is 1.
     Blank = 13,
+    /// s is above n − w_v − 1, so that some block would have no data bit.
+    Shortening = 14,
 }
 
-const REFUSALS: [Refusal; 11] = [
+const REFUSALS: [Refusal; 12] = [
     Refusal::Field,
     Refusal::Shape,
     Refusal::Strengths,
@@ -148,6 +168,7 @@ const REFUSALS: [Refusal; 11] = [
     Refusal::Index,
     Refusal::List,
     Refusal::Blank,
+    Refusal::Shortening,
 ];
 
 const SUB_WORD: u32 = 32;
@@ -186,7 +207,7 @@ impl Verdict {
 }
 
 impl Refusal {
-    /// The number of `enum gii_answer`: 1 to 10, or 13.
+    /// The number of `enum gii_answer`: 1 to 10, 13 or 14.
     pub fn number(self) -> u32 {
         self as u32
     }
@@ -217,6 +238,7 @@ impl fmt::Display for Refusal {
             Refusal::Index => "no such sub-word or nested word",
             Refusal::List => "the list's length is not exact",
             Refusal::Blank => "the page would be blank",
+            Refusal::Shortening => "s leaves a block without data",
         })
     }
 }
@@ -224,12 +246,34 @@ impl fmt::Display for Refusal {
 impl core::error::Error for Refusal {}
 
 impl Sheet {
-    /// These parameters, accepted or not. The strengths past t_v are to be 0.
+    /// These parameters, accepted or not, with full sub-words. The strengths past t_v are to be 0.
     pub const fn new(q: u32, m: u32, v: u32, t: [u32; 4]) -> Sheet {
-        Sheet { q, m, v, t }
+        Sheet { q, m, v, t, s: 0 }
     }
 
-    /// Whether the parameters are accepted; else their refusal: field, shape, strengths or clash.
+    /// The same parameters with sub-words shortened by s, whatever they were shortened by before. A shortened page is the
+    /// full one of blocks whose top s data bits are 0, without the top s coefficients of each sub-word.
+    ///
+    /// ```
+    /// # use gii_bch::{Refusal, Sheet};
+    /// let full = Sheet::new(4, 2, 1, [1, 2, 0, 0]);
+    /// let sheet = full.shortened(5);
+    /// assert_eq!(sheet.quote()?.data_bits[..2], [2, 6]);
+    /// // 15 − 5 coefficients of a sub-word are stored, on two bytes, of which the top six bits are spare.
+    /// let mut page = [0; 4];
+    /// sheet.write(64, &[0x01, 0x01], &mut page)?;
+    /// assert_eq!(page, [0xC2, 0x01, 0x13, 0x00]);
+    ///
+    /// // Of the 7 data bits of block 0 at least one is to stay.
+    /// assert_eq!(full.shortened(6).test(), Ok(()));
+    /// assert_eq!(full.shortened(7).test(), Err(Refusal::Shortening));
+    /// # Ok::<(), gii_bch::Refusal>(())
+    /// ```
+    pub const fn shortened(self, s: u32) -> Sheet {
+        Sheet { s, ..self }
+    }
+
+    /// Whether the parameters are accepted; else their refusal: field, shape, strengths, clash or shortening.
     pub fn test(&self) -> Result<(), Refusal> {
         self.quote().map(|_| ())
     }
@@ -241,6 +285,10 @@ impl Sheet {
     /// let quote = Sheet::new(12, 8, 3, [28, 32, 39, 58]).quote()?;
     /// assert_eq!(quote.degrees, [336, 384, 462, 690]);
     /// assert_eq!(quote.data_bits, [3405, 3633, 3711, 3759, 3759, 3759, 3759, 3759]);
+    ///
+    /// let quote = Sheet::new(12, 8, 3, [28, 32, 39, 58]).shortened(1900).quote()?;
+    /// assert_eq!(quote.degrees, [336, 384, 462, 690]);
+    /// assert_eq!(quote.data_bits, [1505, 1733, 1811, 1859, 1859, 1859, 1859, 1859]);
     ///
     /// let quote = Sheet::new(4, 2, 1, [1, 2, 0, 0]).quote()?;
     /// assert_eq!(quote.degrees, [4, 8, 0, 0]);
@@ -284,11 +332,12 @@ impl Sheet {
         }
     }
 
-    /// Bytes of a page: m sub-words of 2^q / 8. Refuses the parameters.
+    /// Bytes of a page: m sub-words of (n − s) / 8, rounded up. Refuses the parameters.
     ///
     /// ```
     /// # use gii_bch::{Refusal, Sheet};
     /// assert_eq!(Sheet::new(12, 8, 3, [28, 32, 39, 58]).page_bytes(), Ok(4096));
+    /// assert_eq!(Sheet::new(12, 8, 3, [28, 32, 39, 58]).shortened(1900).page_bytes(), Ok(2200)); // 8 × 275
     /// assert_eq!(Sheet::new(5, 2, 1, [1, 2, 0, 0]).page_bytes(), Err(Refusal::Field));
     /// ```
     pub fn page_bytes(&self) -> Result<usize, Refusal> {
@@ -300,6 +349,7 @@ impl Sheet {
     /// ```
     /// # use gii_bch::{Refusal, Sheet};
     /// assert_eq!(Sheet::new(12, 8, 3, [28, 32, 39, 58]).data_bytes(), Ok(3695));
+    /// assert_eq!(Sheet::new(12, 8, 3, [28, 32, 39, 58]).shortened(1900).data_bytes(), Ok(1798));
     /// assert_eq!(Sheet::new(4, 1, 1, [1, 2, 0, 0]).data_bytes(), Err(Refusal::Shape));
     /// ```
     pub fn data_bytes(&self) -> Result<usize, Refusal> {
@@ -307,7 +357,7 @@ impl Sheet {
     }
 
     /// Two different members differ in at least so many bits: the smallest of (v + 1)(2 t_0 + 1) and b (2 t_(v−b+1) + 1) for
-    /// b from 1 to v. Refuses the parameters.
+    /// b from 1 to v, whatever s is. Refuses the parameters.
     ///
     /// ```
     /// # use gii_bch::{Refusal, Sheet};
@@ -345,7 +395,7 @@ impl Sheet {
 
     /// The page of the blocks, check bits and all. `width` is the number of coefficients taken in a step, 1 to 64; it never
     /// alters a byte. Refuses the parameters, the width, both lengths, an unused bit of the blocks, blocks whose page would
-    /// be blank, which are those whose data bits are all 1.
+    /// be blank: where s is 0, those whose data bits are all 1, and where s is above 0 none.
     ///
     /// ```
     /// # use gii_bch::{Refusal, Sheet, Verdict};
@@ -355,6 +405,10 @@ impl Sheet {
     /// assert_eq!(page, [0xA5; 4]);
     ///
     /// sheet.write(64, &[0x7E, 0xFF, 0x07], &mut page)?;
+    /// assert_eq!(sheet.judge(&page)?, Verdict::Member);
+    ///
+    /// let sheet = sheet.shortened(1);
+    /// sheet.write(64, &[0x3F, 0xFF, 0x03], &mut page)?;
     /// assert_eq!(sheet.judge(&page)?, Verdict::Member);
     /// # Ok::<(), gii_bch::Refusal>(())
     /// ```
@@ -372,6 +426,10 @@ impl Sheet {
     /// // An erased page: every data bit is 1, and no spare bit comes with them.
     /// assert_eq!(sheet.read_out(&[0xFF; 4], &mut blocks)?, Verdict::Blank);
     /// assert_eq!(blocks, [0x7F, 0xFF, 0x07]);
+    ///
+    /// // So too where sub-words are shortened.
+    /// assert_eq!(sheet.shortened(1).read_out(&[0xFF; 4], &mut blocks)?, Verdict::Blank);
+    /// assert_eq!(blocks, [0x3F, 0xFF, 0x03]);
     /// # Ok::<(), gii_bch::Refusal>(())
     /// ```
     pub fn read_out(&self, page: &[u8], blocks: &mut [u8]) -> Result<Verdict, Refusal> {

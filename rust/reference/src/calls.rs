@@ -147,7 +147,7 @@ fn size(p: &Parameters, of: fn(&Sheet) -> usize) -> u32 {
 }
 
 /// S_1, S_2, .. as many as the list has room for, two bytes each, low byte first.
-fn put_list(sheet: &Sheet, word: &[u64], list: &mut [u8]) {
+pub fn put_list(sheet: &Sheet, word: &[u64], list: &mut [u8]) {
     for (place, bytes) in list.chunks_mut(2).enumerate() {
         bytes.copy_from_slice(&sheet.field.value(word, place + 1).to_le_bytes());
     }

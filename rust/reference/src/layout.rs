@@ -4,18 +4,38 @@ use crate::linear;
 use crate::parameters::Sheet;
 
 impl Sheet {
+    /// Coefficients of a sub-word that a page stores: all but the top s.
+    pub fn stored(&self) -> usize {
+        self.field.n - self.s
+    }
+
     /// Bytes of a sub-word.
     pub fn sub_word_bytes(&self) -> usize {
-        (self.field.n + 1) / 8
+        self.stored().div_ceil(8)
     }
 
     pub fn page_bytes(&self) -> usize {
         self.m * self.sub_word_bytes()
     }
 
+    /// The place in a page, counted in bits, of the coefficient of x^k of sub-word i.
+    pub fn place(&self, i: usize, k: usize) -> usize {
+        8 * self.sub_word_bytes() * i + k
+    }
+
+    /// The bits of a sub-word's last byte that are no coefficients: 0 to 7.
+    pub fn spare_bits(&self) -> usize {
+        8 * self.sub_word_bytes() - self.stored()
+    }
+
+    /// The places of a page that are spare, sub-word by sub-word, in each from the lowest up.
+    pub fn spare_places(&self) -> impl Iterator<Item = usize> + '_ {
+        (0..self.m).flat_map(move |i| (0..self.spare_bits()).map(move |b| self.place(i, self.stored() + b)))
+    }
+
     /// Data bits of block i.
     pub fn block_bits(&self, i: usize) -> usize {
-        self.field.n - self.level(i).degree()
+        self.stored() - self.level(i).degree()
     }
 
     pub fn blocks_bytes(&self) -> usize {
@@ -40,21 +60,21 @@ impl Sheet {
         })
     }
 
-    /// Whether the spare bit of a sub-word is 1.
+    /// Whether a spare bit of a sub-word is 1.
     pub fn page_stray(&self, page: &[u8]) -> bool {
-        (0..self.m).any(|i| bit(page, i * (self.field.n + 1) + self.field.n))
+        self.spare_places().any(|place| bit(page, place))
     }
 
-    /// Whether every coefficient of every sub-word is 1, whatever the spare bits are.
+    /// Whether every stored coefficient of every sub-word is 1, whatever the spare bits are.
     pub fn blank(&self, page: &[u8]) -> bool {
-        (0..self.m).all(|i| (0..self.field.n).all(|k| bit(page, i * (self.field.n + 1) + k)))
+        (0..self.m).all(|i| (0..self.stored()).all(|k| bit(page, self.place(i, k))))
     }
 
-    /// The blank page in which the spare bit of sub-word i is bit i of `spare`.
-    pub fn erased(&self, spare: usize) -> Vec<u8> {
+    /// The blank page in which the spare bits, from the first sub-word's lowest up, are the lowest bits of `spare`.
+    pub fn erased(&self, spare: u64) -> Vec<u8> {
         let mut page = vec![0xFF; self.page_bytes()];
-        for (i, bytes) in page.chunks_mut(self.sub_word_bytes()).enumerate() {
-            *bytes.last_mut().unwrap() = if spare >> i & 1 == 1 { 0xFF } else { 0x7F };
+        for (_, place) in self.spare_places().enumerate().filter(|(b, _)| spare >> b & 1 == 0) {
+            flip(&mut page, place);
         }
         page
     }
@@ -68,21 +88,24 @@ impl Sheet {
         blocks
     }
 
+    /// The sub-words, n coefficients each, of which a page has the lower ones.
     pub fn words_of(&self, page: &[u8]) -> Vec<Vec<u64>> {
         let mut words = self.empty_words();
         for (i, word) in words.iter_mut().enumerate() {
-            for k in (0..self.field.n).filter(|k| bit(page, i * (self.field.n + 1) + k)) {
+            for k in (0..self.stored()).filter(|&k| bit(page, self.place(i, k))) {
                 linear::flip(word, k);
             }
         }
         words
     }
 
+    /// The page of some words, whose top s coefficients must be 0.
     pub fn put_page(&self, words: &[Vec<u64>], page: &mut [u8]) {
         page.fill(0);
         for (i, word) in words.iter().enumerate() {
             for k in (0..self.field.n).filter(|&k| linear::get(word, k)) {
-                set(page, i * (self.field.n + 1) + k);
+                assert!(k < self.stored(), "the coefficient of x^{k} of sub-word {i} is not 0");
+                set(page, self.place(i, k));
             }
         }
     }
@@ -128,4 +151,8 @@ pub fn bit(bytes: &[u8], place: usize) -> bool {
 
 pub fn set(bytes: &mut [u8], place: usize) {
     bytes[place / 8] |= 1 << (place % 8);
+}
+
+pub fn flip(bytes: &mut [u8], place: usize) {
+    bytes[place / 8] ^= 1 << (place % 8);
 }

@@ -8,6 +8,7 @@
 //!   sub-words, and check bits are had back from values by an inverted matrix (`encode`); a second encoder solves all
 //!   linear conditions of the code at once, every check bit an unknown (`elimination`);
 //! - a word is judged by its values at the roots, a nested word is formed by turning, refusals are a list of conditions;
+//! - a shortened sub-word is a full one, of n coefficients, of which a page has the lower n − s;
 //! - that blocks are refused because their page would be blank is seen from the page, which is made first.
 //!
 //! `calls` has the nine C calls by these means; a degree is a generator's length less one. `sample` draws inputs from a seed.

@@ -9,6 +9,8 @@ pub struct Parameters {
     pub m: u32,
     pub v: u32,
     pub t: [u32; 4],
+    /// How many of the top coefficients of every sub-word are 0 and are not stored.
+    pub s: u32,
 }
 
 /// A condition of refusal: its number, and whether it is met. It is asked only where no condition before it is met.
@@ -20,9 +22,19 @@ pub fn first(conditions: &[Condition]) -> u32 {
 }
 
 impl Parameters {
-    /// 0, or the refusal 1 to 4.
+    /// The parameters of full sub-words, s = 0.
+    pub const fn full(q: u32, m: u32, v: u32, t: [u32; 4]) -> Parameters {
+        Parameters { q, m, v, t, s: 0 }
+    }
+
+    /// The same parameters with another s.
+    pub const fn shortened(self, s: u32) -> Parameters {
+        Parameters { s, ..self }
+    }
+
+    /// 0, or the refusal 1 to 4 or 14, in this order.
     pub fn refusal(&self) -> u32 {
-        let &Parameters { q, m, v, t } = self;
+        let &Parameters { q, m, v, t, s } = self;
         let n = || (1u64 << q) - 1;
         let given = || &t[..=v as usize];
         let last = || u64::from(t[v as usize]);
@@ -34,7 +46,14 @@ impl Parameters {
             (3, &|| last() > 64 || 2 * last() > n() - 1),
             (3, &|| t[v as usize + 1..].iter().any(|&place| place != 0)),
             (4, &|| (1..u64::from(m)).any(|d| (1..=2 * last()).any(|j| d * j % n() == 0))),
+            (14, &|| s > self.most()),
         ])
+    }
+
+    /// The greatest s that is accepted, n − w_v − 1, where all other numbers are.
+    pub fn most(&self) -> u32 {
+        let field = Field::of(self.q);
+        (field.n - Level::of(field, self.t[self.v as usize] as usize).degree() - 1) as u32
     }
 
     pub fn accepted(&self) -> bool {
@@ -47,6 +66,7 @@ pub struct Sheet {
     pub field: &'static Field,
     pub m: usize,
     pub v: usize,
+    pub s: usize,
     pub levels: Vec<&'static Level>,
 }
 
@@ -55,7 +75,7 @@ impl Sheet {
         assert!(p.accepted());
         let field = Field::of(p.q);
         let levels = p.t[..=p.v as usize].iter().map(|&t| Level::of(field, t as usize)).collect();
-        Sheet { field, m: p.m as usize, v: p.v as usize, levels }
+        Sheet { field, m: p.m as usize, v: p.v as usize, s: p.s as usize, levels }
     }
 
     /// The level whose check bits sub-word i carries: v − i for i < v, else 0.

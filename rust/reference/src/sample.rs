@@ -1,5 +1,6 @@
 //! Inputs drawn from a seed.
 
+use crate::field::Field;
 use crate::layout::set;
 use crate::parameters::{Parameters, Sheet};
 
@@ -37,7 +38,7 @@ impl Random {
         (0..length).map(|_| (self.number() >> 56) as u8).collect()
     }
 
-    /// Accepted parameters of a field.
+    /// Accepted parameters of a field, with full sub-words.
     pub fn parameters(&mut self, q: u32) -> Parameters {
         loop {
             let v = self.from_to(1, 3);
@@ -50,8 +51,40 @@ impl Random {
             let mut t = [0; 4];
             t[..=v].fill_with(|| self.from_to(1, top) as u32);
             t[..=v].sort();
-            let drawn = Parameters { q, m, v: v as u32, t };
+            let drawn = Parameters::full(q, m, v as u32, t);
             if drawn.accepted() {
+                return drawn;
+            }
+        }
+    }
+
+    /// Accepted parameters of full sub-words, shortened if they can be: a little, by any s, by the greatest or nearly, or so
+    /// that the coefficients stored fill whole bytes or whole words of eight bytes, or are one less or one more.
+    pub fn shortened(&mut self, p: &Parameters) -> Parameters {
+        let (n, most) = (Field::of(p.q).n, p.most() as usize);
+        if most == 0 {
+            return *p;
+        }
+        let s = match self.from_to(0, 5) {
+            0 => self.from_to(1, most.min(9)),
+            1 => most,
+            2 => most - self.from_to(0, most.min(9) - 1),
+            3 => self.from_to(1, most),
+            kind => {
+                let unit = if kind == 4 { 8 } else { 64 };
+                let stored = n - self.from_to(1, most);
+                n + 1 - (stored / unit * unit + self.from_to(0, 2))
+            }
+        };
+        p.shortened(s.clamp(1, most) as u32)
+    }
+
+    /// Accepted parameters of a field with shortened sub-words.
+    pub fn shortened_parameters(&mut self, q: u32) -> Parameters {
+        loop {
+            let full = self.parameters(q);
+            let drawn = self.shortened(&full);
+            if drawn.s > 0 {
                 return drawn;
             }
         }
@@ -74,11 +107,11 @@ impl Random {
 
     /// A place of a page that is not spare.
     pub fn place(&mut self, sheet: &Sheet) -> usize {
-        self.from_to(0, sheet.m - 1) * (sheet.field.n + 1) + self.from_to(0, sheet.field.n - 1)
+        sheet.place(self.from_to(0, sheet.m - 1), self.from_to(0, sheet.stored() - 1))
     }
 }
 
-/// Every accepted set of parameters of a field whose strengths are at most `greatest`.
+/// Every accepted set of parameters of a field whose strengths are at most `greatest`, with full sub-words.
 pub fn all_parameters(q: u32, greatest: u32) -> Vec<Parameters> {
     let mut all = Vec::new();
     for v in 1..=3 {
@@ -91,10 +124,16 @@ pub fn all_parameters(q: u32, greatest: u32) -> Vec<Parameters> {
                     *place = rest % (greatest + 1);
                     rest /= greatest + 1;
                 }
-                all.push(Parameters { q, m, v, t });
+                all.push(Parameters::full(q, m, v, t));
             }
         }
     }
     all.retain(Parameters::accepted);
     all
+}
+
+/// The parameters at every s that is accepted, from 0 up.
+pub fn all_shortened(p: &Parameters) -> impl Iterator<Item = Parameters> + use<> {
+    let p = *p;
+    (0..=p.most()).map(move |s| p.shortened(s))
 }

@@ -1,20 +1,34 @@
-//! The reference against itself: two encoders, read-back, sums, distance, blank pages.
+//! The reference against itself: two encoders, read-back, sums, distance, blank pages, shortened sub-words.
 
 use reference::calls::{BLANK, judge, read_out, write};
 use reference::field::Field;
 use reference::generator::{Level, divide};
+use reference::layout::{bit, flip, set};
 use reference::linear;
 use reference::parameters::Sheet;
-use reference::sample::{Random, all_parameters};
+use reference::sample::{Random, all_parameters, all_shortened};
 use reference::{Parameters, calls};
+use std::collections::BTreeSet;
 
-/// The page of the blocks; none where every data bit is 1, and only there: write refuses it by 13 and leaves the buffer.
+/// Every sheet of q = 4 with every s.
+fn all_of_q_4() -> impl Iterator<Item = Parameters> {
+    all_parameters(4, 8).into_iter().flat_map(|p| all_shortened(&p))
+}
+
+/// A drawn sheet of the field, with full sub-words or shortened.
+fn drawn(random: &mut Random, q: u32) -> Parameters {
+    let p = random.parameters(q);
+    if random.once_in(2) { random.shortened(&p) } else { p }
+}
+
+/// The page of the blocks; none where s is 0 and every data bit 1, and only there: write refuses it by 13 and leaves the
+/// buffer.
 fn written(p: &Parameters, blocks: &[u8]) -> Option<Vec<u8>> {
     let sheet = Sheet::of(p);
     let lent = vec![0xA5; sheet.page_bytes()];
     let mut page = lent.clone();
     let number = write(p, 1, blocks, &mut page);
-    if *blocks == sheet.ones() {
+    if p.s == 0 && *blocks == sheet.ones() {
         assert_eq!((number, page), (13, lent), "{p:?}");
         return None;
     }
@@ -45,22 +59,76 @@ fn both_encoders(p: &Parameters, random: &mut Random) {
 #[test]
 fn encoders_agree() {
     let mut random = Random::new(1);
+    for p in all_of_q_4() {
+        both_encoders(&p, &mut random);
+    }
+    for _ in 0..150 {
+        let p = drawn(&mut random, 8);
+        both_encoders(&p, &mut random);
+    }
+    for _ in 0..8 {
+        let p = drawn(&mut random, 12);
+        both_encoders(&p, &mut random);
+    }
+    let large = Parameters::full(12, 8, 3, [28, 32, 39, 58]);
+    both_encoders(&large, &mut random);
+    both_encoders(&large.shortened(1900), &mut random);
+}
+
+/// The words of a shortened page are those of the full sheet's page whose blocks end in s zeros; the two are judged alike,
+/// and so with a bit flipped.
+#[test]
+fn shortened_words_are_full_words() {
+    let mut random = Random::new(7);
+    let mut sheets: Vec<Parameters> = all_of_q_4().collect();
+    for q in [8, 12] {
+        sheets.extend((0..60).map(|_| drawn(&mut random, q)));
+    }
+    sheets.retain(|p| p.s > 0);
+    assert!(sheets.len() > 120, "{} sheets", sheets.len());
+    for p in &sheets {
+        let (sheet, full) = (Sheet::of(p), Sheet::of(&p.shortened(0)));
+        let blocks = random.blocks(&sheet);
+        let mut longer = vec![0; full.blocks_bytes()];
+        for i in 0..sheet.m {
+            assert_eq!(full.block_bits(i), sheet.block_bits(i) + sheet.s);
+            (0..sheet.block_bits(i))
+                .filter(|r| bit(&blocks, sheet.block_start(i) + r))
+                .for_each(|r| set(&mut longer, full.block_start(i) + r));
+        }
+        let (mut page, mut full_page) = (written(p, &blocks).unwrap(), written(&p.shortened(0), &longer).unwrap());
+        for number in [0, 32] {
+            let words = sheet.words_of(&page);
+            assert_eq!(words, full.words_of(&full_page), "{p:?}");
+            assert!(words.iter().all(|word| (sheet.stored()..sheet.field.n).all(|k| !linear::get(word, k))), "{p:?}");
+            assert_eq!((judge(p, &page), judge(&p.shortened(0), &full_page)), (number, number), "{p:?}");
+            page[0] ^= 1;
+            full_page[0] ^= 1;
+        }
+    }
+}
+
+/// For each sheet of q = 4 as many s are accepted as block 0 has data bits, from 0 up. No s alters another refusal.
+#[test]
+fn accepted_shortenings() {
+    let mut pairs = 0;
     for p in all_parameters(4, 8) {
-        both_encoders(&p, &mut random);
+        let roots: BTreeSet<u32> =
+            (1..=2 * p.t[p.v as usize]).flat_map(|j| (0..4).map(move |e| (j << e) % 15)).collect();
+        let accepted: Vec<u32> = (0..100).filter(|&s| p.shortened(s).accepted()).collect();
+        assert!(accepted.iter().copied().eq(0..15 - roots.len() as u32), "{p:?}");
+        assert_eq!(accepted.len(), Sheet::of(&p).block_bits(0), "{p:?}");
+        assert!((100..5000).chain([1 << 16, 1 << 31, u32::MAX]).all(|s| p.shortened(s).refusal() == 14), "{p:?}");
+        pairs += accepted.len();
     }
-    for _ in 0..100 {
-        let p = random.parameters(8);
-        both_encoders(&p, &mut random);
+    assert_eq!((pairs, all_of_q_4().count()), (186, 186));
+    for p in [Parameters::full(5, 2, 1, [1, 2, 0, 0]), Parameters::full(4, 4, 2, [1, 2, 3, 0])] {
+        assert!((0..100).chain([u32::MAX]).all(|s| p.shortened(s).refusal() == p.refusal()), "{p:?}");
     }
-    for _ in 0..6 {
-        let p = random.parameters(12);
-        both_encoders(&p, &mut random);
-    }
-    both_encoders(&Parameters { q: 12, m: 8, v: 3, t: [28, 32, 39, 58] }, &mut random);
 }
 
 /// A word is a multiple of the generator exactly when it vanishes at the roots; the degree is the number of different
-/// j × 2^s modulo n.
+/// j × 2^e modulo n.
 #[test]
 fn multiples_and_roots() {
     let mut random = Random::new(2);
@@ -68,7 +136,7 @@ fn multiples_and_roots() {
         let field = Field::of(q);
         for t in (1..=64).filter(|t| 2 * t < field.n) {
             let level = Level::of(field, t);
-            let mut exponents: Vec<_> = (1..=2 * t).flat_map(|j| (0..q).map(move |s| (j << s) % field.n)).collect();
+            let mut exponents: Vec<_> = (1..=2 * t).flat_map(|j| (0..q).map(move |e| (j << e) % field.n)).collect();
             exponents.sort();
             exponents.dedup();
             assert_eq!(level.degree(), exponents.len(), "q = {q}, t = {t}");
@@ -105,28 +173,29 @@ fn field_laws() {
     }
 }
 
-/// Where all sub-words are multiples of g_0, a page is a member exactly when it is what write makes of its blocks. A blank
-/// page is one of these pages, and no member.
+/// Where all sub-words are multiples of g_0, a page is a member exactly when it is what write makes of its blocks. At s = 0
+/// a blank page is one of these pages, and no member.
 #[test]
 fn members_are_pages() {
     let mut random = Random::new(4);
     let mut blank = 0;
-    for p in all_parameters(4, 8) {
+    for p in all_of_q_4() {
         let sheet = Sheet::of(&p);
         for _ in 0..20 {
             let mut page = written(&p, &random.blocks(&sheet)).unwrap_or_else(|| sheet.erased(0));
             for _ in 0..random.from_to(0, 3) {
                 // A multiple of g_0 onto some sub-word.
-                let at = 8 * 2 * random.from_to(0, sheet.m - 1);
+                let i = random.from_to(0, sheet.m - 1);
                 let g = &sheet.levels[0].generator;
-                let shift = random.from_to(0, 15 - g.len());
-                (0..g.len()).filter(|&k| g[k]).for_each(|k| page[(at + shift + k) / 8] ^= 1 << ((at + shift + k) % 8));
+                let shift = random.from_to(0, sheet.stored() - g.len());
+                (0..g.len()).filter(|&k| g[k]).for_each(|k| flip(&mut page, sheet.place(i, shift + k)));
             }
             let mut blocks = vec![0; sheet.blocks_bytes()];
             let answer = read_out(&p, &page, &mut blocks);
             assert!(!(32..64).contains(&answer));
             assert_eq!(judge(&p, &page), answer);
             assert_eq!(answer == BLANK, page == sheet.erased(0), "{p:?} {page:02X?}");
+            assert!(answer != BLANK || p.s == 0, "{p:?} {page:02X?}");
             assert_eq!(answer == 0, written(&p, &blocks) == Some(page), "{p:?} {blocks:02X?}");
             blank += u32::from(answer == BLANK);
         }
@@ -135,24 +204,28 @@ fn members_are_pages() {
 }
 
 /// The least number of bits in which pages differ is at least the least of (v + 1 − a)(2 t_a + 1), on every sheet of
-/// q = 4 with at most 20 data bits; pages are linear, so all sums of the pages of single bits are gone through.
+/// q = 4, at every s, and on sheets of q = 8 and 12 at the greatest s, with at most 20 data bits; pages are linear, so all
+/// sums of the pages of single bits are gone through.
 #[test]
 fn distance() {
-    let mut sheets = 0;
-    let mut met = 0;
-    for p in all_parameters(4, 8) {
+    let (mut sheets, mut shortened, mut met) = (0, 0, 0);
+    let pairs = || (1..=3).flat_map(|t0| (t0 + 1..=4).map(move |t1| [t0, t1, 0, 0]));
+    let larger = [8, 12].into_iter().flat_map(|q| pairs().map(move |t| Parameters::full(q, 2, 1, t)));
+    let larger = larger.flat_map(|p| (p.most() - 3..=p.most()).map(move |s| p.shortened(s)));
+    for p in all_of_q_4().chain(larger) {
         let sheet = Sheet::of(&p);
+        if (0..sheet.m).map(|i| sheet.block_bits(i)).sum::<usize>() > 20 {
+            continue;
+        }
+        assert!(sheet.page_bytes() <= 16, "{p:?}");
         let units: Vec<u128> = (0..sheet.m)
             .flat_map(|i| (0..sheet.block_bits(i)).map(move |r| (i, r)))
             .map(|(i, r)| {
                 let mut blocks = vec![0; sheet.blocks_bytes()];
-                reference::layout::set(&mut blocks, sheet.block_start(i) + r);
+                set(&mut blocks, sheet.block_start(i) + r);
                 written(&p, &blocks).unwrap().iter().rev().fold(0, |page, &byte| page << 8 | u128::from(byte))
             })
             .collect();
-        if units.len() > 20 {
-            continue;
-        }
         let mut page = 0;
         let mut least = u32::MAX;
         for count in 1u32..1 << units.len() {
@@ -163,9 +236,10 @@ fn distance() {
         assert_eq!(calls::distance(&p), bound, "{p:?}");
         assert!(least >= bound, "{p:?}: {least} below {bound}");
         sheets += 1;
+        shortened += u32::from(p.s > 0);
         met += u32::from(least == bound);
     }
-    assert!(sheets > 50 && met > 0, "{sheets} sheets, {met} at their bound");
+    assert!(sheets > 150 && shortened > 80 && met > 0, "{sheets} sheets, {shortened} shortened, {met} at their bound");
 }
 
 /// Where none of three pages is blank, pages add up as their blocks do. The pages of blocks and of the same blocks with
@@ -176,8 +250,8 @@ fn sums() {
     let add = |x: &[u8], y: &[u8]| x.iter().zip(y).map(|(x, y)| x ^ y).collect::<Vec<_>>();
     let (mut members, mut blank) = (0, 0);
     for q in [4, 8, 12] {
-        for _ in 0..10 {
-            let p = random.parameters(q);
+        for _ in 0..20 {
+            let p = drawn(&mut random, q);
             let sheet = Sheet::of(&p);
             let (a, b) = (random.blocks(&sheet), random.blocks(&sheet));
             let pages = [&a, &b, &add(&a, &b)].map(|blocks| written(&p, blocks));
@@ -187,32 +261,40 @@ fn sums() {
                 members += 1;
             }
             if let (Some(x), Some(y)) = (written(&p, &a), written(&p, &add(&a, &sheet.ones()))) {
-                assert_eq!(add(&x, &y), sheet.erased(0));
-                blank += 1;
+                // At s > 0 it is the page of the blocks of ones, which is written.
+                assert_eq!(add(&x, &y), written(&p, &sheet.ones()).unwrap_or_else(|| sheet.erased(0)), "{p:?}");
+                blank += u32::from(p.s == 0);
             }
         }
     }
-    assert!(members >= 15 && blank >= 15, "of 30 sums {members} members, {blank} blank");
+    assert!(members >= 30 && blank >= 15, "of 60 sums {members} members, {blank} blank");
 }
 
-/// A page of ones passes every condition of the code and is blank, whatever its spare bits are. One flip makes its sub-word
-/// fail, and its spare bits stray.
+/// A page of ones is blank, whatever its spare bits are. At s = 0 it passes every condition of the code, at s > 0 its first
+/// sub-word fails. One flip makes its sub-word fail, or leaves the first to fail, and its spare bits stray.
 #[test]
 fn ones_and_flips() {
     let mut random = Random::new(6);
-    for q in [4, 8, 12] {
-        for _ in 0..10 {
-            let p = random.parameters(q);
-            let sheet = Sheet::of(&p);
-            let place = random.place(&sheet);
-            for spare in [0, 1 << random.from_to(0, sheet.m - 1), (1 << sheet.m) - 1] {
-                let mut page = sheet.erased(spare);
-                assert_eq!(calls::verdict(&sheet, &page), 0);
-                assert_eq!(judge(&p, &page), BLANK);
-                page[place / 8] ^= 1 << (place % 8);
-                let fails = 32 + (place / (sheet.field.n + 1)) as u32;
-                assert_eq!(judge(&p, &page), if spare == 0 { fails } else { 8 });
-            }
+    let mut sheets: Vec<Parameters> = all_of_q_4().collect();
+    for q in [8, 12] {
+        sheets.extend((0..20).map(|_| drawn(&mut random, q)));
+    }
+    for p in sheets {
+        let sheet = Sheet::of(&p);
+        let place = random.place(&sheet);
+        let of_sub_word = place / (8 * sheet.sub_word_bytes());
+        let spares = sheet.spare_places().count();
+        for set in [0, 1, spares] {
+            let spare = if set == 1 && spares > 0 { 1 << random.from_to(0, spares - 1) } else { (1 << set) - 1 };
+            let mut page = sheet.erased(spare);
+            assert_eq!(calls::verdict(&sheet, &page), if p.s == 0 { 0 } else { 32 }, "{p:?}");
+            assert_eq!(judge(&p, &page), BLANK, "{p:?}");
+            flip(&mut page, place);
+            // The other sub-words are ones still.
+            let fails = 32 + if p.s == 0 { of_sub_word as u32 } else { 0 };
+            let first = calls::verdict(&sheet, &page);
+            assert!(first == fails || p.s > 0 && of_sub_word == 0 && first == 33, "{p:?}: {first}");
+            assert_eq!(judge(&p, &page), if sheet.page_stray(&page) { 8 } else { first }, "{p:?}");
         }
     }
 }

@@ -1,4 +1,5 @@
-//! The requirement's cases ('On the counter'), the starred ones and those that a C call or the reference can show.
+//! The requirement's cases ('On the counter'), the starred ones and those that a C call or the reference can show; and
+//! cases of shortened sub-words.
 
 use reference::calls::{
     BLANK, QUOTE_BYTES, data_bytes, distance, judge, nested_syndromes, page_bytes, quote, read_out, syndromes, write,
@@ -8,9 +9,9 @@ use reference::generator::Level;
 use reference::{Parameters, sample};
 use std::collections::BTreeSet;
 
-const A: Parameters = Parameters { q: 4, m: 2, v: 1, t: [1, 2, 0, 0] };
-const B: Parameters = Parameters { q: 4, m: 3, v: 2, t: [1, 2, 3, 0] };
-const LARGE: Parameters = Parameters { q: 12, m: 8, v: 3, t: [28, 32, 39, 58] };
+const A: Parameters = Parameters::full(4, 2, 1, [1, 2, 0, 0]);
+const B: Parameters = Parameters::full(4, 3, 2, [1, 2, 3, 0]);
+const LARGE: Parameters = Parameters::full(12, 8, 3, [28, 32, 39, 58]);
 
 fn number(generator: &[bool]) -> u64 {
     generator.iter().rev().fold(0, |number, &bit| 2 * number + u64::from(bit))
@@ -29,9 +30,12 @@ fn pages() {
         (A, &[0x00, 0x01, 0x00][..], &[0x13, 0x00, 0x13, 0x00][..]),
         (A, &[0x01, 0x01, 0x00], &[0xC2, 0x01, 0x13, 0x00]),
         (B, &[0x00, 0x00, 0x01, 0x00], &[0x26, 0x00, 0x35, 0x00, 0x13, 0x00]),
+        // The same with coefficients 0 above that are not stored, and blocks that are so much shorter.
+        (A.shortened(5), &[0x01, 0x01], &[0xC2, 0x01, 0x13, 0x00]),
+        (B.shortened(4), &[0x00, 0x00, 0x01], &[0x26, 0x00, 0x35, 0x00, 0x13, 0x00]),
         // x^(li) is not reduced by the field polynomial.
         (
-            Parameters { q: 4, m: 5, v: 2, t: [1, 2, 2, 0] },
+            Parameters::full(4, 5, 2, [1, 2, 2, 0]),
             &[0x00, 0x00, 0x00, 0x00, 0x00, 0x00, 0x01, 0x00],
             &[0xF2, 0x00, 0xE1, 0x00, 0x00, 0x00, 0x00, 0x00, 0x13, 0x00],
         ),
@@ -79,6 +83,27 @@ fn blank_pages() {
     assert_eq!(write(&A, 8, &ONES, &mut page[..3]), 7);
 }
 
+/// Nine of fifteen coefficients are stored: seven bits of each second byte are spare. A blank page is one with the nine at
+/// 1; its blocks are written, since it is not their page.
+#[test]
+fn blank_pages_shortened() {
+    let p = A.shortened(6);
+    for (first, second) in (0..=0x7F).flat_map(|first| (0..=0x7F).map(move |second| (first, second))) {
+        let page = [0xFF, 2 * first + 1, 0xFF, 2 * second + 1];
+        assert_eq!(judge(&p, &page), BLANK, "{page:02X?}");
+        let mut blocks = [0xA5; 2];
+        assert_eq!(read_out(&p, &page, &mut blocks), BLANK, "{page:02X?}");
+        assert_eq!(blocks, [0x01, 0x1F], "{page:02X?}");
+        // Without a coefficient it is not blank, and its spare bits count.
+        let expected = if (first, second) == (0, 0) { 32 } else { 8 };
+        assert_eq!(judge(&p, &[0xFF, 2 * first, 0xFF, 2 * second + 1]), expected);
+    }
+    let mut page = [0xA5; 4];
+    assert_eq!(write(&p, 8, &[0x01, 0x1F], &mut page), 0);
+    assert_eq!(judge(&p, &page), 0);
+    assert_ne!(page, [0xFF, 0x01, 0xFF, 0x01]);
+}
+
 #[test]
 fn syndromes_of_a_word() {
     let p = Parameters { t: [2, 3, 0, 0], ..A };
@@ -88,16 +113,32 @@ fn syndromes_of_a_word() {
     let mut list = [0xA5; 8];
     assert_eq!(nested_syndromes(&A, &[0x02, 0x00, 0x00, 0x00], 0, &mut list), 0);
     assert_eq!(list, [2, 0, 4, 0, 8, 0, 3, 0]);
+    // x^10, the highest of eleven coefficients stored, of sub-word 2 is x^12 in nested word 1: α^12, α^9, α^6, α^3.
+    assert_eq!(nested_syndromes(&B.shortened(4), &[0x00, 0x00, 0x00, 0x00, 0x00, 0x04], 1, &mut list), 0);
+    assert_eq!(list, [15, 0, 10, 0, 12, 0, 8, 0]);
 }
 
 #[test]
 fn parameters() {
     for (p, expected) in [
-        (Parameters { q: 4, m: 4, v: 2, t: [1, 2, 3, 0] }, 4),
-        (Parameters { q: 4, m: 4, v: 2, t: [1, 2, 2, 0] }, 0),
-        (Parameters { q: 8, m: 4, v: 1, t: [1, 42, 0, 0] }, 0),
-        (Parameters { q: 8, m: 4, v: 1, t: [1, 43, 0, 0] }, 4),
+        (Parameters::full(4, 4, 2, [1, 2, 3, 0]), 4),
+        (Parameters::full(4, 4, 2, [1, 2, 2, 0]), 0),
+        (Parameters::full(8, 4, 1, [1, 42, 0, 0]), 0),
+        (Parameters::full(8, 4, 1, [1, 43, 0, 0]), 4),
         (LARGE, 0),
+        // n − w_v − 1 is 6, 4, 46 and 3,404; 14 comes after 4.
+        (A.shortened(6), 0),
+        (A.shortened(7), 14),
+        (B.shortened(4), 0),
+        (B.shortened(5), 14),
+        (Parameters::full(8, 4, 1, [1, 42, 0, 0]).shortened(46), 0),
+        (Parameters::full(8, 4, 1, [1, 42, 0, 0]).shortened(47), 14),
+        (Parameters::full(8, 4, 1, [1, 43, 0, 0]).shortened(u32::MAX), 4),
+        (LARGE.shortened(3404), 0),
+        (LARGE.shortened(3405), 14),
+        (LARGE.shortened(4096), 14),
+        (LARGE.shortened(1 << 16), 14),
+        (LARGE.shortened(u32::MAX), 14),
     ] {
         assert_eq!(p.refusal(), expected, "{p:?}");
     }
@@ -119,8 +160,8 @@ fn degrees() {
     ] {
         let field = Field::of(q);
         assert_eq!(Level::of(field, t).degree(), expected, "q = {q}, t = {t}");
-        // The number of different j × 2^s modulo n.
-        let exponents: BTreeSet<_> = (1..=2 * t).flat_map(|j| (0..q).map(move |s| (j << s) % field.n)).collect();
+        // The number of different j × 2^e modulo n.
+        let exponents: BTreeSet<_> = (1..=2 * t).flat_map(|j| (0..q).map(move |e| (j << e) % field.n)).collect();
         assert_eq!(exponents.len(), expected, "q = {q}, t = {t}");
     }
     // 33 is 9 × 2^5 modulo 255, so that α^33 and α^34 are roots already.
@@ -133,6 +174,14 @@ fn quotes() {
         (A, [4, 8, 0, 0, 7, 11, 0, 0, 0, 0, 0, 0], 4, 3, 5),
         (B, [4, 8, 10, 0, 5, 7, 11, 0, 0, 0, 0, 0], 6, 4, 7),
         (LARGE, [336, 384, 462, 690, 3405, 3633, 3711, 3759, 3759, 3759, 3759, 3759], 4096, 3695, 117),
+        (A.shortened(6), [4, 8, 0, 0, 1, 5, 0, 0, 0, 0, 0, 0], 4, 2, 5),
+        (
+            LARGE.shortened(1900),
+            [336, 384, 462, 690, 1505, 1733, 1811, 1859, 1859, 1859, 1859, 1859],
+            8 * 275,
+            189 + 217 + 227 + 5 * 233,
+            117,
+        ),
     ] {
         let mut list = [0xA5; QUOTE_BYTES];
         assert_eq!(quote(&p, &mut list), 0, "{p:?}");
@@ -144,13 +193,15 @@ fn quotes() {
 /// The list's length is looked at where the parameters are accepted; a refusal leaves every byte.
 #[test]
 fn quotes_refused() {
-    let clash = Parameters { q: 4, m: 4, v: 2, t: [1, 2, 3, 0] };
+    let clash = Parameters::full(4, 4, 2, [1, 2, 3, 0]);
     for length in [0, 12, QUOTE_BYTES - 1, QUOTE_BYTES, QUOTE_BYTES + 1, 2 * QUOTE_BYTES] {
         for (p, refusal) in [
             (Parameters { q: 5, ..A }, 1),
             (Parameters { m: 1, ..A }, 2),
             (Parameters { t: [2, 2, 0, 0], ..A }, 3),
             (clash, 4),
+            (clash.shortened(7), 4),
+            (A.shortened(7), 14),
             (A, 10),
         ] {
             if p.accepted() && length == QUOTE_BYTES {
@@ -161,7 +212,8 @@ fn quotes_refused() {
             assert_eq!(list, vec![0xA5; length]);
         }
     }
-    for p in [Parameters { q: 5, ..A }, Parameters { m: 1, ..A }, Parameters { t: [2, 2, 0, 0], ..A }, clash] {
+    let wrong = [Parameters { q: 5, ..A }, Parameters { m: 1, ..A }, Parameters { t: [2, 2, 0, 0], ..A }];
+    for p in wrong.into_iter().chain([clash, A.shortened(7)]) {
         assert_eq!((page_bytes(&p), data_bytes(&p), distance(&p)), (0, 0, 0), "{p:?}");
     }
 }
@@ -171,6 +223,7 @@ fn widths_and_lengths() {
     let blocks = [0x01, 0x01, 0x00];
     for (width, expected) in [(0, 5), (1, 0), (64, 0), (65, 5)] {
         assert_eq!(write(&A, width, &blocks, &mut [0; 4]), expected);
+        assert_eq!(write(&A.shortened(7), width, &blocks, &mut [0; 4]), 14);
     }
     for length in [3, 5] {
         assert_eq!(write(&A, 8, &blocks, &mut vec![0; length]), 7);
@@ -183,9 +236,9 @@ fn widths_and_lengths() {
 fn writer() {
     let input = [0x04, 0x02, 0x01, 0x08, 0x01, 0x02, 0x01, 0x01, 0x00];
     let numbers = input.map(u32::from);
-    let p = Parameters { q: numbers[0], m: numbers[1], v: numbers[2], t: [numbers[4], numbers[5], 0, 0] };
+    let p = Parameters::full(numbers[0], numbers[1], numbers[2], [numbers[4], numbers[5], 0, 0]);
     let mut page = [0; 4];
     assert_eq!(write(&p, numbers[3], &input[6..], &mut page), 0);
     assert_eq!(page, [0xC2, 0x01, 0x13, 0x00]);
-    assert_eq!(write(&Parameters { q: 0, m: 0, v: 0, t: [0; 4] }, 0, &[], &mut []), 1);
+    assert_eq!(write(&Parameters::full(0, 0, 0, [0; 4]), 0, &[], &mut []), 1);
 }

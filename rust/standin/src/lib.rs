@@ -1,20 +1,52 @@
 //! The reference behind the C functions: something for the tests to be tried on that can be wrong in a known way.
 //!
-//! GII_FAULT names the fault; unset, there is none. `faults.sh` has the list and asks that the tests find each.
+//! GII_FAULT names the fault; unset, there is none. NAME@s is the fault NAME in calls on shortened sub-words alone.
+//! `faults.sh` has the list and asks that the tests find each.
 
 use reference::calls::BLANK;
 use reference::generator::{Level, odd};
-use reference::layout::{bit, set};
+use reference::layout::{bit, flip, set};
 use reference::parameters::Sheet;
 use reference::{Parameters, calls, generator, linear};
+use std::cell::Cell;
 use std::collections::BTreeSet;
 use std::hint::black_box;
 use std::slice::{from_raw_parts, from_raw_parts_mut};
 use std::sync::OnceLock;
 
+thread_local! {
+    /// Whether the call is on shortened sub-words.
+    static SHORTENED: Cell<bool> = const { Cell::new(false) };
+}
+
 fn fault(name: &str) -> bool {
     static FAULT: OnceLock<String> = OnceLock::new();
-    FAULT.get_or_init(|| std::env::var("GII_FAULT").unwrap_or_default()) == name
+    let given = FAULT.get_or_init(|| std::env::var("GII_FAULT").unwrap_or_default());
+    match given.strip_suffix("@s") {
+        Some(given) => given == name && SHORTENED.get(),
+        None => given == name,
+    }
+}
+
+/// What a call takes its parameters for.
+fn taken(p: Parameters) -> Parameters {
+    SHORTENED.set(p.s > 0);
+    if fault("shortening-modulo-2-16") {
+        return p.shortened(p.s % (1 << 16));
+    }
+    if fault("shortening-modulo-2-8") && p.q < 12 {
+        return p.shortened(p.s % (1 << 8));
+    }
+    if fault("shortening-one-too-few") && p.accepted() && p.s == p.most() {
+        return p.shortened(p.s + 1);
+    }
+    // An s above the greatest that is accepted passes for the greatest.
+    let passes = match p.refusal() {
+        14 if fault("shortening-one-too-many") => p.s == p.most() + 1,
+        14 if fault("shortening-by-level-0") => p.s <= Parameters { v: 0, ..p }.most(),
+        _ => false,
+    };
+    if passes { p.shortened(p.most()) } else { p }
 }
 
 fn refuses(number: u32) -> bool {
@@ -34,76 +66,79 @@ fn sheet_of(p: &Parameters, page: &[u8]) -> Option<Sheet> {
     p.accepted().then(|| Sheet::of(p)).filter(|sheet| page.len() == sheet.page_bytes())
 }
 
-/// The page with its spare bits 0.
-fn cleared(sheet: &Sheet, page: &[u8]) -> Vec<u8> {
+/// The page with some of its spare bits 0: those at these bits of a byte.
+fn cleared(sheet: &Sheet, page: &[u8], bits: impl Fn(usize) -> bool) -> Vec<u8> {
     let mut cleared = page.to_vec();
-    cleared.chunks_mut(sheet.sub_word_bytes()).for_each(|bytes| *bytes.last_mut().unwrap() &= 0x7F);
+    let spare = sheet.spare_places().filter(|&place| bits(place % 8) && bit(page, place));
+    spare.for_each(|place| flip(&mut cleared, place));
     cleared
+}
+
+/// What a call that looks for stray bits takes a page for.
+fn looked_at(p: &Parameters, page: &[u8]) -> Vec<u8> {
+    match sheet_of(p, page) {
+        Some(sheet) if fault("spare-top-bit-only") => cleared(&sheet, page, |bit| bit < 7),
+        _ => page.to_vec(),
+    }
 }
 
 /// Whether judge and read out take a page for blank.
 fn blank(sheet: &Sheet, page: &[u8]) -> bool {
-    let ones =
-        |bytes: &[u8]| bytes[bytes.len() - 1] | 0x80 == 0xFF && bytes[..bytes.len() - 1].iter().all(|&x| x == 0xFF);
-    let mut sub_words = page.chunks(sheet.sub_word_bytes());
+    let ones = |i: usize| (0..sheet.stored()).all(|k| bit(page, sheet.place(i, k)));
     if fault("blank-by-one-sub-word") {
-        return sub_words.any(ones);
+        return (0..sheet.m).any(ones);
     }
     if fault("blank-by-sub-word-0") {
-        return sub_words.next().is_some_and(ones);
+        return ones(0);
     }
     let (erased, clear) = (page.iter().all(|&byte| byte == 0xFF), !sheet.page_stray(page));
     let missed = fault("blank-after-stray") && !clear
         || fault("blank-where-spare-set") && !erased
-        || fault("blank-mixed-missed") && !erased && !clear;
+        || fault("blank-mixed-missed") && !erased && !clear
+        || fault("blank-over-n") && sheet.s > 0
+        || fault("blank-all-but-top-bit") && sheet.spare_places().any(|place| place % 8 < 7 && !bit(page, place));
     sheet.blank(page) && !missed
 }
 
-/// A page with sub-word i turned up by `places(i)` more places, which turns a wrong power of x into the right one.
-fn turned(p: &Parameters, page: &[u8], places: impl Fn(usize) -> usize) -> Vec<u8> {
-    let n = Sheet::of(p).field.n;
-    let mut turned = vec![0; page.len()];
-    for i in 0..p.m as usize {
-        for k in (0..n).filter(|k| bit(page, i * (n + 1) + k)) {
-            set(&mut turned, i * (n + 1) + (k + places(i)) % n);
-        }
-    }
-    turned
-}
-
-/// What nested word l is taken from: the page, altered where the nested word is wrong.
-fn page_for_nested(p: &Parameters, page: &[u8], l: usize) -> Vec<u8> {
-    let sheet = Sheet::of(p);
+/// Nested word l of the sub-words, wrong where the fault is about it.
+fn nested_word(sheet: &Sheet, words: &[Vec<u64>], l: usize) -> Vec<u64> {
     let n = sheet.field.n;
-    if fault("nested-power") {
-        // x^(l(i + 1)) in place of x^(li).
-        return turned(p, page, |_| l);
-    }
-    if fault("nested-sum-of-powers") && l > 0 {
-        // x^(l + i).
-        return turned(p, page, |i| n + l + i - l * i);
-    }
-    if fault("nested-not-turned") {
-        // The top l × i coefficients are dropped.
-        let mut words = sheet.words_of(page);
-        for (i, word) in words.iter_mut().enumerate() {
-            (n - l * i..n).for_each(|k| linear::put(word, k, false));
+    // The place that coefficient k of sub-word i goes to.
+    let place = |i: usize, k: usize| {
+        if fault("nested-power") {
+            return Some((k + l * (i + 1)) % n);
         }
-        let mut kept = vec![0; page.len()];
-        sheet.put_page(&words, &mut kept);
-        return kept;
+        if fault("nested-sum-of-powers") && l > 0 {
+            return Some((k + l + i) % n);
+        }
+        if fault("nested-not-turned") && k + l * i >= n {
+            return None;
+        }
+        if fault("nested-folded") {
+            // At the last stored coefficient.
+            return Some((k + l * i) % sheet.stored());
+        }
+        Some((k + l * i) % n)
+    };
+    let mut sum = vec![0; n.div_ceil(64)];
+    for (i, word) in words.iter().enumerate() {
+        let ones = (0..n).filter(|&k| linear::get(word, k));
+        ones.filter_map(|k| place(i, k)).for_each(|place| linear::flip(&mut sum, place));
     }
-    page.to_vec()
+    sum
 }
 
 fn nested(p: &Parameters, page: &[u8], index: u32, list: &mut [u8]) -> u32 {
-    match calls::nested_syndromes(p, page, index, list) {
-        0 => calls::nested_syndromes(p, &page_for_nested(p, page, index as usize), index, list),
-        number => number,
+    let number = calls::nested_syndromes(p, page, index, list);
+    if number == 0 {
+        let sheet = Sheet::of(p);
+        calls::put_list(&sheet, &nested_word(&sheet, &sheet.words_of(page), index as usize), list);
     }
+    number
 }
 
 fn judge(p: &Parameters, page: &[u8]) -> u32 {
+    let page = &looked_at(p, page)[..];
     if fault("blank-before-page") && p.accepted() && page.iter().all(|&byte| byte == 0xFF) {
         return BLANK;
     }
@@ -155,6 +190,24 @@ fn level_0_only(p: &Parameters, blocks: &[u8], page: &mut [u8]) {
     sheet.put_page(&words, page);
 }
 
+/// Every sub-word shortened by its lowest data bits: the block's bits stand s places higher, and the s places below them,
+/// which are 0, are not stored.
+fn without_low_bits(p: &Parameters, blocks: &[u8], page: &mut [u8]) {
+    let sheet = Sheet::of(p);
+    let (n, s) = (sheet.field.n, sheet.s);
+    let moved = |word: &[u64], from: usize, place: &dyn Fn(usize) -> usize| {
+        let mut moved = vec![0; word.len()];
+        let ones = (0..n).filter(|&k| linear::get(word, k));
+        ones.for_each(|k| linear::flip(&mut moved, if k < from { k } else { place(k) }));
+        moved
+    };
+    let degree = |i: usize| sheet.level(i).degree();
+    let data = sheet.words_of_blocks(blocks).into_iter().map(|word| moved(&word, 0, &|k| k + s)).collect::<Vec<_>>();
+    let words = sheet.encode(&data).into_iter().enumerate();
+    let words = words.map(|(i, word)| moved(&word, degree(i), &|k| k - s)).collect::<Vec<_>>();
+    sheet.put_page(&words, page);
+}
+
 /// Whether write refuses by 13 where it is not to.
 fn ones_refused(p: &Parameters, blocks: &[u8], page: &[u8]) -> bool {
     let Some(sheet) = p.accepted().then(|| Sheet::of(p)).filter(|sheet| blocks.len() == sheet.blocks_bytes()) else {
@@ -166,6 +219,9 @@ fn ones_refused(p: &Parameters, blocks: &[u8], page: &[u8]) -> bool {
     let last = sheet.block_start(sheet.m - 1) + sheet.block_bits(sheet.m - 1) - 1;
     let exact = page.len() == sheet.page_bytes();
     let fits = exact && !sheet.blocks_stray(blocks);
+    if sheet.s > 0 {
+        return fault("ones-refused-shortened") && fits && all_below(last + 1);
+    }
     fault("ones-before-page") && !exact && all_below(last + 1)
         || fault("ones-before-stray") && exact && all_below(last + 1)
         || fault("ones-last-bit-missed") && fits && all_below(last)
@@ -178,6 +234,9 @@ fn write(p: &Parameters, width: u32, blocks: &[u8], page: &mut [u8]) -> u32 {
     }
     if fault("page-before-blocks") && p.accepted() && page.len() != Sheet::of(p).page_bytes() {
         return 7;
+    }
+    if fault("shortening-after-width") && p.refusal() == 14 && !(1..=64).contains(&width) {
+        return 5;
     }
     if (1..=64).contains(&width) && ones_refused(p, blocks, page) {
         return 13;
@@ -207,6 +266,13 @@ fn write(p: &Parameters, width: u32, blocks: &[u8], page: &mut [u8]) -> u32 {
     if fault("data-high") {
         calls::write(p, width, &higher(p, blocks), page);
     }
+    if fault("low-bits-lost") {
+        without_low_bits(p, blocks, page);
+    }
+    if fault("low-spare-bits-left") {
+        let low = |&place: &usize| place % 8 < 7 && bit(&old, place);
+        Sheet::of(p).spare_places().filter(low).for_each(|place| set(page, place));
+    }
     if fault("width-37") && width == 37 {
         page[0] ^= 1;
     }
@@ -232,6 +298,7 @@ fn read_out(p: &Parameters, page: &[u8], blocks: &mut [u8]) -> u32 {
         return BLANK;
     }
     let old = blocks.to_vec();
+    let page = &looked_at(p, page)[..];
     let refused = calls::read_out(p, page, blocks);
     if refuses(refused) {
         return leave(refused, blocks);
@@ -247,10 +314,12 @@ fn read_out(p: &Parameters, page: &[u8], blocks: &mut [u8]) -> u32 {
         return number;
     }
     if let Some(sheet) = erased.filter(|_| fault("blank-spare-bits-left")) {
-        // The bit above the data, where the block's last byte has one, is the spare bit.
-        let (n, bits) = (sheet.field.n, |i: usize| sheet.block_bits(i));
-        for i in (0..sheet.m).filter(|&i| bits(i) % 8 != 0 && bit(page, i * (n + 1) + n)) {
-            set(blocks, sheet.block_start(i) + bits(i));
+        // The bits above the data, as far as the block's last byte has some, are the spare bits.
+        for i in 0..sheet.m {
+            let (start, bits, end) = (sheet.block_start(i), sheet.block_bits(i), sheet.stored());
+            let unused = bits..bits.div_ceil(8) * 8;
+            let spare = (end..end + sheet.spare_bits()).map(|k| bit(page, sheet.place(i, k)));
+            unused.zip(spare).filter(|&(_, one)| one).for_each(|(r, _)| set(blocks, start + r));
         }
     }
     if fault("unused-bits-left") {
@@ -267,9 +336,15 @@ fn read_out(p: &Parameters, page: &[u8], blocks: &mut [u8]) -> u32 {
 
 fn judge_any(p: &Parameters, page: &[u8]) -> u32 {
     if let Some(sheet) = sheet_of(p, page).filter(|_| fault("stray-missed")) {
-        return judge(p, &cleared(&sheet, page));
+        return judge(p, &cleared(&sheet, page, |_| true));
     }
     if fault("clash-missed") && p.refusal() == 4 {
+        return 7;
+    }
+    if fault("shortening-before-clash") && p.refusal() == 4 && p.s > p.most() {
+        return 14;
+    }
+    if fault("full-sub-words") && p.accepted() && page.len() != full_page_bytes(p) {
         return 7;
     }
     judge(p, page)
@@ -279,8 +354,8 @@ fn judge_any(p: &Parameters, page: &[u8]) -> u32 {
 fn page_for_syndromes(p: &Parameters, page: &[u8]) -> Option<Vec<u8>> {
     match sheet_of(p, page).filter(|sheet| sheet.blank(page)) {
         Some(_) if fault("syndromes-say-blank") => None,
-        Some(sheet) if fault("syndromes-of-erased") => Some(cleared(&sheet, page)),
-        _ => Some(page.to_vec()),
+        Some(sheet) if fault("syndromes-of-erased") => Some(cleared(&sheet, page, |_| true)),
+        _ => Some(looked_at(p, page)),
     }
 }
 
@@ -291,6 +366,14 @@ fn syndromes(p: &Parameters, page: &[u8], index: u32, list: &mut [u8]) -> u32 {
     let Some(page) = &page_for_syndromes(p, page) else { return BLANK };
     let old = list.to_vec();
     let number = calls::syndromes(p, page, index, list);
+    if number == 0 && fault("syndromes-from-the-top") {
+        // The stored coefficients are taken for the top ones.
+        let sheet = Sheet::of(p);
+        let mut moved = vec![0; sheet.field.n.div_ceil(64)];
+        let ones = (0..sheet.stored()).filter(|&k| bit(page, sheet.place(index as usize, k)));
+        ones.for_each(|k| linear::flip(&mut moved, k + sheet.s));
+        calls::put_list(&sheet, &moved, list);
+    }
     if number == 0 && fault("high-byte-first") {
         list.chunks_mut(2).for_each(|pair| pair.swap(0, 1));
     }
@@ -314,14 +397,15 @@ fn degree(sheet: &Sheet, level: &Level) -> usize {
     }
     if fault("quote-coset-twice") {
         // The coset of each odd j, counted before or not.
-        let coset = |j: usize| (0..q).map(|s| (j << s) % n).collect::<BTreeSet<_>>().len();
+        let coset = |j: usize| (0..q).map(|e| (j << e) % n).collect::<BTreeSet<_>>().len();
         return odd(level.t).map(coset).sum();
     }
     level.degree()
 }
 
 fn quote(p: &Parameters, list: &mut [u8]) -> u32 {
-    if fault("quote-list-first") && list.len() != calls::QUOTE_BYTES {
+    let cut = list.len() != calls::QUOTE_BYTES;
+    if cut && (fault("quote-list-first") || fault("shortening-after-list") && p.refusal() == 14) {
         return 10;
     }
     let end = if fault("quote-longer-list") { list.len().min(calls::QUOTE_BYTES) } else { list.len() };
@@ -338,7 +422,8 @@ fn quote(p: &Parameters, list: &mut [u8]) -> u32 {
         _ => sheet.level(i),
     };
     let degrees = sheet.levels.iter().map(|level| degree(&sheet, level)).enumerate();
-    let data_bits = (0..sheet.m).map(|i| (4 + i, sheet.field.n.wrapping_sub(degree(&sheet, level(i)))));
+    let stored = if fault("quote-without-s") { sheet.field.n } else { sheet.stored() };
+    let data_bits = (0..sheet.m).map(|i| (4 + i, stored.wrapping_sub(degree(&sheet, level(i)))));
     let numbers: Vec<(usize, usize)> = degrees.chain(data_bits).collect();
     if fault("quote-places-left") {
         list.copy_from_slice(&old);
@@ -349,14 +434,22 @@ fn quote(p: &Parameters, list: &mut [u8]) -> u32 {
     number
 }
 
+/// The bytes of a page of full sub-words.
+fn full_page_bytes(p: &Parameters) -> usize {
+    (p.m << p.q >> 3) as usize
+}
+
 fn page_bytes(p: &Parameters) -> u32 {
-    if fault("size-of-a-clash") && p.refusal() == 4 {
-        return p.m << p.q >> 3;
+    if fault("size-of-a-clash") && p.refusal() == 4 || fault("full-sub-words") && p.accepted() {
+        return full_page_bytes(p) as u32;
     }
     calls::page_bytes(p)
 }
 
 fn data_bytes(p: &Parameters) -> u32 {
+    if fault("data-bytes-without-s") && p.accepted() {
+        return calls::data_bytes(&p.shortened(0));
+    }
     if fault("data-bytes-packed") && p.accepted() {
         // One block behind another bit by bit.
         let sheet = Sheet::of(p);
@@ -366,6 +459,9 @@ fn data_bytes(p: &Parameters) -> u32 {
 }
 
 fn distance(p: &Parameters) -> u32 {
+    if fault("distance-without-14") && p.refusal() == 14 {
+        return calls::distance(&p.shortened(0));
+    }
     if fault("distance-of-one-level") && p.accepted() {
         return 2 * p.t[p.v as usize] + 1;
     }
@@ -380,9 +476,9 @@ macro_rules! exported {
         #[unsafe(no_mangle)]
         #[allow(clippy::too_many_arguments, unused_unsafe)]
         pub unsafe extern "C" fn $name(
-            q: u32, m: u32, v: u32, t0: u32, t1: u32, t2: u32, t3: u32, $($parameter: $kind),*
+            q: u32, m: u32, v: u32, t0: u32, t1: u32, t2: u32, t3: u32, s: u32, $($parameter: $kind),*
         ) -> u32 {
-            unsafe { $call(&Parameters { q, m, v, t: [t0, t1, t2, t3] }, $($argument),*) }
+            unsafe { $call(&taken(Parameters { q, m, v, t: [t0, t1, t2, t3], s }), $($argument),*) }
         }
     )*};
 }

@@ -6,8 +6,10 @@
 //! sample the mean of as many calls as fill about a millisecond; beside it stand the tenth and the ninetieth percentile.
 //! Samples of all rows take turns, so that a disturbance of the machine falls on all. Buffers are not cleared between
 //! calls, and the data are drawn once. The reference keeps its generators and tables between calls, the archive nothing.
+//! Last, write on shortened sub-words in times of write on full ones; ends with status 1 where it is above the limit.
 
 use compare::call::{Call, Name};
+use compare::work::{WIDTHS, stated};
 use reference::Parameters;
 use reference::calls::QUOTE_BYTES;
 use reference::parameters::Sheet;
@@ -17,11 +19,12 @@ use std::time::Instant;
 
 const SAMPLES: usize = 101;
 const SAMPLE_NANOSECONDS: f64 = 1e6;
-const WIDTHS: [u32; 4] = [1, 8, 32, 64];
-const SHEETS: [Parameters; 3] = [
-    Parameters { q: 4, m: 2, v: 1, t: [1, 2, 0, 0] },
-    Parameters { q: 8, m: 4, v: 2, t: [4, 8, 16, 0] },
-    Parameters { q: 12, m: 8, v: 3, t: [28, 32, 39, 58] },
+const SHEETS: [Parameters; 5] = [
+    Parameters::full(4, 2, 1, [1, 2, 0, 0]),
+    Parameters::full(8, 4, 2, [4, 8, 16, 0]),
+    Parameters::full(12, 4, 1, [4, 12, 0, 0]).shortened(3071),
+    Parameters::full(12, 8, 3, [28, 32, 39, 58]).shortened(1900),
+    Parameters::full(12, 8, 3, [28, 32, 39, 58]),
 ];
 
 /// Something that is timed, over and over.
@@ -102,7 +105,8 @@ fn rows() -> Vec<Row> {
 fn sheet_rows(random: &mut Random, p: Parameters) -> Vec<Row> {
     let sheet = Sheet::of(&p);
     let t: Vec<String> = p.t[..=p.v as usize].iter().map(u32::to_string).collect();
-    let title = format!("q {} m {} v {} t {}", p.q, p.m, p.v, t.join(" "));
+    let shortened = if p.s == 0 { String::new() } else { format!(" s {}", p.s) };
+    let title = format!("q {} m {} v {} t {}{shortened}", p.q, p.m, p.v, t.join(" "));
     let mut blocks = vec![0; sheet.blocks_bytes()];
     sheet.put_blocks(&sheet.words_of_blocks(&random.bytes(sheet.blocks_bytes())), &mut blocks);
     let mut page = vec![0; sheet.page_bytes()];
@@ -224,5 +228,11 @@ fn main() {
             }
         }
         std::fs::write(&file, csv).expect("the file can be written");
+    }
+
+    let (line, within) = stated();
+    println!("\n{line}.");
+    if !within {
+        std::process::exit(1);
     }
 }
