@@ -1,7 +1,8 @@
 -- What the sub-words after i add to the rule of sub-word i.
+--   roomBytes p    the room for the sum of a rule: whole words, with 8 bytes above a sub-word
 use mathlib.Core.Path.{_≡_, refl, sym, ap, _∙_}
 use mathlib.Core.List.{List, [], _∷_}
-use Prim.Native.Nat.{ℕ, zero, suc, _+_, _-_, _*_, _%_, _^_, _≤_, _<_}
+use Prim.Native.Nat.{ℕ, zero, suc, _+_, _-_, _*_, _/_, _%_, _^_, _≤_, _<_}
 use native.Mathlib.Nat as Nat
 use native.Mathlib.Omega.{arith}
 use lib.ListN.{length, getD, take, drop, replicate, length-drop}
@@ -57,9 +58,12 @@ module _ (p : Parameters) (page : List ℕ) (i m : ℕ) where
       let e : k ≡ suc i = omega arith in
       rw e at s
 
+abbrev pub roomBytes : Parameters → ℕ
+roomBytes p = (subWordBytes p + 15) / 8 * 8
+
 -- the sum has j bytes, which hold it
 pub carried-fits : (p : Parameters) (A : Accepted p) (page : List ℕ) (i j x₀ x : ℕ) → i < p .v → Bounded 8 page → length page ≡ pageBytes p
-    → j ≡ subWordBytes p + 8
+    → j ≡ roomBytes p
     → x ≡ xor x₀ (weighted i (suc i) (drop (suc i) (wordsOf p page)) % 2 ^ (8 * j))
     → x ≡ xor x₀ (combine (λ k. N k i) (suc i) (drop (suc i) (wordsOf p page)))
 carried-fits p A page i j x₀ x h b e f g =

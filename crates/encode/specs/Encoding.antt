@@ -28,6 +28,7 @@ use Rattle.code.specs.Steps.{checked-eq}
 use Rattle.layout.specs.Parts.{block-at}
 use Rattle.layout.specs.Replaced.{replaced}
 use Rattle.layout.specs.Sizes.{Degrees, bits-all, check-below, level-low}
+use Rattle.encode.specs.Carried.{roomBytes}
 use Rattle.encode.specs.Rule.{placed-room}
 
 pub record Ready (p : Parameters) (w blocks : List ℕ) : Type 0 where
@@ -41,7 +42,7 @@ pub record Writing (p : Parameters) (w blocks page : List ℕ) (width : ℕ) (ac
   pub exact : length page ≡ pageBytes p
   pub low : 1 ≤ width
   pub high : width ≤ 64
-  pub room : length acc ≡ subWordBytes p + 8
+  pub room : length acc ≡ roomBytes p
 
 pub record Making (p : Parameters) (rows : List (List ℕ)) (w blocks page : List ℕ) (width : ℕ) (t acc : List ℕ) : Type 0 where
   pub writing : Writing p w blocks page width acc

@@ -20,6 +20,7 @@ use Rattle.code.specs.Parameters.{Accepted, stored, subWordBytes}
 use Rattle.code.specs.Placement.{encode-at}
 use Rattle.layout.specs.Parts.{page-parts, word-at, word-room}
 use Rattle.layout.specs.Replaced.{replaced, replaced-after, replaced-length, replaced-part}
+use Rattle.encode.specs.Carried.{roomBytes}
 use Rattle.encode.specs.Encoding.{wordOf, written}
 
 pub record Encoded (p : Parameters) (blocks : List ℕ) (i : ℕ) (x : List ℕ) : Type 0 where
@@ -112,7 +113,7 @@ pub record Going (p : Parameters) (blocks : List ℕ) (least most i : ℕ) (x ac
   pub page : Encoded p blocks i x
   pub low : least ≤ i
   pub high : i ≤ most
-  pub room : length acc ≡ subWordBytes p + 8
+  pub room : length acc ≡ roomBytes p
 
 pub going-done : (p : Parameters) (blocks : List ℕ) (least most i : ℕ) (x acc : List ℕ) → Going p blocks least most i x acc → i ≤ least
     → Encoded p blocks least x

@@ -12,6 +12,7 @@ use Rattle.code.specs.Layout.{dataBits}
 use Rattle.code.specs.Parameters.{Accepted, stored, subWordBytes}
 use Rattle.code.specs.Steps.{carried-zero, carried-suc}
 use Rattle.layout.specs.Sizes.{bits-all, check-below}
+use Rattle.encode.specs.Carried.{roomBytes}
 
 -- the sub-words from v on are of level 0, and take nothing from the later ones
 pub level-late : (p : Parameters) (i : ℕ) → p .v ≤ i → level p i ≡ 0
@@ -36,17 +37,17 @@ module _ (p : Parameters) (A : Accepted p) where
   pub placed-room : (d i k : ℕ) → d < 2 ^ dataBits p i → subWordBytes p ≤ k → d * 2 ^ checkBits p i < 2 ^ (8 * k)
   placed-room d i k h l = Nat.lt-of-lt-of-le (placed-lt d i h) (pow-mono (omega (arith, bits-all p A)))
 
-  copied : (x d w i k : ℕ) → w ≡ checkBits p i → k ≡ subWordBytes p + 8 → d < 2 ^ dataBits p i → x ≡ d * 2 ^ w % 2 ^ (8 * k)
+  copied : (x d w i k : ℕ) → w ≡ checkBits p i → k ≡ roomBytes p → d < 2 ^ dataBits p i → x ≡ d * 2 ^ w % 2 ^ (8 * k)
       → x ≡ d * 2 ^ checkBits p i
   copied x d w i k e f h z = z ∙ ap (λ (j : ℕ). d * 2 ^ j % 2 ^ (8 * k)) e ∙ Nat.mod-eq-of-lt (placed-room d i k h (omega arith))
 
-  pub ruled-late : (x d w i k : ℕ) (cs : List ℕ) → w ≡ checkBits p i → k ≡ subWordBytes p + 8 → d < 2 ^ dataBits p i
+  pub ruled-late : (x d w i k : ℕ) (cs : List ℕ) → w ≡ checkBits p i → k ≡ roomBytes p → d < 2 ^ dataBits p i
       → x ≡ d * 2 ^ w % 2 ^ (8 * k) → p .v ≤ i
       → x ≡ xor (d * 2 ^ checkBits p i) (carried (level p i) i cs)
   ruled-late x d w i k cs e f h z l =
       copied x d w i k e f h z ∙ sym (ap (xor (d * 2 ^ checkBits p i)) (carried-late p i cs l) ∙ xor-zero-r (d * 2 ^ checkBits p i))
 
-  pub ruled-early : (y x d w i k : ℕ) (cs : List ℕ) → w ≡ checkBits p i → k ≡ subWordBytes p + 8 → d < 2 ^ dataBits p i
+  pub ruled-early : (y x d w i k : ℕ) (cs : List ℕ) → w ≡ checkBits p i → k ≡ roomBytes p → d < 2 ^ dataBits p i
       → x ≡ d * 2 ^ w % 2 ^ (8 * k) → i < p .v
       → y ≡ xor x (combine (λ k. N k i) (suc i) cs) → y ≡ xor (d * 2 ^ checkBits p i) (carried (level p i) i cs)
   ruled-early y x d w i k cs e f h z l u = u ∙ ap₂ xor (copied x d w i k e f h z) (sym (carried-early p i cs l))

@@ -7,12 +7,21 @@ ghost use Rattle.polynomial.specs.Xor.{xor};
 ghost use Rattle.code.specs.Code.{N, carried, checkBits, combine, degree, level, remainder};
 ghost use Rattle.code.specs.Calls.{generators};
 ghost use Rattle.code.specs.Layout.{dataBits, pageBytes, pageOf, wordsOf};
-ghost use Rattle.code.specs.Parameters.{Accepted, subWordBytes};
+ghost use Rattle.code.specs.Parameters.{Accepted};
 ghost use Rattle.levels.specs.Ready.{Prepared};
+ghost use Rattle.encode.specs.Carried.{roomBytes};
 ghost use Rattle.encode.specs.Horner.{Over, Sums};
 ghost use Rattle.encode.specs.Page.{Encoded};
 ghost use Rattle.encode.specs.Encoding.{Ready, Writing, Making, wordOf, written};
 use code::Parameters;
+
+// The room in which a rule is summed: whole words, with 8 bytes above a sub-word.
+fn room_bytes(p: Parameters) -> usize
+    requires { ⌜ Accepted p ⌝ }
+    ensures { λ r. ⌜ r ≡ roomBytes p ⌝ }
+{
+    (layout::sub_word_bytes(p) + 15) / 8 * 8
+}
 
 // ---- what later sub-words add
 
@@ -52,7 +61,7 @@ fn take_later(a: &mut [u8], b: &mut [u8], c: &mut [u8], p: Parameters, page: &[u
 // The sums that were taken are added into acc, each at its power of x.
 fn add_sums(acc: &mut [u8], p: Parameters, page: &[u8], i: usize, a: &[u8], b: &[u8], c: &[u8])
     requires { ⌜ Accepted p × (length (now page) ≡ pageBytes p) × (i < p .v)
-        × (length (now acc) ≡ subWordBytes p + 8) × (length (now acc) ≤ length (now a))
+        × (length (now acc) ≡ roomBytes p) × (length (now a) ≡ roomBytes p)
         × Sums i (8 * length (now a)) (drop (suc i) (wordsOf p (now page))) (value 8 (now a)) (value 8 (now b)) (value 8 (now c)) ⌝ }
     ensures { λ x. ⌜ value 8 (now (acc .exit)) ≡ xor (value 8 (now (acc .entry)))
         (combine (λ k. N k i) (suc i) (drop (suc i) (wordsOf p (now (page .entry))))) ⌝ }
@@ -70,14 +79,14 @@ fn add_sums(acc: &mut [u8], p: Parameters, page: &[u8], i: usize, a: &[u8], b: &
 
 // What the sub-words after i add to the rule of sub-word i is added into acc: N(k, i) × sub-word k, k above i.
 fn add_carried(acc: &mut [u8], p: Parameters, page: &[u8], i: usize)
-    requires { ⌜ Accepted p × (length (now page) ≡ pageBytes p) × (i < p .v) × (length (now acc) ≡ subWordBytes p + 8) ⌝ }
+    requires { ⌜ Accepted p × (length (now page) ≡ pageBytes p) × (i < p .v) × (length (now acc) ≡ roomBytes p) ⌝ }
     ensures { λ x. ⌜ value 8 (now (acc .exit)) ≡ xor (value 8 (now (acc .entry)))
         (combine (λ k. N k i) (suc i) (drop (suc i) (wordsOf p (now (page .entry))))) ⌝ }
 {
     let mut r0 = [0u8; 520];
     let mut r1 = [0u8; 520];
     let mut r2 = [0u8; 520];
-    let n = (layout::sub_word_bytes(p) + 15) / 8 * 8;
+    let n = room_bytes(p);
     let a = &mut r0[..n];
     let b = &mut r1[..n];
     let c = &mut r2[..n];
@@ -90,7 +99,7 @@ fn add_carried(acc: &mut [u8], p: Parameters, page: &[u8], i: usize)
 // Block i's data s in their places, and what the later sub-words add to the rule of sub-word i.
 fn ruled_into(acc: &mut [u8], p: Parameters, page: &[u8], i: usize, s: &[u8], bits: usize)
     requires { ⌜ Accepted p × (length (now page) ≡ pageBytes p) × (i < p .m) × (bits ≡ checkBits p i)
-        × (length (now acc) ≡ subWordBytes p + 8) × (value 8 (now s) < 2 ^ dataBits p i) ⌝ }
+        × (length (now acc) ≡ roomBytes p) × (value 8 (now s) < 2 ^ dataBits p i) ⌝ }
     ensures { λ x. ⌜ value 8 (now (acc .exit)) ≡ xor (value 8 (now (s .entry)) * 2 ^ checkBits p i)
         (carried (level p i) i (drop (suc i) (wordsOf p (now (page .entry))))) ⌝ }
 {
@@ -232,7 +241,7 @@ pub fn encode(
 {
     let mut table = [0u64; 3073];
     let mut room = [0u8; 520];
-    let k = layout::sub_word_bytes(p) + 8;
+    let k = room_bytes(p);
     let t = &mut table[..3072];
     let acc = &mut room[..k];
     write_later(p, rows, w, blocks, page, width, t, acc);

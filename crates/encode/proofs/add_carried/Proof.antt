@@ -12,20 +12,14 @@ use Rattle.encode.proofs.add_carried.Statement.{statement}
 use Rattle.encode.proofs.add_carried.Tie as tie
 
 -- the rooms suffice
-fit : (c : tie.After-sub-word-bytes) → ((c .sub-word-bytes .result) + 15) / 8 * 8 ≤ 520
-fit c = let s = c .before .before .before in omega (arith, c .sub-word-bytes .ensures, word-high (s .args .p) (s .pre .0))
+fit : (c : tie.After-room-bytes) → c .room-bytes .result ≤ 520
+fit c = let s = c .before .before .before in omega (arith, c .room-bytes .ensures, word-high (s .args .p) (s .pre .0))
 
 size : (n : ℕ) → n ≤ 520 → length {A = ℕ} (take n (replicate 520 0)) ≡ n
 size n h = length-take n (replicate {A = ℕ} 520 0) ∙ Nat.min-eq-left h
 
-sub-word-bytes-requires : tie.Need-sub-word-bytes-requires
-sub-word-bytes-requires c κs = search needs
-
-add-n : tie.Need-add-n
-add-n c = omega (arith, fit c)
-
-mul-n : tie.Need-mul-n
-mul-n c = omega (arith, fit c)
+room-bytes-requires : tie.Need-room-bytes-requires
+room-bytes-requires c κs = search needs
 
 array-borrow-prefix-r0 : tie.Need-array-borrow-prefix-r0
 array-borrow-prefix-r0 c = fit c
@@ -49,9 +43,9 @@ take-later-requires : tie.Need-take-later-requires
 take-later-requires c κs =
     let k = c .before .before .before .before .before .before in
     let s = k .before .before .before in
-    let n = ((k .sub-word-bytes .result) + 15) / 8 * 8 in
+    let n = k .room-bytes .result in
     let e = size n (fit k) in
-    (s .pre .0, s .pre .1, s .pre .2, omega (arith, e), omega (arith, e, fit k), refl, refl, zero-value n 520, zero-value n 520, zero-value n 520)
+    (s .pre .0, s .pre .1, s .pre .2, omega (arith, e, k .room-bytes .ensures), omega (arith, e, fit k), refl, refl, zero-value n 520, zero-value n 520, zero-value n 520)
 
 add-sums-requires : tie.Need-add-sums-requires
 add-sums-requires c κs =
@@ -59,9 +53,9 @@ add-sums-requires c κs =
     let t = d .before in
     let k = t .before .before .before .before .before .before .before in
     let s = k .before .before .before in
-    let n = ((k .sub-word-bytes .result) + 15) / 8 * 8 in
+    let n = k .room-bytes .result in
     let e = d .a .given ∙ size n (fit k) in
-    (s .pre .0, s .pre .1, s .pre .2, s .pre .3, omega (arith, e, s .pre .3, k .sub-word-bytes .ensures), sums-room (s .args .i) _ _ _ _ _ (drop (suc (s .args .i)) (wordsOf (s .args .p) (s .args .page .now))) (sym (d .a .given)) (t .take-later .ensures))
+    (s .pre .0, s .pre .1, s .pre .2, s .pre .3, e ∙ k .room-bytes .ensures, sums-room (s .args .i) _ _ _ _ _ (drop (suc (s .args .i)) (wordsOf (s .args .p) (s .args .page .now))) (sym (d .a .given)) (t .take-later .ensures))
 
 same-length : tie.Need-same-length
 same-length c = search needs
@@ -73,9 +67,7 @@ pub add-carried-spec : {M : Type 1} → statement M
 add-carried-spec =
     tie.close
     (tie.spec
-    sub-word-bytes-requires
-    add-n
-    mul-n
+    room-bytes-requires
     array-borrow-prefix-r0
     slice-aggregate-a
     array-borrow-prefix-r1

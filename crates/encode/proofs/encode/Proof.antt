@@ -1,26 +1,23 @@
 use borrow.Author.Needs.{needs}
-use mathlib.Core.Path.{_≡_, refl, sym, ap, _∙_}
+use mathlib.Core.Path.{_≡_, refl, sym, _∙_}
 use native.Mathlib.Nat as Nat
 use native.Mathlib.Omega.{arith}
-use Prim.Native.Nat.{ℕ, _+_, _≤_}
+use Prim.Native.Nat.{ℕ, _≤_}
 use lib.ListN.{length, take, replicate, length-take}
-use Rattle.code.specs.Parameters.{subWordBytes}
 use Rattle.layout.specs.Sizes.{word-high}
+use Rattle.encode.specs.Carried.{roomBytes}
 use Rattle.encode.proofs.encode.Statement.{statement}
 use Rattle.encode.proofs.encode.Tie as tie
 
 -- the room suffices
-fit : (c : tie.After-sub-word-bytes) → (c .sub-word-bytes .result) + 8 ≤ 520
-fit c = let s = c .before .before .before .before in omega (arith, c .sub-word-bytes .ensures, word-high (s .args .p) (s .pre .0 .accepts))
+fit : (c : tie.After-room-bytes) → c .room-bytes .result ≤ 520
+fit c = let s = c .before .before .before .before in omega (arith, c .room-bytes .ensures, word-high (s .args .p) (s .pre .0 .accepts))
 
-size : (c : tie.After-sub-word-bytes) → length {A = ℕ} (take ((c .sub-word-bytes .result) + 8) (replicate 520 0)) ≡ subWordBytes (c .before .before .before .before .args .p) + 8
-size c = length-take ((c .sub-word-bytes .result) + 8) (replicate {A = ℕ} 520 0) ∙ Nat.min-eq-left (fit c) ∙ ap (λ (j : ℕ). j + 8) (c .sub-word-bytes .ensures)
+size : (c : tie.After-room-bytes) → length {A = ℕ} (take (c .room-bytes .result) (replicate 520 0)) ≡ roomBytes (c .before .before .before .before .args .p)
+size c = length-take (c .room-bytes .result) (replicate {A = ℕ} 520 0) ∙ Nat.min-eq-left (fit c) ∙ c .room-bytes .ensures
 
-sub-word-bytes-requires : tie.Need-sub-word-bytes-requires
-sub-word-bytes-requires c κs = search needs
-
-add-k : tie.Need-add-k
-add-k c = omega (arith, fit c)
+room-bytes-requires : tie.Need-room-bytes-requires
+room-bytes-requires c κs = search needs
 
 array-borrow-prefix-table : tie.Need-array-borrow-prefix-table
 array-borrow-prefix-table c = search needs
@@ -32,7 +29,7 @@ array-borrow-prefix-room : tie.Need-array-borrow-prefix-room
 array-borrow-prefix-room c = fit (c .before)
 
 slice-aggregate-acc : tie.Need-slice-aggregate-acc
-slice-aggregate-acc c = let k = c .before .before in sym (length-take ((k .sub-word-bytes .result) + 8) _ ∙ Nat.min-eq-left (fit k))
+slice-aggregate-acc c = let k = c .before .before in sym (length-take (k .room-bytes .result) _ ∙ Nat.min-eq-left (fit k))
 
 write-later-requires : tie.Need-write-later-requires
 write-later-requires c κs =
@@ -69,8 +66,7 @@ pub encode-spec : {M : Type 1} → statement M
 encode-spec =
     tie.close
     (tie.spec
-    sub-word-bytes-requires
-    add-k
+    room-bytes-requires
     array-borrow-prefix-table
     slice-aggregate-t
     array-borrow-prefix-room
