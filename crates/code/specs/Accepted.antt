@@ -94,7 +94,7 @@ module _ (p : Parameters) where
   abbrev t-v : Bool
   t-v = leb (strength p (p .v)) 64
 
-  s-fits : T (shortFits p) → p .s ≤ len p - degree p (p .v) - 1
+  pub s-fits : T (shortFits p) → p .s ≤ len p - degree p (p .v) - 1
   unfolding shortFits
   s-fits t = go (either (eqb (p .s) 0) (leb (p .s) (len p - degree p (p .v) - 1)) t)
     where

@@ -8,6 +8,7 @@
 --   StoredLaws, WholeLaws, ShortenedLaws   what s leaves out; a sheet with s = 0; a shortened sheet beside the full one
 --   BlankReadLaws, BlankWriteLaws    what read out gives of a blank page, and write of blocks that would make one
 --   QuoteLaws p number   the numbers that the quote gives; QuotedPage p number blocks page: a written page has so many check and data bits
+--   Shortening           which s are refused
 --   Demand3C p           the same of the C calls: WrittenC, ReadOutC, JudgedC, whose answers are numbers, 0 for done and member
 --   BlankC p             blank pages in C: 96 of judge and of read out, 13 of write
 --   QuotedC p            the quote of C, whose numbers are bytes
@@ -39,10 +40,10 @@ use Rattle.code.specs.Code.{nested, newton, remainder, shortRemainder, v
 use Rattle.code.specs.Layout.{Bytes, Fits, IsBlank, IsPage, blockBit, blockSizes, blocksClear, blocksOf, coefficientOf, dataBytes}
 use Rattle.code.specs.Layout.{dataOf, differences, pageBytes, pageClear, pageOf, storedOf, wordsOf}
 use Rattle.code.specs.Lists.{any, countBelow, each, fitsIn, join, onesIn, range, split, sum}
-use Rattle.code.specs.Parameters.{Accepted, full, len, stored, strength, unshortened}
+use Rattle.code.specs.Parameters.{Accepted, full, len, nestedBytes, sheetRefusal, stored, strength, subWordBytes, unshortened}
 use Rattle.code.specs.Refused.{BlocksBuffer, PageBuffer, Width}
 use Rattle.code.specs.Registers.{AllDone, cut, feedings}
-use Rattle.code.specs.Shortened.{fullBits, fullBlocks, fullSizes, lengthened}
+use Rattle.code.specs.Shortened.{fullBits, fullBlocks, fullRefusal, fullSizes, lengthened}
 
 -- ---- demand 2: the field and the generators
 -- the field polynomial has degree q and no factor, and α has order n: no power repeats
@@ -129,8 +130,13 @@ pub record PlacementLaws (p : Parameters) : Type 0 where
       ≡ remainder p (p .v - i)
       (xor (getD (blocksOf p b) i 0 * 2 ^ degree p (p .v - i)) (carried (p .v - i) i (drop (suc i) (wordsOf p (pageOf p b)))))
 
+-- how many coefficients are stored, at which count a register is full, how many bytes a sub-word and a nested word take;
 -- the top s coefficients of a sub-word are 0, and every block has a bit
 pub record StoredLaws (p : Parameters) : Type 0 where
+  pub count : stored p ≡ 2 ^ p .q - 1 - p .s
+  pub full-count : full p ≡ 2 ^ p .q - 1 - p .s
+  pub word-bytes : subWordBytes p ≡ (2 ^ p .q - 1 - p .s + 7) / 8
+  pub nested-bytes : nestedBytes p ≡ 2 ^ p .q / 8
   pub top : (x : List ℕ) → IsPage p x → (i k : ℕ) → i < p .m → len p - p .s ≤ k → coefficient (subWordOf p x i) k ≡ 0
   pub data-bit : (i : ℕ) → i < p .m → 1 ≤ len p - p .s - degree p (p .v - i)
 
@@ -344,6 +350,12 @@ pub record QuotedC (p : Parameters) : Type 0 where
   pub quote-laws : (list after : List ℕ) (k : ℕ) → length list ≡ 24 → QuoteMadeC p list after k → (k ≡ 0) × QuoteLaws p (numberAt after)
   pub quoted-pages : (number : ℕ → ℕ) (L : ℕ) (blocks old after : List ℕ) (r : ℕ) → QuoteLaws p number → Width L → Fits p blocks
       → PageBuffer p old → (¬ IsBlank p (pageOf p blocks)) → WrittenC p L blocks old after r → QuotedPage p number blocks after
+
+-- ---- 14: of the sheets that keep every other rule, those are refused, and with 14, whose s is above n - w_v - 1
+abbrev pub Shortening : Type 0
+Shortening =
+    (p : Parameters) → fullRefusal p ≡ 0
+    → (Accepted p ↔ (p .s ≤ 2 ^ p .q - 1 - degree p (p .v) - 1)) × ((sheetRefusal p ≡ 14) ↔ (2 ^ p .q - 1 - degree p (p .v) - 1 < p .s))
 
 -- ---- both, for every accepted sheet
 abbrev pub Demands : Type 0

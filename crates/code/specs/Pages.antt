@@ -7,13 +7,12 @@ use mathlib.Core.List.{List, [], _∷_, map}
 use Prim.Native.Nat.{ℕ, zero, suc, _+_, _-_, _*_, _/_, _%_, _^_, _≤_, _<_}
 use native.Mathlib.Nat as Nat
 use native.Mathlib.Omega.{arith}
-use lib.Dec.{T, ltb→lt, lt→ltb, lit≤}
+use lib.Dec.{T, ltb→lt, lt→ltb}
 use lib.ListN.{length, replicate, length-replicate, length-map}
 use lib.Pow.{pow-mono, pow-pos}
 use Rattle.polynomial.specs.Division.{xor-lt}
 use Rattle.polynomial.specs.Sums.{All, add, length-add}
 use Rattle.field.specs.Field.{zero-mul}
-use Rattle.field.specs.Fields.{Known, by-known}
 use Rattle.field.specs.Irreducible.{both}
 use Rattle.code.specs.declared.Parameters.{Parameters}
 use Rattle.code.specs.Code as P

@@ -6,27 +6,27 @@ use mathlib.Core.Path.{_≡_, refl, sym, ap, ap₂, _∙_}
 use mathlib.Core.Logic.{_↔_}
 use mathlib.Core.Bool.{Bool, true, not, _||_, cond}
 use mathlib.Core.List.{List, [], _∷_, map}
-use Prim.Native.Nat.{ℕ, zero, suc, _+_, _-_, _*_, _/_, _%_, _^_, _≤_, _<_, zero-le}
+use Prim.Native.Nat.{ℕ, suc, _+_, _-_, _/_, _%_, _^_, _≤_, _<_}
 use native.Mathlib.Nat as Nat
 use native.Mathlib.Omega.{arith}
-use lib.Dec.{eqb, leb}
-use lib.ListN.{length, getD, replicate}
+use lib.Dec.{T, eqb, leb, le→leb, not-T}
+use lib.ListN.{getD, replicate}
 use lib.Pow.{pow-mono}
 use Rattle.polynomial.specs.Bits.{coefficient}
 use Rattle.field.specs.Fields.{Known, by-known}
 use Rattle.code.specs.declared.Parameters.{Parameters}
 use Rattle.code.specs.declared.Verdict.{Verdict}
-use Rattle.code.specs.Accepted.{Rules, accepted}
+use Rattle.code.specs.Accepted.{Rules, accepted, s-fits}
 use Rattle.code.specs.Calls.{pageVerdict}
-use Rattle.code.specs.Chains.{or-assoc, or-last, or-none}
+use Rattle.code.specs.Chains.{off, on, or-assoc, or-last, or-none, or-second, right, unless}
 use Rattle.code.specs.Code.{IsMember, dataWords, degree, encode, gen, nested, verdict}
 use Rattle.code.specs.Encode.{Sized, unshortened-words}
 use Rattle.code.specs.Layout.{Fits, blank, blockBit, blockBits, blockSizes, blocksClear, blocksOf, dataBits}
-use Rattle.code.specs.Layout.{dataOf, pageBytes, pageClear, pageOf, storedOf, wordSizes, wordsOf}
+use Rattle.code.specs.Layout.{dataOf, pageClear, pageOf, wordSizes, wordsOf}
 use Rattle.code.specs.Lists.{_orElse_, _when_, each, fitsIn, join, onesIn, range, split}
 use Rattle.code.specs.Pages.{IsBlocks, blockBits-eq, blockSizes-eq, blocks-blocks, blocks-fit, blocks-join, blocksClear-eq}
 use Rattle.code.specs.Pages.{blocksOf-eq, dataOf-eq, page-has, pageClear-eq, pageOf-eq, storedOf-eq, wordsOf-eq}
-use Rattle.code.specs.Parameters.{Accepted, clashes, fieldKnown, full, len, shapeFits, sheetRefusal, shortFits, stored, strengthsFit}
+use Rattle.code.specs.Parameters.{Accepted, clashes, fieldKnown, len, shapeFits, sheetRefusal, shortFits, stored, strengthsFit}
 use Rattle.code.specs.Parameters.{subWordBytes, unshortened}
 use Rattle.code.specs.Placement.{beyond, block-bit, sized-at}
 
@@ -64,6 +64,30 @@ refusal-links p =
 
     c14 : ℕ
     c14 = 14 when not (shortFits p)
+
+-- ---- 14
+module _ (p : Parameters) (z : fullRefusal p ≡ 0) where
+  abbrev most : ℕ
+  most = len p - degree p (p .v) - 1
+
+  short-link : sheetRefusal p ≡ (14 when not (shortFits p))
+  short-link = refusal-links p ∙ or-second (fullRefusal p) (14 when not (shortFits p)) z
+
+  fits-from : p .s ≤ most → T (shortFits p)
+  unfolding shortFits
+  fits-from h = right (eqb (p .s) 0) (leb (p .s) most) (le→leb (p .s) most h)
+
+  pub short-accepted : Accepted p ↔ (p .s ≤ most)
+  short-accepted = (
+    (λ A. s-fits p (unless 13 (shortFits p) (sym short-link ∙ A))),
+    (λ h. short-link ∙ off 14 (shortFits p) (fits-from h)),
+  )
+
+  pub short-refused : (sheetRefusal p ≡ 14) ↔ (most < p .s)
+  short-refused = (
+    (λ e. Nat.lt-of-not-le (λ h. Nat.suc-ne-zero 13 (sym e ∙ short-accepted .1 h))),
+    (λ l. short-link ∙ on 14 (not (shortFits p)) (not-T (shortFits p) (λ t. Nat.lt-irrefl most (Nat.lt-of-lt-of-le l (s-fits p t))))),
+  )
 
 eighths : (q : ℕ) → Known q → (2 ^ q - 1 + 7) / 8 ≡ 2 ^ q / 8
 eighths = by-known (λ q. (2 ^ q - 1 + 7) / 8 ≡ 2 ^ q / 8) refl refl refl

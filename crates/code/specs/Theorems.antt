@@ -34,7 +34,7 @@ use Rattle.code.specs.Code.{IsMember, checkBits, degree, distance, gen, 
 use Rattle.code.specs.Degrees.{degree-exact}
 use Rattle.code.specs.Demands.{Alike, BlankReadLaws, BlankWriteLaws, BufferLaws, Demand2, Demand3, Demands, GeneratorLaws, GeneratorOf}
 use Rattle.code.specs.Demands.{JudgeLaws, QuoteLaws, QuotedPage, RegisterLaws, Rewrites, ShortLaws, ShortenedLaws, Smallest}
-use Rattle.code.specs.Demands.{StoredLaws, Sums, Vanishes, WholeLaws, WriteLaws}
+use Rattle.code.specs.Demands.{Shortening, StoredLaws, Sums, Vanishes, WholeLaws, WriteLaws}
 use Rattle.code.specs.Distance.{Passing, least-few, least-many}
 use Rattle.code.specs.Encode.{N-above, encode-member, member-encode}
 use Rattle.code.specs.Judge.{member-passing, multiple-iff, passing-member, verdict-member, verdict-nested, verdict-sub}
@@ -53,7 +53,7 @@ use Rattle.code.specs.Refused.{BlocksBuffer, PageBuffer, Width, blank-ju
 use Rattle.code.specs.Refused.{page-judgeable, read-leaves, verdict-blank, verdict-else, write-alike, write-done, write-keeps}
 use Rattle.code.specs.Refused.{write-13, write-leaves, write-refused}
 use Rattle.code.specs.Registers.{cut, fed-done, fed-holds, feedings, holding, opened-empty, register-back}
-use Rattle.code.specs.Shortened.{lengthened-fits, lengthened-keeps, lengthened-zero, same-degree, same-members, same-words}
+use Rattle.code.specs.Shortened.{lengthened-fits, lengthened-keeps, lengthened-zero, same-degree, same-members, same-words, short-accepted, short-refused}
 use Rattle.code.specs.Shortened.{unshortened-accepted, whole, whole-blocks, whole-bytes, whole-clear, whole-data}
 use Rattle.code.specs.Shortened.{whole-page, whole-unused, whole-verdict}
 use Rattle.code.specs.Steps.{Divides, degree-eq, gen-eq}
@@ -173,6 +173,10 @@ module _ (p : Parameters) (A : Accepted p) where
   -- ---- shortened sheets
   stored-are : StoredLaws p
   stored-are = record {
+    count = refl;
+    full-count = refl;
+    word-bytes = refl;
+    nested-bytes = refl;
     top = λ x h i k l b. beyond (subWordOf p x i) (stored p) k
         (all-at (λ c. c < 2 ^ stored p) (wordsOf p x) (page-words p R x h .below) i (rw (page-words p R x h .many) l)) b;
     data-bit = λ i l. omega (arith, stored-room p R (p .v - i) (Nat.sub-le (p .v) i));
@@ -495,6 +499,9 @@ module _ (p : Parameters) (A : Accepted p) where
 
   pub demand3 : Demand3 p
   demand3 = record { alike = alike; sums = sums; rewrites = rewrites; apart = apart; smallest = smallest p }
+
+pub shortening : Shortening
+shortening p z = (short-accepted p z, short-refused p z)
 
 pub demands : Demands
 demands p A = (demand2 p A, demand3 p A)

@@ -1,7 +1,7 @@
 -- The row of a generator holds it, and its degree is that of the row's polynomial.
 use mathlib.Core.Path.{_≡_, ap, _∙_}
 use mathlib.Core.List.{List}
-use Prim.Native.Nat.{ℕ, suc, _*_, _≤_, _<_, min, suc-le-suc}
+use Prim.Native.Nat.{ℕ, _*_, _≤_, _<_, suc-le-suc}
 use native.Mathlib.Nat as Nat
 use native.Mathlib.Omega.{arith}
 use lib.Dec.{lit≤}

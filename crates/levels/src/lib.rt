@@ -1,6 +1,6 @@
 // The levels of a sheet: their generators, read from the constant tables, their degrees, and tables for remainders.
 ghost use mathlib.Core.Path.{_≡_};
-ghost use Prim.Native.Nat.{_+_, _*_, _≤_};
+ghost use Prim.Native.Nat.{_+_, _≤_};
 ghost use lib.ListN.{length};
 ghost use Rattle.code.specs.Calls.{generators};
 ghost use Rattle.code.specs.Parameters.{Accepted};

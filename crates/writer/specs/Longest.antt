@@ -85,7 +85,7 @@ module _ (p : Parameters) (A : Accepted p) where
       go : Dec (i < p .v) → blockOffset p i + (dataBits p i + 7) / 8 + 2 * (i + 1 - (i + 1 - p .v)) ≤ (i + 1) * 511
       go (yes b) = one-first (blockOffset p i) ((dataBits p i + 7) / 8) i (p .v) l (block-first i b) b
       go (no n) =
-          one-more (blockOffset p i) ((dataBits p i + 7) / 8) i (p .v) l (block-all i) (Nat.le-of-suc-le-suc (Nat.lt-of-not-le (λ k. n k)))
+          let b : p .v ≤ i = Nat.le-of-suc-le-suc (Nat.lt-of-not-le (λ k. n k)) in one-more (blockOffset p i) ((dataBits p i + 7) / 8) i (p .v) l (block-all i) b
 
   offset-most : (i : ℕ) → i ≤ p .m → blockOffset p i + 2 * (i - (i - p .v)) ≤ i * 511
   offset-most zero h = omega (arith, offset-zero p)
