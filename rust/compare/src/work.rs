@@ -15,6 +15,9 @@ pub const WIDTHS: [u32; 4] = [1, 8, 32, 64];
 /// Shortened by S, write may take so much of its time on full sub-words.
 pub const LIMIT: f64 = 0.7;
 
+/// And so much in the gate, which runs on machines of other speeds and beside other work.
+pub const GATE_LIMIT: f64 = 0.8;
+
 const ROUNDS: usize = 300;
 const TIME: Duration = Duration::from_millis(300);
 
@@ -41,8 +44,8 @@ pub fn shortened_to_full(width: u32) -> f64 {
     shortened.as_secs_f64() / full.as_secs_f64()
 }
 
-/// The ratios at some widths in words, and whether each is within the limit.
-pub fn stated() -> (String, bool) {
+/// The ratios at some widths in words, and the greatest of them.
+pub fn stated() -> (String, f64) {
     let ratios = WIDTHS.map(|width| (width, shortened_to_full(width)));
     let each: Vec<String> = ratios.iter().map(|(width, ratio)| format!("{ratio:.2} at width {width}")).collect();
     let Parameters { q, m, v, t, .. } = FULL;
@@ -51,5 +54,5 @@ pub fn stated() -> (String, bool) {
         t.map(|t| t.to_string()).join(" "),
         each.join(", ")
     );
-    (line, ratios.iter().all(|&(_, ratio)| ratio <= LIMIT))
+    (line, ratios.iter().fold(0.0, |most, &(_, ratio)| ratio.max(most)))
 }

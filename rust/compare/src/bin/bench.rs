@@ -9,7 +9,7 @@
 //! Last, write on shortened sub-words in times of write on full ones; ends with status 1 where it is above the limit.
 
 use compare::call::{Call, Name};
-use compare::work::{WIDTHS, stated};
+use compare::work::{LIMIT, WIDTHS, stated};
 use reference::Parameters;
 use reference::calls::QUOTE_BYTES;
 use reference::parameters::Sheet;
@@ -230,9 +230,9 @@ fn main() {
         std::fs::write(&file, csv).expect("the file can be written");
     }
 
-    let (line, within) = stated();
+    let (line, most) = stated();
     println!("\n{line}.");
-    if !within {
+    if most > LIMIT {
         std::process::exit(1);
     }
 }
