@@ -4,6 +4,7 @@ use mathlib.Core.Path.{_≡_, refl, sym, ap, _∙_}
 use mathlib.Core.Bool.{Bool, true, false, not, _&&_}
 use mathlib.Core.List.{List}
 use Prim.Native.Nat.{ℕ, _^_, _<_}
+use native.Mathlib.Nat as Nat
 use lib.Dec.{T, eqb}
 use lib.ListN.{length, getD}
 use borrow.Author.Tests.{eq-eqb, ne-eqb, not-true, not-false}
@@ -19,8 +20,8 @@ use Rattle.code.specs.Refusals.{badWidth, notExact, writeRefusal}
 use Rattle.code.specs.Refused.{Width, width-of, write-links}
 
 -- ---- a blank page is made at s = 0 only
-pub ones-short : (s : ℕ) (b : Bool) → (s ≡ 0 → ⊥) → false ≡ (eqb s 0 && b)
-ones-short s b h = sym (simp (ne-eqb s 0 h))
+pub ones-short : (s : ℕ) (b : Bool) → 0 < s → false ≡ (eqb s 0 && b)
+ones-short s b h = sym (simp (ne-eqb s 0 (λ e. Nat.lt-irrefl 0 (rw e at h))))
 
 pub ones-whole : (s : ℕ) (b c : Bool) → s ≡ 0 → c ≡ b → c ≡ (eqb s 0 && b)
 ones-whole s b c e f = f ∙ rw e refl

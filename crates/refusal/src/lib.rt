@@ -86,7 +86,7 @@ fn page_ones(p: Parameters, w: &[u32], blocks: &[u8]) -> bool
     requires { ⌜ Accepted p × Degrees p (now w) × (length (now blocks) ≡ dataBytes p) ⌝ }
     ensures { λ r. ⌜ r ≡ (eqb (p .s) 0 && blocksFull p (now (blocks .entry))) ⌝ }
 {
-    if p.s != 0 {
+    if 0 < p.s {
         return false;
     }
     layout::blocks_full(p, w, blocks)
