@@ -142,6 +142,10 @@ module _ (p : Parameters) where
       let d = or-none (4 when clashes p) (14 when not (shortFits p)) (c .1) in
       rules (a .0) (b .0) (c .0) (last 3 (clashes p) (d .0)) (unless 13 (shortFits p) (d .1))
 
+-- at s = 0 all coefficients are stored
+pub stored-whole : (p : Parameters) → p .s ≡ 0 → stored p ≡ len p
+stored-whole p e = ap (λ (s : ℕ). len p - s) e ∙ Nat.sub-zero (len p)
+
 pub q-high : (q : ℕ) → Known q → q ≤ 12
 q-high = by-known (λ q. q ≤ 12) (lit≤ tt) (lit≤ tt) (lit≤ tt)
 

@@ -19,7 +19,7 @@ use Rattle.field.specs.Field.{Field2, add-eq-zero, add-self, mul-comm, mul-eq-z
 use Rattle.field.specs.Fields.{fieldOf}
 use Rattle.field.specs.Irreducible.{both}
 use Rattle.code.specs.declared.Parameters.{Parameters}
-use Rattle.code.specs.Accepted.{Rules, lawful, stored-room}
+use Rattle.code.specs.Accepted.{Rules, lawful, stored-room, stored-whole}
 use Rattle.code.specs.Chains.{both-ways}
 use Rattle.code.specs.Code.{checkBits, encode}
 use Rattle.code.specs.Distance.{Passing, eval-nested-root, root-unity}
@@ -230,13 +230,10 @@ module _ (p : Parameters) (R : Rules p) where
       (ap (λ (cs : List ℕ). getD cs i 0) (words-join p R onesWords ones-words) ∙ getD-replicate (p .m) i (ones (stored p)) 0 l)
       ∙ ones-coefficient (stored p) k b
 
-  whole : p .s ≡ 0 → stored p ≡ len p
-  whole e = ap (λ (s : ℕ). len p - s) e ∙ Nat.sub-zero (len p)
-
   ones-written : p .s ≡ 0 → pageOf p (dataOf p onesPage) ≡ onesPage
   ones-written e =
       again-to p R onesPage ones-page (member-encode (fieldOf (p .q) .field) (fieldOf (p .q) .α) p (lawful p R) (wordsOf p onesPage) .0
-      (rw (words-join p R onesWords ones-words, whole e) (ones-pass (fieldOf (p .q) .field) (fieldOf (p .q) .α) p (lawful p R) (p .m))))
+      (rw (words-join p R onesWords ones-words, stored-whole p e) (ones-pass (fieldOf (p .q) .field) (fieldOf (p .q) .α) p (lawful p R) (p .m))))
 
   -- ---- the blocks whose page would be blank: at s = 0 those whose data bits are all 1, else none
   module _ (a : List ℕ) (h : Fits p a) where

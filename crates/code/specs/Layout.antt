@@ -25,7 +25,7 @@ use Rattle.code.specs.Lists.{range, sum, split, join, each, fitsIn, ones
 use Rattle.code.specs.Parameters.{stored, subWordBytes}
 use Rattle.code.specs.Code.{degree, checkBits, encode, dataWords}
 
--- ---- pages: m sub-words of 2^q / 8 bytes, the stored coefficients and above them spare bits
+-- ---- pages: m sub-words of (n - s + 7) / 8 bytes, the stored coefficients and above them 0 to 7 spare bits
 abbrev pub wordSizes : Parameters → List ℕ
 wordSizes p = replicate (p .m) (subWordBytes p)
 

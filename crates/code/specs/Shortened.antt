@@ -1,4 +1,5 @@
 -- Shortened sheets beside the full one, which has s = 0.
+--   fullRefusal p      the refusal of the parameters by the rules but for s
 --   fullSizes p        at s = 0: the bytes of each sub-word
 --   fullBits p         at s = 0: the data bits of each block; fullBlocks p its bytes
 --   lengthened p b     blocks of the full sheet: those of b, with s zeros above each
@@ -16,7 +17,7 @@ use Rattle.polynomial.specs.Bits.{coefficient}
 use Rattle.field.specs.Fields.{Known, by-known}
 use Rattle.code.specs.declared.Parameters.{Parameters}
 use Rattle.code.specs.declared.Verdict.{Verdict}
-use Rattle.code.specs.Accepted.{Rules, accepted, s-fits}
+use Rattle.code.specs.Accepted.{Rules, accepted, s-fits, stored-whole}
 use Rattle.code.specs.Calls.{pageVerdict}
 use Rattle.code.specs.Chains.{off, on, or-assoc, or-last, or-none, or-second, right, unless}
 use Rattle.code.specs.Code.{IsMember, dataWords, degree, encode, gen, nested, verdict}
@@ -93,9 +94,6 @@ eighths : (q : ℕ) → Known q → (2 ^ q - 1 + 7) / 8 ≡ 2 ^ q / 8
 eighths = by-known (λ q. (2 ^ q - 1 + 7) / 8 ≡ 2 ^ q / 8) refl refl refl
 
 module _ (p : Parameters) (e : p .s ≡ 0) where
-  pub whole : stored p ≡ len p
-  whole = ap (λ (s : ℕ). len p - s) e ∙ Nat.sub-zero (len p)
-
   passes : shortFits p ≡ true
   unfolding shortFits
   passes = ap (λ (s : ℕ). eqb s 0 || leb s (len p - degree p (p .v) - 1)) e
@@ -104,7 +102,7 @@ module _ (p : Parameters) (e : p .s ≡ 0) where
   whole-refusal = refusal-links p ∙ ap (λ (b : Bool). fullRefusal p orElse 14 when not b) passes ∙ or-last (fullRefusal p)
 
   pub whole-bits : blockBits p ≡ fullBits p
-  whole-bits = blockBits-eq p ∙ ap (λ (z : ℕ). map (λ i. z - degree p (p .v - i)) (range 0 (p .m))) whole
+  whole-bits = blockBits-eq p ∙ ap (λ (z : ℕ). map (λ i. z - degree p (p .v - i)) (range 0 (p .m))) (stored-whole p e)
 
   pub whole-blocks : blockSizes p ≡ fullBlocks p
   whole-blocks = blockSizes-eq p ∙ ap (map (λ b. (b + 7) / 8)) whole-bits
@@ -114,7 +112,7 @@ module _ (p : Parameters) (e : p .s ≡ 0) where
 
   module _ (k : Known (p .q)) where
     pub whole-bytes : subWordBytes p ≡ 2 ^ p .q / 8
-    whole-bytes = ap (λ (z : ℕ). (z + 7) / 8) whole ∙ eighths (p .q) k
+    whole-bytes = ap (λ (z : ℕ). (z + 7) / 8) (stored-whole p e) ∙ eighths (p .q) k
 
     sizes : wordSizes p ≡ fullSizes p
     sizes = ap (replicate (p .m)) whole-bytes
@@ -123,11 +121,11 @@ module _ (p : Parameters) (e : p .s ≡ 0) where
     whole-words x = wordsOf-eq p x ∙ ap (λ (l : List ℕ). split l x) sizes
 
     pub whole-clear : (x : List ℕ) → pageClear p x ≡ each fitsIn (replicate (p .m) (len p)) (split (fullSizes p) x)
-    whole-clear x = pageClear-eq p x ∙ ap₂ (each fitsIn) (ap (replicate (p .m)) whole) (whole-words x)
+    whole-clear x = pageClear-eq p x ∙ ap₂ (each fitsIn) (ap (replicate (p .m)) (stored-whole p e)) (whole-words x)
 
     whole-blank : (x : List ℕ) → blank p x ≡ each onesIn (replicate (p .m) (len p)) (split (fullSizes p) x)
     unfolding blank
-    whole-blank x = ap₂ (each onesIn) (ap (replicate (p .m)) whole) (whole-words x)
+    whole-blank x = ap₂ (each onesIn) (ap (replicate (p .m)) (stored-whole p e)) (whole-words x)
 
     pub whole-verdict : (x : List ℕ)
         → pageVerdict p x
@@ -142,7 +140,7 @@ module _ (p : Parameters) (e : p .s ≡ 0) where
     whole-data x =
         dataOf-eq p x
         ∙ ap₂ join whole-blocks
-        (ap (dataWords p) (storedOf-eq p x ∙ ap₂ (λ (z : ℕ) (l : List ℕ). map (λ c. c % 2 ^ z) l) whole (whole-words x)))
+        (ap (dataWords p) (storedOf-eq p x ∙ ap₂ (λ (z : ℕ) (l : List ℕ). map (λ c. c % 2 ^ z) l) (stored-whole p e) (whole-words x)))
 
 -- ---- at any s
 pub unshortened-refusal : (p : Parameters) → sheetRefusal (unshortened p) ≡ fullRefusal p

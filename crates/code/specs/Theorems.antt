@@ -24,7 +24,7 @@ use Rattle.code.specs.declared.Verdict.{Verdict}
 use Rattle.code.specs.Register.{Register}
 use Rattle.generator.specs.Generator as G
 use Rattle.code.specs.Answers.{read-as-judge}
-use Rattle.code.specs.Accepted.{Rules, accepted, degree-le, degree-of, lawful, n-is, q-high, stored-le, stored-room, width-below}
+use Rattle.code.specs.Accepted.{Rules, accepted, degree-le, degree-of, lawful, n-is, q-high, stored-le, stored-room, stored-whole, width-below}
 use Rattle.code.specs.Blank.{blank-iff, blank-stays, page-ones}
 use Rattle.code.specs.Buffers.{bytes-at, divides-up, divisor-deg, divisor-degree, divisor-times, length-syndromes}
 use Rattle.code.specs.Buffers.{nested-back, remainder-back, row-back, short-back, short-differ, short-lt, syndromes-at}
@@ -54,7 +54,7 @@ use Rattle.code.specs.Refused.{page-judgeable, read-leaves, verdict-blan
 use Rattle.code.specs.Refused.{write-13, write-leaves, write-refused}
 use Rattle.code.specs.Registers.{cut, fed-done, fed-holds, feedings, holding, opened-empty, register-back}
 use Rattle.code.specs.Shortened.{lengthened-fits, lengthened-keeps, lengthened-zero, same-degree, same-members, same-words, short-accepted, short-refused}
-use Rattle.code.specs.Shortened.{unshortened-accepted, whole, whole-blocks, whole-bytes, whole-clear, whole-data}
+use Rattle.code.specs.Shortened.{unshortened-accepted, whole-blocks, whole-bytes, whole-clear, whole-data}
 use Rattle.code.specs.Shortened.{whole-page, whole-unused, whole-verdict}
 use Rattle.code.specs.Steps.{Divides, degree-eq, gen-eq}
 
@@ -186,7 +186,7 @@ module _ (p : Parameters) (A : Accepted p) where
   wholes-are e = record {
     page-bytes = ap (λ (b : ℕ). p .m * b) (whole-bytes p e (R .known));
     data-bytes = dataBytes-eq p ∙ ap sum (whole-blocks p e);
-    full-count = whole p e;
+    full-count = stored-whole p e;
     spare = whole-clear p e (R .known);
     unused = whole-unused p e;
     page = whole-page p e (R .known);
