@@ -27,7 +27,7 @@ use Rattle.code.specs.Layout.{dataOf, pageClear, pageOf, wordSizes, word
 use Rattle.code.specs.Lists.{_orElse_, _when_, each, fitsIn, join, onesIn, range, split}
 use Rattle.code.specs.Pages.{IsBlocks, blockBits-eq, blockSizes-eq, blocks-blocks, blocks-fit, blocks-join, blocksClear-eq}
 use Rattle.code.specs.Pages.{blocksOf-eq, dataOf-eq, page-has, pageClear-eq, pageOf-eq, storedOf-eq, wordsOf-eq}
-use Rattle.code.specs.Parameters.{Accepted, clashes, fieldKnown, len, shapeFits, sheetRefusal, shortFits, stored, strengthsFit}
+use Rattle.code.specs.Parameters.{Accepted, clashes, fieldKnown, len, shapeFits, sheetRefusal, shortFits, strengthsFit}
 use Rattle.code.specs.Parameters.{subWordBytes, unshortened}
 use Rattle.code.specs.Placement.{beyond, block-bit, sized-at}
 
