@@ -236,6 +236,10 @@ pub record Demand2 (p : Parameters) : Type 0 where
   -- the full sheet is accepted too, and has the same members
   pub full-sheet : Accepted (unshortened p) × ((cs : List ℕ) → IsMember p cs ↔ IsMember (unshortened p) cs)
   pub shortened-laws : (b : List ℕ) → Fits p b → ShortenedLaws p b
+  -- and each block set of the full sheet whose blocks end in s zeros is one of these
+  pub shortened-all : (f : List ℕ) → Fits (unshortened p) f
+      → ((i r : ℕ) → i < p .m → stored p - degree p (p .v - i) ≤ r → r < len p - degree p (p .v - i) → blockBit (unshortened p) f i r ≡ 0)
+      → (b : List ℕ) × Fits p b × (lengthened p b ≡ f)
   -- bytes of a page's length are judged blank exactly when every coefficient is 1, whatever the spare bits
   pub blank-laws : (x : List ℕ) (r : Verdict) → Bytes x → PageBuffer p x → Judged p x r → (r ≡ Verdict.Blank) ↔ IsBlank p x
   pub blank-read-laws : (x old out : List ℕ) (r : Verdict) → Bytes x → PageBuffer p x → BlocksBuffer p old → ReadOut p x old out r

@@ -1,6 +1,7 @@
 -- Placement, literally over bytes: where a sub-word's coefficients, a block's bits and the check bits stand.
 -- Blocks that fit are known by their bits, and any bits are blocks that fit.
 use mathlib.Core.Path.{_≡_, refl, sym, ap, _∙_}
+use mathlib.Core.Bool.{Bool, true, false}
 use mathlib.Core.List.{List, [], _∷_, _++_, map}
 use mathlib.Core.Logic.{_⊎_, inl, inr}
 use Prim.Native.Nat.{ℕ, zero, suc, _+_, _-_, _*_, _/_, _%_, _^_, _≤_, _<_, zero-le, suc-le-suc}
@@ -8,9 +9,11 @@ use native.Mathlib.Nat as Nat
 use native.Mathlib.Omega.{arith}
 use lib.Arith.{lt-one}
 use lib.Bits as Bits
+use lib.Dec.{ltb}
 use lib.ListN.{length, getD, set, take, drop, replicate, List·getD-append, getD-replicate}
-use lib.Pow.{pow-mono, shr-shr}
+use lib.Pow.{pow-mono, pow-pos, shr-shr}
 use lib.Seq.{ext-getD, getD-take, getD-drop, getD-append-add, getD-set-same, getD-set-other}
+use borrow.Author.Tests.{ltb-true, ltb-false}
 use Rattle.polynomial.specs.Bits.{coefficient, half-lt}
 use Rattle.polynomial.specs.Digits.{digits, digits-coefficient, length-digits, low-coefficient, value-coefficient}
 use Rattle.polynomial.specs.Division.{shr-half}
@@ -232,13 +235,23 @@ same-bits (suc d) a b h l f =
     by-half : a / 2 ≡ b / 2 → a % 2 ≡ b % 2 → a ≡ b
     by-half x y = omega arith
 
+-- a number whose bits from z on are 0 is one of z bits
+pub low-only : (z d x : ℕ) → x < 2 ^ d → ((r : ℕ) → z ≤ r → r < d → coefficient x r ≡ 0) → x < 2 ^ z
+low-only z d x h f =
+    let low : x % 2 ^ z < 2 ^ z = Nat.mod-lt x (pow-pos z) in
+    rw (← same-bits d x (x % 2 ^ z) h (Nat.lt-of-le-of-lt (Nat.mod-le x (2 ^ z)) h) (λ r l. go r l low (ltb r z) refl)) at low
+  where
+    go : (r : ℕ) → r < d → x % 2 ^ z < 2 ^ z → (b : Bool) → ltb r z ≡ b → coefficient x r ≡ coefficient (x % 2 ^ z) r
+    go r l m true e = sym (low-coefficient z x r (ltb-true r z e))
+    go r l m false e = let k : z ≤ r = ltb-false r z e in f r k l ∙ sym (beyond (x % 2 ^ z) z r m k)
+
 -- ---- blocks as numbers
 pub sized-at : (p : Parameters) (k : ℕ) (ds : List ℕ) → Sized p k ds → (i : ℕ) → i < length ds → getD ds i 0 < 2 ^ dataBits p (k + i)
 sized-at p k [] h i l = absurd (Nat.not-suc-le-zero l)
 sized-at p k (d ∷ ds) h zero l = rw (Nat.add-zero k) (h .0)
 sized-at p k (d ∷ ds) h (suc i) l = rw (Nat.add-suc k i, ← Nat.suc-add k i) (sized-at p (suc k) ds (h .1) i (Nat.le-of-suc-le-suc l))
 
-at-sized : (p : Parameters) (k : ℕ) (ds : List ℕ) → ((i : ℕ) → i < length ds → getD ds i 0 < 2 ^ dataBits p (k + i)) → Sized p k ds
+pub at-sized : (p : Parameters) (k : ℕ) (ds : List ℕ) → ((i : ℕ) → i < length ds → getD ds i 0 < 2 ^ dataBits p (k + i)) → Sized p k ds
 at-sized p k [] h = tt
 at-sized p k (d ∷ ds) h = (
   rw (Nat.add-zero k) at (h 0 (suc-le-suc zero-le)),

@@ -25,11 +25,11 @@ use Rattle.code.specs.Encode.{Sized, unshortened-words}
 use Rattle.code.specs.Layout.{Fits, blank, blockBit, blockBits, blockSizes, blocksClear, blocksOf, dataBits}
 use Rattle.code.specs.Layout.{dataOf, pageClear, pageOf, wordSizes, wordsOf}
 use Rattle.code.specs.Lists.{_orElse_, _when_, each, fitsIn, join, onesIn, range, split}
-use Rattle.code.specs.Pages.{IsBlocks, blockBits-eq, blockSizes-eq, blocks-blocks, blocks-fit, blocks-join, blocksClear-eq}
+use Rattle.code.specs.Pages.{IsBlocks, blockBits-eq, blockSizes-eq, blocks-blocks, blocks-fit, blocks-join, blocksClear-eq, join-blocks}
 use Rattle.code.specs.Pages.{blocksOf-eq, dataOf-eq, page-has, pageClear-eq, pageOf-eq, storedOf-eq, wordsOf-eq}
 use Rattle.code.specs.Parameters.{Accepted, clashes, fieldKnown, len, shapeFits, sheetRefusal, shortFits, strengthsFit}
 use Rattle.code.specs.Parameters.{subWordBytes, unshortened}
-use Rattle.code.specs.Placement.{beyond, block-bit, sized-at}
+use Rattle.code.specs.Placement.{at-sized, beyond, block-bit, low-only, sized-at}
 
 -- ---- at s = 0
 abbrev pub fullSizes : Parameters → List ℕ
@@ -169,6 +169,9 @@ sized-up : (p : Parameters) (i : ℕ) (ds : List ℕ) → Sized p i ds → Sized
 sized-up p i [] h = tt
 sized-up p i (d ∷ ds) h = (Nat.lt-of-lt-of-le (h .0) (pow-mono (fewer p i)), sized-up p (suc i) ds (h .1))
 
+full-rules : (p : Parameters) → Accepted p → Rules (unshortened p)
+full-rules p A = accepted (unshortened p) (unshortened-accepted p A)
+
 abbrev pub lengthened : Parameters → List ℕ → List ℕ
 lengthened p b = join (blockSizes (unshortened p)) (blocksOf p b)
 
@@ -177,7 +180,7 @@ module _ (p : Parameters) (A : Accepted p) (b : List ℕ) (h : Fits p b) where
   R = accepted p A
 
   F : Rules (unshortened p)
-  F = accepted (unshortened p) (unshortened-accepted p A)
+  F = full-rules p A
 
   blocks : IsBlocks p (blocksOf p b)
   blocks = blocks-blocks p R b h
@@ -212,3 +215,27 @@ module _ (p : Parameters) (A : Accepted p) (b : List ℕ) (h : Fits p b) where
         bit d
         ∙ beyond (getD (blocksOf p b) i 0) (dataBits p i) r
         (rw (Nat.zero-add i) at (sized-at p 0 (blocksOf p b) (blocks .fits) i (rw (blocks .many) l))) c
+
+-- blocks of the full sheet that end in s zeros are such ones
+module _ (p : Parameters) (A : Accepted p) (f : List ℕ) (h : Fits (unshortened p) f)
+    (z : (i r : ℕ) → i < p .m → dataBits p i ≤ r → r < dataBits (unshortened p) i → blockBit (unshortened p) f i r ≡ 0) where
+  theirs : IsBlocks (unshortened p) (blocksOf (unshortened p) f)
+  theirs = blocks-blocks (unshortened p) (full-rules p A) f h
+
+  cut : IsBlocks p (blocksOf (unshortened p) f)
+  cut = record {
+    many = theirs .many;
+    fits = at-sized p 0 (blocksOf (unshortened p) f) (λ i l.
+        rw (Nat.zero-add i) (let m : i < p .m = rw (theirs .many) at l in
+        low-only (dataBits p i) (dataBits (unshortened p) i) (getD (blocksOf (unshortened p) f) i 0)
+        (rw (Nat.zero-add i) at (sized-at (unshortened p) 0 (blocksOf (unshortened p) f) (theirs .fits) i l))
+        (λ r c d. block-bit (unshortened p) (full-rules p A) f (h .bytes) i r m d ∙ z i r m c d)));
+  }
+
+  pub shortened-all : (b : List ℕ) × Fits p b × (lengthened p b ≡ f)
+  shortened-all = (
+    join (blockSizes p) (blocksOf (unshortened p) f),
+    blocks-fit p (accepted p A) (blocksOf (unshortened p) f) cut,
+    ap (join (blockSizes (unshortened p))) (blocks-join p (accepted p A) (blocksOf (unshortened p) f) cut)
+        ∙ join-blocks (unshortened p) (full-rules p A) f h,
+  )

@@ -53,7 +53,7 @@ use Rattle.code.specs.Refused.{BlocksBuffer, PageBuffer, Width, blank-ju
 use Rattle.code.specs.Refused.{page-judgeable, read-leaves, verdict-blank, verdict-else, write-alike, write-done, write-keeps}
 use Rattle.code.specs.Refused.{write-13, write-leaves, write-refused}
 use Rattle.code.specs.Registers.{cut, fed-done, fed-holds, feedings, holding, opened-empty, register-back}
-use Rattle.code.specs.Shortened.{lengthened-fits, lengthened-keeps, lengthened-zero, same-degree, same-members, same-words, short-accepted, short-refused}
+use Rattle.code.specs.Shortened.{lengthened-fits, lengthened-keeps, lengthened-zero, same-degree, same-members, same-words, short-accepted, short-refused, shortened-all}
 use Rattle.code.specs.Shortened.{unshortened-accepted, whole-blocks, whole-bytes, whole-clear, whole-data}
 use Rattle.code.specs.Shortened.{whole-page, whole-unused, whole-verdict}
 use Rattle.code.specs.Steps.{Divides, degree-eq, gen-eq}
@@ -403,6 +403,7 @@ module _ (p : Parameters) (A : Accepted p) where
     whole-laws = wholes-are;
     full-sheet = (unshortened-accepted p A, same-members p);
     shortened-laws = shortened-are;
+    shortened-all = λ f h z. shortened-all p A f h (λ i r l c d. z i r l c (omega (arith, same-degree p (p .v - i))));
     blank-no-member = unmember;
     blank-whole = λ L a old after b W. whole-13 L a (length old) b (sym (W .number));
     blank-laws = λ x r b e J. rw (J .answers) (blank-judged x b e);
