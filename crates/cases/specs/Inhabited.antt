@@ -1,24 +1,27 @@
--- The theorems' hypotheses hold of something, and five statements that go further than the theorems are false. All by computation.
+-- The theorems' hypotheses hold of something, and seven statements that go further than the theorems are false. All by computation.
 use mathlib.Core.Path.{_≡_, refl, sym, ap, _∙_}
-use mathlib.Core.Logic.{_≢_}
+use mathlib.Core.Logic.{_≢_, _⊎_, inl, inr}
+use mathlib.Core.Bool.{Bool, true, false, not, _&&_}
 use mathlib.Core.List.{List, [], _∷_}
-use Prim.Native.Nat.{ℕ, zero, suc, _-_, _≤_, _<_}
-use native.Mathlib.Nat.{le-of-suc-le-suc, not-suc-le-zero, lt-irrefl}
+use Prim.Native.Nat.{ℕ, zero, suc, _+_, _-_, _≤_, _<_, zero-le}
+use native.Mathlib.Nat.{le-of-suc-le-suc, not-suc-le-zero, lt-irrefl, zero-add}
 use native.Mathlib.Omega.{arith}
-use lib.Dec.{T, lit<}
+use lib.Dec.{T, eqb, eqb→eq, lit<, ltb, ltb→lt}
 use lib.ListN.{getD}
 use Rattle.polynomial.specs.Clmul.{clmul}
 use Rattle.polynomial.specs.Division.{rem}
 use Rattle.polynomial.specs.Multiple.{Multiple}
 use Rattle.polynomial.specs.Xor.{xor}
 use Rattle.field.specs.Field.{pow}
+use Rattle.field.specs.Irreducible.{both}
 use Rattle.code.specs.declared.Parameters.{Parameters}
 use Rattle.code.specs.declared.Verdict.{Verdict}
-use Rattle.code.specs.Accepted.{accepted}
+use Rattle.code.specs.Accepted.{accepted, any-none}
 use Rattle.code.specs.Blank.{blank-iff}
-use Rattle.code.specs.Parameters.{Accepted, sheetRefusal, sheet}
+use Rattle.code.specs.Lists.{any, range}
+use Rattle.code.specs.Parameters.{Accepted, sheetRefusal, sheet, stored}
 use Rattle.code.specs.Code.{gen, degree, remainder, nested, combine, N, newton, IsMember, distance, verdict}
-use Rattle.code.specs.Layout.{dataBytes, pageBytes, blocksClear, blocksFull, pageClear, pageOf, blank, wordsOf, Fits, IsBlank, IsPage, Bytes, differences}
+use Rattle.code.specs.Layout.{dataBytes, pageBytes, blocksClear, blocksFull, pageClear, pageOf, blank, wordsOf, Fits, IsBlank, IsPage, Bytes, coefficientOf, differences}
 use Rattle.code.specs.Calls.{judgeAnswer, verdictNumber}
 use Rattle.code.specs.Refusals.{writeRefusal}
 use Rattle.cases.specs.Sheets.{A, B}
@@ -92,6 +95,35 @@ not-farther h =
     h light zeros (lit< tt, (lit< tt, (lit< tt, (lit< tt, tt))))
     (lit< tt, (lit< tt, (lit< tt, (lit< tt, tt)))) light-member zeros-member light-other in
     lt-irrefl (distance A) (rw light-distance at far)
+
+-- ---- bursts: these two differ in sub-word 0 alone, at places 0, 4, 6, 7 and 8
+-- where two pages differ, a test holds of the sub-word and the place: all places looked at
+only-where : (p : Parameters) (x y : List ℕ) (Q : ℕ → ℕ → Bool)
+    → T (not (any (λ j. any (λ k. not (eqb (coefficientOf p x j k) (coefficientOf p y j k)) && not (Q j k)) (range 0 (stored p))) (range 0 (p .m))))
+    → (j k : ℕ) → j < p .m → k < stored p → coefficientOf p x j k ≢ coefficientOf p y j k → T (Q j k)
+only-where p x y Q t j k h l d =
+    go (eqb (coefficientOf p x j k) (coefficientOf p y j k)) (Q j k) (λ e. d (eqb→eq (coefficientOf p x j k) (coefficientOf p y j k) e))
+    (any-none (λ k. not (eqb (coefficientOf p x j k) (coefficientOf p y j k)) && not (Q j k)) 0 (stored p)
+    (any-none (λ j. any (λ k. not (eqb (coefficientOf p x j k) (coefficientOf p y j k)) && not (Q j k)) (range 0 (stored p))) 0 (p .m) t j zero-le
+    (rw (zero-add (p .m)) h)) k zero-le (rw (zero-add (stored p)) l))
+  where
+    go : (b q : Bool) → (T b → ⊥) → T (not (not b && not q)) → T q
+    go b true n u = tt
+    go true false n u = absurd (n tt)
+    go false false n u = u
+
+-- so w_v + 1 neighbouring places are too many
+pub not-longer :
+    ((x y : List ℕ) (i a : ℕ) → Bytes x → Bytes y → i < A .m → a < stored A → judgeAnswer A x ≡ Verdict.Member
+    → ((j k : ℕ) → j < A .m → k < stored A → coefficientOf A x j k ≢ coefficientOf A y j k
+    → (j ≡ i) × (a ≤ k) × (k < a + (degree A (A .v) + 1)))
+    → x ≢ y → judgeAnswer A y ≢ Verdict.Member)
+    → ⊥
+unfolding any range degree
+not-longer h =
+    h light zeros 0 0 (lit< tt, (lit< tt, (lit< tt, (lit< tt, tt)))) (lit< tt, (lit< tt, (lit< tt, (lit< tt, tt)))) (lit< tt) (lit< tt) light-member
+    (λ j k l b d. (let t = both (eqb j 0) (ltb k 9) (only-where A light zeros (λ j k. eqb j 0 && ltb k 9) tt j k l b d) in
+    (eqb→eq j 0 (t .0), zero-le, ltb→lt k 9 (t .1)))) light-other zeros-member
 
 -- the words of the first are those of a member
 light-sub : (i : ℕ) → i < 2 → Multiple (gen A 0) (getD (0x1D1 ∷ 0x000 ∷ []) i 0)
@@ -184,6 +216,32 @@ pub not-at-every-s :
     ((p : Parameters) (a : List ℕ) → Accepted p → Fits p a → T (blocksFull p a) → writeRefusal p 8 a (pageBytes p) ≡ 13) → ⊥
 unfolding blocksFull
 not-at-every-s h = let z : _≡_ {A = ℕ} 0 13 = sym short-written ∙ h short (0x01 ∷ 0x1F ∷ []) accepted-short fits-short tt in omega arith
+
+-- nor may a burst pass from place n - s - 1 to place 0: on the same sheet, where n - s is 9, from place 2 on, place 1 left out
+short-member : judgeAnswer short light ≡ Verdict.Member
+unfolding judgeAnswer pow
+short-member = refl
+
+short-zeros : judgeAnswer short zeros ≡ Verdict.Member
+unfolding judgeAnswer pow
+short-zeros = refl
+
+pub not-around-short :
+    ((x y : List ℕ) (i a : ℕ) → Bytes x → Bytes y → i < short .m → a < stored short → judgeAnswer short x ≡ Verdict.Member
+    → ((j k : ℕ) → j < short .m → k < stored short → coefficientOf short x j k ≢ coefficientOf short y j k
+    → (j ≡ i) × (((a ≤ k) × (k < a + degree short (short .v))) ⊎ (k + stored short < a + degree short (short .v))))
+    → x ≢ y → judgeAnswer short y ≢ Verdict.Member)
+    → ⊥
+unfolding any range degree
+not-around-short h =
+    h light zeros 0 2 (lit< tt, (lit< tt, (lit< tt, (lit< tt, tt)))) (lit< tt, (lit< tt, (lit< tt, (lit< tt, tt)))) (lit< tt) (lit< tt) short-member
+    (λ j k l b d. (let t = both (eqb j 0) (not (eqb k 1)) (only-where short light zeros (λ j k. eqb j 0 && not (eqb k 1)) tt j k l b d) in
+    (eqb→eq j 0 (t .0), around k b (t .1)))) light-other short-zeros
+  where
+    around : (k : ℕ) → k < 9 → T (not (eqb k 1)) → ((2 ≤ k) × (k < 2 + 8)) ⊎ (k + 9 < 2 + 8)
+    around zero b t = inr (lit< tt)
+    around (suc zero) b t = absurd t
+    around (suc (suc k)) b t = inl (omega arith, omega arith)
 
 -- ---- the equal form holds as a whole only: sheet B, page 13 00 00 00 00 00
 abbrev words-13 : List ℕ

@@ -8,12 +8,16 @@
 --   StoredLaws, WholeLaws, ShortenedLaws   what s leaves out; a sheet with s = 0; a shortened sheet beside the full one
 --   BlankReadLaws, BlankWriteLaws    what read out gives of a blank page, and write of blocks that would make one
 --   QuoteLaws p number   the numbers that the quote gives; QuotedPage p number blocks page: a written page has so many check and data bits
+--   InBurst p a k        place k is one of the w_v neighbouring places from a on
+--   Burst p x y i a      two pages differ in sub-word i alone, in the burst from a on: the requirement's scratched run
+--   BurstLaws p          judge finds every burst, and a longer one it need not find
 --   Shortening           which s are refused
 --   Demand3C p           the same of the C calls: WrittenC, ReadOutC, JudgedC, whose answers are numbers, 0 for done and member
 --   BlankC p             blank pages in C: 96 of judge and of read out, 13 of write
+--   BurstC p             bursts in C: judge's number is not 0
 --   QuotedC p            the quote of C, whose numbers are bytes
 use mathlib.Core.Path.{_≡_}
-use mathlib.Core.Logic.{_≢_, _↔_}
+use mathlib.Core.Logic.{_≢_, _↔_, _⊎_}
 use mathlib.Core.Bool.{cond}
 use mathlib.Core.List.{List, [], map}
 use Prim.Native.Nat.{ℕ, suc, _+_, _-_, _*_, _/_, _%_, _^_, _≤_, _<_}
@@ -302,6 +306,37 @@ pub record Demand3 (p : Parameters) : Type 0 where
       → distance p ≤ differences p x y
   pub smallest : Smallest p
 
+-- ---- bursts: the changed places lie side by side, in the requirement's words a scratched run
+-- w_v neighbouring places from a on; at s = 0 place 0 follows place n - 1
+abbrev pub InBurst : Parameters → ℕ → ℕ → Type 0
+InBurst p a k =
+    ((a ≤ k) × (k < a + degree p (p .v)))
+    ⊎ ((p .s ≡ 0) × (k + len p < a + degree p (p .v)))
+
+abbrev pub Burst : Parameters → List ℕ → List ℕ → ℕ → ℕ → Type 0
+Burst p x y i a = (j k : ℕ) → j < p .m → k < stored p → coefficientOf p x j k ≢ coefficientOf p y j k → (j ≡ i) × InBurst p a k
+
+-- members x and y that differ in sub-word i alone, within w_v + 1 neighbouring places
+pub record LongerBurst (p : Parameters) (i a : ℕ) (x y : List ℕ) : Type 0 where
+  pub member-x : (r : Verdict) → Judged p x r → r ≡ Verdict.Member
+  pub member-y : (r : Verdict) → Judged p y r → r ≡ Verdict.Member
+  pub other : x ≢ y
+  pub places : (j k : ℕ) → j < p .m → k < stored p → coefficientOf p x j k ≢ coefficientOf p y j k
+      → (j ≡ i) × (a ≤ k) × (k < a + (degree p (p .v) + 1))
+
+pub record BurstLaws (p : Parameters) : Type 0 where
+  -- a member x and other bytes y, of any length, that differ from it in one burst: whatever judge says of y, it is not member
+  pub never : (x y : List ℕ) (i a : ℕ) (r : Verdict) → Bytes x → Bytes y → i < p .m → a < stored p
+      → Judged p x Verdict.Member → Burst p x y i a → x ≢ y → Judged p y r → r ≢ Verdict.Member
+  -- of a page other than blank, that sub-word is named or, if it passes, nested word 0
+  pub named : (x y : List ℕ) (i a : ℕ) (r : Verdict) → Bytes x → IsPage p y → (¬ IsBlank p y) → i < p .m → a < stored p
+      → Judged p x Verdict.Member → Burst p x y i a → x ≢ y → Judged p y r → (r ≡ Verdict.SubWord i) ⊎ (r ≡ Verdict.NestedWord 0)
+  -- a spare bit that is 1 makes bytes of a page's length 8, unless every coefficient is 1: then they are blank
+  pub stray : (y : List ℕ) (j k : ℕ) (r : Verdict) → Bytes y → PageBuffer p y → (¬ IsBlank p y) → j < p .m → stored p ≤ k
+      → k < 8 * subWordBytes p → coefficientOf p y j k ≡ 1 → Judged p y r → r ≡ Verdict.Refused 8
+  -- and w_v is the most: one place more, and two members differ, in whatever sub-word and from whatever place on
+  pub longer : (i a : ℕ) → i < p .m → a + degree p (p .v) < stored p → (x : List ℕ) × (y : List ℕ) × LongerBurst p i a x y
+
 -- ---- demand 3 of the C calls
 -- the same number and, when that is 0, the same page
 pub record AlikeC (after after′ : List ℕ) (r r′ : ℕ) : Type 0 where
@@ -346,6 +381,15 @@ pub record BlankC (p : Parameters) : Type 0 where
       → IsBlank p (pageOf p blocks) → after ≡ old
   pub whole : (L : ℕ) (blocks old after : List ℕ) → Bytes blocks → WrittenC p L blocks old after 13 → p .s ≡ 0
 
+-- ---- bursts in C
+pub record BurstC (p : Parameters) : Type 0 where
+  pub never : (x y : List ℕ) (i a r : ℕ) → Bytes x → Bytes y → i < p .m → a < stored p → JudgedC p x 0 → Burst p x y i a → x ≢ y
+      → JudgedC p y r → r ≢ 0
+  pub named : (x y : List ℕ) (i a r : ℕ) → Bytes x → IsPage p y → (¬ IsBlank p y) → i < p .m → a < stored p → JudgedC p x 0
+      → Burst p x y i a → x ≢ y → JudgedC p y r → (r ≡ 32 + i) ⊎ (r ≡ 64)
+  pub stray : (y : List ℕ) (j k r : ℕ) → Bytes y → PageBuffer p y → (¬ IsBlank p y) → j < p .m → stored p ≤ k → k < 8 * subWordBytes p
+      → coefficientOf p y j k ≡ 1 → JudgedC p y r → r ≡ 8
+
 -- ---- the quote of C: number k stands at bytes 2k and 2k + 1 of 24, low byte first
 abbrev pub numberAt : List ℕ → ℕ → ℕ
 numberAt list k = value 8 (take 2 (drop (2 * k) list))
@@ -361,10 +405,10 @@ Shortening =
     (p : Parameters) → fullRefusal p ≡ 0
     → (Accepted p ↔ (p .s ≤ 2 ^ p .q - 1 - degree p (p .v) - 1)) × ((sheetRefusal p ≡ 14) ↔ (2 ^ p .q - 1 - degree p (p .v) - 1 < p .s))
 
--- ---- both, for every accepted sheet
+-- ---- both, and bursts, for every accepted sheet
 abbrev pub Demands : Type 0
-Demands = (p : Parameters) → Accepted p → Demand2 p × Demand3 p
+Demands = (p : Parameters) → Accepted p → Demand2 p × Demand3 p × BurstLaws p
 
--- ---- and, of the C calls, demand 3, blank pages and the quote
+-- ---- and, of the C calls, demand 3, blank pages, the quote and bursts
 abbrev pub DemandsC : Type 0
-DemandsC = (p : Parameters) → Accepted p → Demand3C p × BlankC p × QuotedC p
+DemandsC = (p : Parameters) → Accepted p → Demand3C p × BlankC p × QuotedC p × BurstC p

@@ -1,8 +1,8 @@
--- Demand 3, blank pages and the quote of the C calls, from demands 2 and 3: a C call's promise is that of the call behind it, with the number of its answer.
+-- Demand 3, blank pages, the quote and bursts of the C calls, from those of the calls behind them: a C call's promise is that of the call behind it, with the number of its answer.
 use mathlib.Core.Path.{_≡_, refl, sym, ap, _∙_}
-use mathlib.Core.Logic.{_↔_}
+use mathlib.Core.Logic.{_↔_, _⊎_, inl, inr}
 use mathlib.Core.List.{List}
-use Prim.Native.Nat.{ℕ}
+use Prim.Native.Nat.{ℕ, _+_}
 use lib.ListN.{length}
 use Rattle.polynomial.specs.Sums.{add}
 use Rattle.code.specs.declared.Outcome.{Outcome}
@@ -13,13 +13,13 @@ use Rattle.code.specs.Answers.{judged, judged-blanks, judged-zero, made-
 use Rattle.code.specs.Buffers.{bytes-at}
 use Rattle.code.specs.Calls.{Judged, JudgedC, QuoteMadeC, ReadOut, ReadOutC, Written, WrittenC, asBytes, judgeAnswer}
 use Rattle.code.specs.Calls.{leaves, outcome, outcomeNumber, quote, readAnswer, verdictNumber}
-use Rattle.code.specs.Demands.{AlikeC, BlankC, BlankWriteLaws, Demand3C, DemandsC, QuoteLaws, QuotedC, RewritesC, SumsC, numberAt}
+use Rattle.code.specs.Demands.{AlikeC, BlankC, BlankWriteLaws, BurstC, Demand3C, DemandsC, QuoteLaws, QuotedC, RewritesC, SumsC, numberAt}
 use Rattle.code.specs.Layout.{Bytes, Fits, IsBlank, IsPage, pageOf}
 use Rattle.code.specs.Parameters.{Accepted}
 use Rattle.code.specs.Quote.{quote-length, quote-none, quote-small}
 use Rattle.code.specs.Refusals.{quoteRefusal, writeRefusal}
 use Rattle.code.specs.Refused.{BlocksBuffer, PageBuffer, Width}
-use Rattle.code.specs.Theorems.{demand2, demand3, quote-numbers, whole-13}
+use Rattle.code.specs.Theorems.{bursts, demand2, demand3, quote-numbers, whole-13}
 
 module _ (p : Parameters) (A : Accepted p) where
   abbrev refusal : ℕ → List ℕ → List ℕ → ℕ
@@ -61,11 +61,11 @@ module _ (p : Parameters) (A : Accepted p) where
         page = s .page;
       }
 
+  judge-number : (x : List ℕ) (r : ℕ) → JudgedC p x r → r ≡ verdictNumber (judgeAnswer p x)
+  judge-number x r J = J .answers ∙ sym (judged p x (judgeAnswer p x) refl .number)
+
   judge-iff : (x : List ℕ) (j : ℕ) → JudgedC p x j → (j ≡ 0) ↔ (judgeAnswer p x ≡ Verdict.Member)
-  judge-iff x j J = (
-    (λ e. judged-zero p x (sym (J .answers) ∙ e)),
-    (λ e. J .answers ∙ sym (judged p x (judgeAnswer p x) refl .number) ∙ ap verdictNumber e),
-  )
+  judge-iff x j J = ((λ e. judged-zero p x (sym (J .answers) ∙ e)), (λ e. judge-number x j J ∙ ap verdictNumber e))
 
   as-read : (x old out : List ℕ) (r : ℕ) → ReadOutC p x old out r → ReadOut p x old out (readAnswer p x old)
   as-read x old out r O = read p x old (readAnswer p x old) out refl (O .buffer)
@@ -112,7 +112,7 @@ module _ (p : Parameters) (A : Accepted p) where
   blank-judged-c x r b e J =
       let i = demand2 p A .blank-laws x (judgeAnswer p x) b e (judged p x (judgeAnswer p x) refl) in (
         (λ z. i .0 (judged-blanks p x A (sym (J .answers) ∙ z))),
-        (λ h. J .answers ∙ sym (judged p x (judgeAnswer p x) refl .number) ∙ ap verdictNumber (i .1 h)),
+        (λ h. judge-number x r J ∙ ap verdictNumber (i .1 h)),
       )
 
   -- lent blocks of exact length, read out's number is judge's
@@ -159,5 +159,21 @@ module _ (p : Parameters) (A : Accepted p) where
         demand2 p A .quoted-pages number L b old after (outcome (refusal L b old)) q w h e n (written L b old after r W);
   }
 
+  -- ---- bursts
+  pub burst-c : BurstC p
+  burst-c = record {
+    never = λ x y i a r b c l d J S n K z.
+        bursts p A .never x y i a (judgeAnswer p y) b c l d (member-c x J) S n (judged p y (judgeAnswer p y) refl) (judge-iff y r K .0 z);
+    named = λ x y i a r b h o l d J S n K.
+        which i r (judgeAnswer p y) (judge-number y r K)
+        (bursts p A .named x y i a (judgeAnswer p y) b h o l d (member-c x J) S n (judged p y (judgeAnswer p y) refl));
+    stray = λ y j k r b e o l h c s K.
+        judge-number y r K ∙ ap verdictNumber (bursts p A .stray y j k (judgeAnswer p y) b e o l h c s (judged p y (judgeAnswer p y) refl));
+  }
+    where
+      which : (i r : ℕ) (v : Verdict) → r ≡ verdictNumber v → (v ≡ Verdict.SubWord i) ⊎ (v ≡ Verdict.NestedWord 0) → (r ≡ 32 + i) ⊎ (r ≡ 64)
+      which i r v e (inl s) = inl (e ∙ ap verdictNumber s)
+      which i r v e (inr s) = inr (e ∙ ap verdictNumber s)
+
 pub demands-c : DemandsC
-demands-c p A = (demand3-c p A, blank-c p A, quote-c p A)
+demands-c p A = (demand3-c p A, blank-c p A, quote-c p A, burst-c p A)

@@ -32,5 +32,6 @@ pub mod Degrees
 pub mod Quote
 -- What demands 2 and 3 say, and the theorems; Firmware is demand 3 of the C calls:
 pub mod Demands
+pub mod Bursts
 pub mod Theorems
 pub mod Firmware

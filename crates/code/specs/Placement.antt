@@ -1,22 +1,17 @@
 -- Placement, literally over bytes: where a sub-word's coefficients, a block's bits and the check bits stand.
 -- Blocks that fit are known by their bits, and any bits are blocks that fit.
 use mathlib.Core.Path.{_≡_, refl, sym, ap, _∙_}
-use mathlib.Core.Bool.{Bool, true, false}
 use mathlib.Core.List.{List, [], _∷_, _++_, map}
 use mathlib.Core.Logic.{_⊎_, inl, inr}
 use Prim.Native.Nat.{ℕ, zero, suc, _+_, _-_, _*_, _/_, _%_, _^_, _≤_, _<_, zero-le, suc-le-suc}
 use native.Mathlib.Nat as Nat
 use native.Mathlib.Omega.{arith}
-use lib.Arith.{lt-one}
 use lib.Bits as Bits
-use lib.Dec.{ltb}
 use lib.ListN.{length, getD, set, take, drop, replicate, List·getD-append, getD-replicate}
-use lib.Pow.{pow-mono, pow-pos, shr-shr}
 use lib.Seq.{ext-getD, getD-take, getD-drop, getD-append-add, getD-set-same, getD-set-other}
-use borrow.Author.Tests.{ltb-true, ltb-false}
-use Rattle.polynomial.specs.Bits.{coefficient, half-lt}
+use Rattle.polynomial.specs.Bits.{coefficient}
+use Rattle.polynomial.specs.Coefficients.{high-coefficient, same-bits}
 use Rattle.polynomial.specs.Digits.{digits, digits-coefficient, length-digits, low-coefficient, value-coefficient}
-use Rattle.polynomial.specs.Division.{shr-half}
 use Rattle.polynomial.specs.Sums.{all-drop, all-take}
 use Rattle.polynomial.specs.Xor.{xor}
 use Rattle.field.specs.Field.{add-assoc, add-zero, zero-add, zero-mul}
@@ -97,13 +92,6 @@ getD-map f (x ∷ l) zero h = refl
 getD-map f (x ∷ l) (suc i) h = getD-map f l i (Nat.le-of-suc-le-suc h)
 
 -- ---- words one by one
-pub high-coefficient : (c w r : ℕ) → coefficient c (w + r) ≡ coefficient (c / 2 ^ w) r
-high-coefficient c w r = ap (λ (y : ℕ). y % 2) (sym (shr-shr c w r))
-
--- a word of z places has no coefficient beyond
-pub beyond : (c z k : ℕ) → c < 2 ^ z → z ≤ k → coefficient c k ≡ 0
-beyond c z k h l = ap (λ (y : ℕ). y % 2) (Nat.div-eq-of-lt (Nat.lt-of-lt-of-le h (pow-mono l)))
-
 -- the data of word j + i, for any i: past the end both are 0
 pub data-at : (p : Parameters) (j i : ℕ) (cs : List ℕ) → getD (dataFrom p j cs) i 0 ≡ getD cs i 0 / 2 ^ checkBits p (j + i)
 data-at p j i [] = ap (λ (l : List ℕ). getD l i 0) (data-nil p j) ∙ sym (Nat.zero-div (2 ^ checkBits p (j + i)))
@@ -157,12 +145,15 @@ module _ (p : Parameters) (R : Rules p) where
   block-room : (i r : ℕ) → i < p .m → r < dataBits p i → r < 8 * getD (blockSizes p) i 0
   block-room i r h l = rw (block-size p i h) (Nat.lt-of-lt-of-le l (whole (dataBits p i)))
 
-  -- the coefficient of x^k of sub-word i is bit k mod 8 of byte i × (n - s + 7) / 8 + k div 8
+  -- the coefficient of x^k of sub-word i is bit k mod 8 of byte i × (n - s + 7) / 8 + k div 8; so the spare bits stand
+  pub place-bit : (x : List ℕ) → Bytes x → (i k : ℕ) → i < p .m → k < 8 * subWordBytes p
+      → coefficient (getD (wordsOf p x) i 0) k ≡ coefficientOf p x i k
+  place-bit x h i k l b =
+      rw (wordsOf-eq p x) (split-bit (wordSizes p) x h i k (rw (page-size p i l) b)) ∙ ap (λ (o : ℕ). bitFrom x o k) (page-offset i l)
+
   pub sub-word-bit : (x : List ℕ) → Bytes x → (i k : ℕ) → i < p .m → k < stored p
       → coefficient (getD (wordsOf p x) i 0) k ≡ coefficientOf p x i k
-  sub-word-bit x h i k l b =
-      rw (wordsOf-eq p x) (split-bit (wordSizes p) x h i k (rw (page-size p i l) (word-room k b)))
-      ∙ ap (λ (o : ℕ). bitFrom x o k) (page-offset i l)
+  sub-word-bit x h i k l b = place-bit x h i k l (word-room k b)
 
   -- bit r of block i is that of its number
   pub block-bit : (x : List ℕ) → Bytes x → (i r : ℕ) → i < p .m → r < dataBits p i
@@ -223,27 +214,6 @@ module _ (p : Parameters) (R : Rules p) where
       (data-at p 0 i (storedOf p x) ∙ ap (λ (k : ℕ). getD (storedOf p x) i 0 / 2 ^ checkBits p k) (Nat.zero-add i))
       ∙ sym (high-coefficient (getD (storedOf p x) i 0) (checkBits p i) r)
       ∙ stored-bit x h i (checkBits p i + r) l (data-room i r b)
-
--- ---- numbers are their bits
-same-bits : (d a b : ℕ) → a < 2 ^ d → b < 2 ^ d → ((r : ℕ) → r < d → coefficient a r ≡ coefficient b r) → a ≡ b
-same-bits zero a b h l f = lt-one h ∙ sym (lt-one l)
-same-bits (suc d) a b h l f =
-    by-half (same-bits d (a / 2) (b / 2) (half-lt a d h) (half-lt b d l)
-    (λ r i. ap (λ (y : ℕ). y % 2) (sym (shr-half a r)) ∙ f (suc r) (suc-le-suc i) ∙ ap (λ (y : ℕ). y % 2) (shr-half b r)))
-    (ap (λ (y : ℕ). y % 2) (sym (Nat.div-one a)) ∙ f 0 (suc-le-suc zero-le) ∙ ap (λ (y : ℕ). y % 2) (Nat.div-one b))
-  where
-    by-half : a / 2 ≡ b / 2 → a % 2 ≡ b % 2 → a ≡ b
-    by-half x y = omega arith
-
--- a number whose bits from z on are 0 is one of z bits
-pub low-only : (z d x : ℕ) → x < 2 ^ d → ((r : ℕ) → z ≤ r → r < d → coefficient x r ≡ 0) → x < 2 ^ z
-low-only z d x h f =
-    let low : x % 2 ^ z < 2 ^ z = Nat.mod-lt x (pow-pos z) in
-    rw (← same-bits d x (x % 2 ^ z) h (Nat.lt-of-le-of-lt (Nat.mod-le x (2 ^ z)) h) (λ r l. go r l low (ltb r z) refl)) at low
-  where
-    go : (r : ℕ) → r < d → x % 2 ^ z < 2 ^ z → (b : Bool) → ltb r z ≡ b → coefficient x r ≡ coefficient (x % 2 ^ z) r
-    go r l m true e = sym (low-coefficient z x r (ltb-true r z e))
-    go r l m false e = let k : z ≤ r = ltb-false r z e in f r k l ∙ sym (beyond (x % 2 ^ z) z r m k)
 
 -- ---- blocks as numbers
 pub sized-at : (p : Parameters) (k : ℕ) (ds : List ℕ) → Sized p k ds → (i : ℕ) → i < length ds → getD ds i 0 < 2 ^ dataBits p (k + i)

@@ -11,9 +11,10 @@ use lib.Dec.{eqb}
 use lib.ListN.{length, getD}
 use lib.Pow.{pow-mono}
 use Rattle.polynomial.specs.Bits.{coefficient, half-lt}
-use Rattle.polynomial.specs.Division.{shr-half, xor-lt, xor-shr}
+use Rattle.polynomial.specs.Coefficients.{coefficient-xor}
+use Rattle.polynomial.specs.Division.{shr-half, xor-lt}
 use Rattle.polynomial.specs.Sums.{All, add}
-use Rattle.polynomial.specs.Xor.{bit-ind, xor, xor-odd}
+use Rattle.polynomial.specs.Xor.{bit-ind, xor}
 use Rattle.field.specs.Bch.{weight, weight-eq, weight-zero}
 use Rattle.field.specs.Field.{Field2, add-assoc}
 use Rattle.code.specs.declared.Parameters.{Parameters}
@@ -65,9 +66,6 @@ unequal : (a b : ℕ) → a < 2 → b < 2 → cond (not (eqb a b)) 1 0 ≡ (a + 
 unequal a b h l =
     bit-ind (λ (a : ℕ). cond (not (eqb a b)) 1 0 ≡ (a + b) % 2) (bit-ind (λ (b : ℕ). cond (not (eqb 0 b)) 1 0 ≡ (0 + b) % 2) refl refl b l)
     (bit-ind (λ (b : ℕ). cond (not (eqb 1 b)) 1 0 ≡ (1 + b) % 2) refl refl b l) a h
-
-pub coefficient-xor : (c d k : ℕ) → coefficient (xor c d) k ≡ (coefficient c k + coefficient d k) % 2
-coefficient-xor c d k = ap (λ (y : ℕ). y % 2) (xor-shr c d k) ∙ xor-odd (c / 2 ^ k) (d / 2 ^ k) ∙ Nat.add-mod (c / 2 ^ k) (d / 2 ^ k) 2
 
 words-differ : (n c d : ℕ) → c < 2 ^ n → d < 2 ^ n → countBelow n (λ k. not (eqb (coefficient c k) (coefficient d k))) ≡ weight (xor c d)
 words-differ n c d h l =

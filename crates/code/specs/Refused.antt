@@ -306,6 +306,18 @@ module _ (p : Parameters) where
           clear = clear-of (pageClear p x) (blank p x) (unless 7 (pageClear p x || blank p x) (a .1)) judged-else;
         }
 
+  -- ---- stray: a spare bit is 1, and the page is not blank
+  unclear : (b c : Bool) → T (not b) → T (not c) → T (not (b || c))
+  unclear true c t u = absurd t
+  unclear false c t u = u
+
+  pub judge-stray : Accepted p → (x : List ℕ) → PageBuffer p x → T (not (pageClear p x)) → T (not (blank p x)) → judgeAnswer p x ≡ Verdict.Refused 8
+  judge-stray A x e t u =
+      let r : judgeRefusal p x ≡ 8 = judge-links x ∙ or-second (sheetRefusal p) (page-7 (length x) orElse stray-8 x) A
+      ∙ or-second (page-7 (length x)) (stray-8 x) (exact-none 7 (length x) (pageBytes p) e)
+      ∙ on 8 (stray p x) (unclear (pageClear p x) (blank p x) t u) in
+      judge-eq x ∙ rw r refl
+
   -- ---- the answers where nothing is refused
   module _ (A : Accepted p) where
     pub judge-is : (x : List ℕ) → Judgeable p x → judgeAnswer p x ≡ pageVerdict p x

@@ -14,6 +14,7 @@ use lib.Dec.{T, eqb, leb, le→leb, not-T}
 use lib.ListN.{getD, replicate}
 use lib.Pow.{pow-mono}
 use Rattle.polynomial.specs.Bits.{coefficient}
+use Rattle.polynomial.specs.Coefficients.{beyond, low-only}
 use Rattle.field.specs.Fields.{Known, by-known}
 use Rattle.code.specs.declared.Parameters.{Parameters}
 use Rattle.code.specs.declared.Verdict.{Verdict}
@@ -29,7 +30,7 @@ use Rattle.code.specs.Pages.{IsBlocks, blockBits-eq, blockSizes-eq, bloc
 use Rattle.code.specs.Pages.{blocksOf-eq, dataOf-eq, page-has, pageClear-eq, pageOf-eq, storedOf-eq, wordsOf-eq}
 use Rattle.code.specs.Parameters.{Accepted, clashes, fieldKnown, len, shapeFits, sheetRefusal, shortFits, strengthsFit}
 use Rattle.code.specs.Parameters.{subWordBytes, unshortened}
-use Rattle.code.specs.Placement.{at-sized, beyond, block-bit, low-only, sized-at}
+use Rattle.code.specs.Placement.{at-sized, block-bit, sized-at}
 
 -- ---- at s = 0
 abbrev pub fullSizes : Parameters → List ℕ

@@ -1,22 +1,24 @@
--- THE THEOREM: demands 2 and 3 hold for all accepted parameters.
+-- THE THEOREM: demands 2 and 3 hold for all accepted parameters, and judge finds every burst.
 use mathlib.Core.Path.{_≡_, refl, sym, ap, ap₂, _∙_}
-use mathlib.Core.Logic.{_≢_, _↔_}
+use mathlib.Core.Logic.{_≢_, _↔_, _⊎_, inl, inr}
 use mathlib.Core.Bool.{Bool, true, false, not}
 use mathlib.Core.List.{List}
 use Prim.Native.Nat.{ℕ, zero, suc, _+_, _-_, _*_, _^_, _≤_, _<_, zero-le, suc-le-suc}
 use native.Mathlib.Nat as Nat
+use native.Mathlib.Decide.{ℕ-discrete}
 use native.Mathlib.Omega.{arith}
 use lib.Dec.{T, eqb, lit≤, not-T}
 use lib.ListN.{length, getD, take, drop}
-use lib.Pow.{pow-mono}
+use lib.Pow.{pow-mono, pow-pos}
 use Rattle.polynomial.specs.Bits.{coefficient}
+use Rattle.polynomial.specs.Coefficients.{beyond}
 use Rattle.polynomial.specs.Digits.{value}
-use Rattle.polynomial.specs.Division.{rem-lt}
+use Rattle.polynomial.specs.Division.{rem-lt, rem-zero}
 use Rattle.polynomial.specs.Sums.{All, add, all-at, at-all}
 use Rattle.polynomial.specs.Multiple.{Multiple, multiple-same, rem-differ}
 use Rattle.field.specs.Elements.{power-full, power-order, syndrome, syndrome-iff, syndrome-lt, syndrome-sum}
 use Rattle.field.specs.Fields.{BinaryField, fieldOf, irreducible, polynomial-degree, polynomial-irreducible}
-use Rattle.generator.specs.Generator.{HasRoots, generator-cyclic, generator-is}
+use Rattle.generator.specs.Generator.{HasRoots, generator-is}
 use Rattle.generator.specs.Distinct.{member}
 use Rattle.code.specs.declared.Parameters.{Parameters}
 use Rattle.code.specs.declared.Outcome.{Outcome}
@@ -28,28 +30,30 @@ use Rattle.code.specs.Accepted.{Rules, accepted, degree-le, degree-of, l
 use Rattle.code.specs.Blank.{blank-iff, blank-stays, page-ones}
 use Rattle.code.specs.Buffers.{bytes-at, divides-up, divisor-deg, divisor-degree, divisor-times, length-syndromes}
 use Rattle.code.specs.Buffers.{nested-back, remainder-back, row-back, short-back, short-differ, short-lt, syndromes-at}
+use Rattle.code.specs.Bursts.{apart-pages, apart-places, burst-same, cyclic, moved-divides, moved-lt, others-same}
+use Rattle.code.specs.Bursts.{single-has, single-is, single-passing, single-unblank, singlePage}
 use Rattle.code.specs.Calls.{Judged, QuoteMade, ReadOut, Written, asBytes, empty, judgeAnswer, leaves}
 use Rattle.code.specs.Calls.{nestedOf, nestedSyndromeList, outcome, quote, subWordOf, syndromeList}
 use Rattle.code.specs.Code.{IsMember, checkBits, degree, distance, gen, least, nested, newton, remainder, syndromes, verdict}
 use Rattle.code.specs.Degrees.{degree-exact}
-use Rattle.code.specs.Demands.{Alike, BlankReadLaws, BlankWriteLaws, BufferLaws, Demand2, Demand3, Demands, GeneratorLaws, GeneratorOf}
+use Rattle.code.specs.Demands.{Alike, BlankReadLaws, BlankWriteLaws, BufferLaws, Burst, BurstLaws, Demand2, Demand3, Demands, GeneratorLaws, GeneratorOf}
 use Rattle.code.specs.Demands.{JudgeLaws, QuoteLaws, QuotedPage, RegisterLaws, Rewrites, ShortLaws, ShortenedLaws, Smallest}
 use Rattle.code.specs.Demands.{Shortening, StoredLaws, Sums, Vanishes, WholeLaws, WriteLaws}
 use Rattle.code.specs.Distance.{Passing, least-few, least-many}
 use Rattle.code.specs.Encode.{N-above, encode-member, member-encode}
 use Rattle.code.specs.Judge.{member-passing, multiple-iff, passing-member, verdict-member, verdict-nested, verdict-sub}
 use Rattle.code.specs.Layout.{Bytes, Fits, IsBlank, IsPage, blank, blocksOf, coefficientOf, dataBits, dataOf, differences}
-use Rattle.code.specs.Layout.{pageOf, storedOf, wordSizes, wordsOf}
+use Rattle.code.specs.Layout.{pageClear, pageOf, storedOf, wordSizes, wordsOf}
 use Rattle.code.specs.Lists.{addBelow, countBelow, join, sum}
 use Rattle.code.specs.Newton.{nesteds-of, newtons-of}
 use Rattle.code.specs.Pages.{IsWords, again-from, again-to, data-fit, dataBytes-eq, join-words}
 use Rattle.code.specs.Pages.{page-back, page-has, page-is, page-words, sum-fits, sum-page}
-use Rattle.code.specs.Parameters.{Accepted, full, len, stored, strength}
-use Rattle.code.specs.Placement.{all-places, any-fit, any-has, beyond, blocks-same, check-bits, data-room, read-bit, sub-word-bit, written-bit}
+use Rattle.code.specs.Parameters.{Accepted, full, len, stored, strength, subWordBytes}
+use Rattle.code.specs.Placement.{all-places, any-fit, any-has, blocks-same, check-bits, data-room, place-bit, read-bit, sub-word-bit, written-bit}
 use Rattle.code.specs.Places.{addBelow-ext, countBelow-ext, distance-places}
 use Rattle.code.specs.Quote.{quote-bits, quote-degree, quote-length, quote-none, quote-past-m, quote-past-v}
 use Rattle.code.specs.Refusals.{quoteRefusal, writeRefusal}
-use Rattle.code.specs.Refused.{BlocksBuffer, PageBuffer, Width, blank-judgeable, judge-is, judged-blank, judged-else, judged-page}
+use Rattle.code.specs.Refused.{BlocksBuffer, PageBuffer, Width, blank-judgeable, judge-is, judge-stray, judged-blank, judged-else, judged-page}
 use Rattle.code.specs.Refused.{page-judgeable, read-leaves, verdict-blank, verdict-else, write-alike, write-done, write-keeps}
 use Rattle.code.specs.Refused.{write-13, write-leaves, write-refused}
 use Rattle.code.specs.Registers.{cut, fed-done, fed-holds, feedings, holding, opened-empty, register-back}
@@ -123,7 +127,7 @@ module _ (p : Parameters) (A : Accepted p) where
       (λ M. silenced a c (lawful p R .roots a h c .0 (multiple-iff p R a h c .1 M))),
       (λ s. multiple-iff p R a h c .0 (lawful p R .roots a h c .1 (silent a c s))),
     );
-    cyclic = multiple-iff p R a h (2 ^ len p + 1) .0 (rw (gen-eq p a, degree-eq p a, ← n-is p R) (G.generator-cyclic B (strength p a)));
+    cyclic = multiple-iff p R a h (2 ^ len p + 1) .0 (cyclic p R a);
     next = λ l. multiple-iff p R a h (gen p (a + 1)) .0 (divides-up p R a (a + 1) (omega arith) (omega arith));
     row = row-back p R A a h;
   }
@@ -501,8 +505,92 @@ module _ (p : Parameters) (A : Accepted p) where
   pub demand3 : Demand3 p
   demand3 = record { alike = alike; sums = sums; rewrites = rewrites; apart = apart; smallest = smallest p }
 
+  -- ---- bursts
+  first-passes : (x : List ℕ) → IsPage p x → judgeAnswer p x ≡ Verdict.Member → Divides p (p .v) (nested p 0 (wordsOf p x))
+  first-passes x h e = rw (Nat.sub-zero (p .v)) at (judged-passing x h e .nesteds 0 (R .v-low))
+
+  never : (x y : List ℕ) (i a : ℕ) (r : Verdict) → Bytes x → Bytes y → i < p .m → a < stored p
+      → Judged p x Verdict.Member → Burst p x y i a → x ≢ y → Judged p y r → r ≢ Verdict.Member
+  never x y i a r bx by l b J S n K m =
+      let e : judgeAnswer p x ≡ Verdict.Member = sym (J .answers) in
+      let f : judgeAnswer p y ≡ Verdict.Member = sym (K .answers) ∙ m in
+      let h : IsPage p x = judged-page p x e bx in
+      let k : IsPage p y = judged-page p y f by in
+      n (burst-same p R x y h k i a l b S (first-passes x h e) (first-passes y k f))
+
+  named : (x y : List ℕ) (i a : ℕ) (r : Verdict) → Bytes x → IsPage p y → (¬ IsBlank p y) → i < p .m → a < stored p
+      → Judged p x Verdict.Member → Burst p x y i a → x ≢ y → Judged p y r → (r ≡ Verdict.SubWord i) ⊎ (r ≡ Verdict.NestedWord 0)
+  named x y i a r bx k o l b J S n K = go (ℕ-discrete (remainder p 0 (subWordOf p y i)) 0)
+    where
+      e : judgeAnswer p x ≡ Verdict.Member
+      e = sym (J .answers)
+
+      h : IsPage p x
+      h = judged-page p x e bx
+
+      x-member : IsMember p (wordsOf p x)
+      x-member = passing-member p R (wordsOf p x) (judged-passing x h e) (page-words p R x h .many)
+
+      laws : JudgeLaws p y r
+      laws = judged-laws y r k o K
+
+      other : (j : ℕ) → j < p .m → j ≢ i → Multiple (gen p 0) (subWordOf p y j)
+      other j c s = rw (← others-same p R x y h k i a l b S j c s) (x-member .sub-words j c)
+
+      fails : Multiple (gen p (p .v - 0)) (nestedOf p y 0) → ⊥
+      fails M = n (burst-same p R x y h k i a l b S (first-passes x h e)
+          (rw (Nat.sub-zero (p .v)) at (multiple-iff p R (p .v - 0) (Nat.sub-le (p .v) 0) (nestedOf p y 0) .1 M)))
+
+      every : Multiple (gen p 0) (subWordOf p y i) → (j : ℕ) → j < p .m → Dec (j ≡ i) → Multiple (gen p 0) (subWordOf p y j)
+      every M j c (yes s) = rw s M
+      every M j c (no s) = other j c s
+
+      go : Dec (remainder p 0 (subWordOf p y i) ≡ 0) → (r ≡ Verdict.SubWord i) ⊎ (r ≡ Verdict.NestedWord 0)
+      go (yes z) =
+          let M : Multiple (gen p 0) (subWordOf p y i) = multiple-iff p R 0 zero-le (subWordOf p y i) .0 z in
+          inr (laws .nested-word 0 .1 (R .v-low, (λ j c. every M j c (ℕ-discrete j i)), fails, (λ j c. absurd (Nat.not-suc-le-zero c))))
+      go (no z) =
+          inl (laws .sub-word i .1 (
+            l,
+            (λ M. z (multiple-iff p R 0 zero-le (subWordOf p y i) .1 M)),
+            (λ j c. other j (omega arith) (λ s. Nat.lt-irrefl j (omega arith))),
+          ))
+
+  stray-judged : (y : List ℕ) (j k : ℕ) (r : Verdict) → Bytes y → PageBuffer p y → (¬ IsBlank p y) → j < p .m → stored p ≤ k
+      → k < 8 * subWordBytes p → coefficientOf p y j k ≡ 1 → Judged p y r → r ≡ Verdict.Refused 8
+  stray-judged y j k r b e o l h c s K = K .answers ∙ judge-stray p A y e (not-T (pageClear p y) unclear) (unblank y b o)
+    where
+      unclear : T (pageClear p y) → ⊥
+      unclear t =
+          let W : IsWords p (wordsOf p y) = page-words p R y (record { bytes = b; exact = e; clear = t }) in
+          let z : coefficient (subWordOf p y j) k ≡ 0 = beyond (subWordOf p y j) (stored p) k
+          (all-at (λ f. f < 2 ^ stored p) (wordsOf p y) (W .below) j (rw (W .many) l)) h in
+          Nat.suc-ne-zero 0 (sym s ∙ sym (place-bit p R y b j k l c) ∙ z)
+
+  single-judged : (i c : ℕ) → i < p .m → c < 2 ^ stored p → Divides p (p .v) c → judgeAnswer p (singlePage p i c) ≡ Verdict.Member
+  single-judged i c l b d =
+      passing-judged (singlePage p i c) (single-is p R i c l b) (unblank (singlePage p i c) (single-is p R i c l b .bytes) (single-unblank p R i c l b))
+      (rw (single-has p R i c l b) (single-passing p R i c l d))
+
+  pub bursts : BurstLaws p
+  bursts = record {
+    never = never;
+    named = named;
+    stray = stray-judged;
+    longer = λ i a l b. (
+      singlePage p i 0,
+      singlePage p i (gen p (p .v) * 2 ^ a),
+      record {
+        member-x = λ r J. J .answers ∙ single-judged i 0 l (pow-pos (stored p)) (rem-zero (gen p (p .v)) (degree p (p .v)));
+        member-y = λ r J. J .answers ∙ single-judged i (gen p (p .v) * 2 ^ a) l (moved-lt p R i a l b) (moved-divides p R i a l b);
+        other = apart-pages p R i a l b;
+        places = apart-places p R i a l b;
+      },
+    );
+  }
+
 pub shortening : Shortening
 shortening p z = (short-accepted p z, short-refused p z)
 
 pub demands : Demands
-demands p A = (demand2 p A, demand3 p A)
+demands p A = (demand2 p A, demand3 p A, bursts p A)

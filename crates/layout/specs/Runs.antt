@@ -15,13 +15,13 @@ use lib.Pow.{high, low, mod-pow-add, pow-add}
 use lib.Seq.{drop-drop, getD-drop, getD-take, length-take-le, take-length}
 use borrow.Author.Tests.{ltb-false, ltb-true, ne-eqb}
 use Rattle.polynomial.specs.Bits.{coefficient}
+use Rattle.polynomial.specs.Coefficients.{high-coefficient}
 use Rattle.polynomial.specs.Digits.{digits, value, value-coefficient}
 use Rattle.polynomial.specs.Sums.{all-drop, all-take, at-all}
 use Rattle.code.specs.Blank.{low-ones, ones-low}
 use Rattle.code.specs.Chains.{both-ways, true-false}
 use Rattle.code.specs.Layout.{Bytes}
 use Rattle.code.specs.Lists.{fitsIn, join, onesIn, split, sum}
-use Rattle.code.specs.Placement.{high-coefficient}
 
 -- ---- offsets
 pub sum-none : (ks : List ℕ) → sum (take 0 ks) ≡ 0

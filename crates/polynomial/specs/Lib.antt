@@ -6,3 +6,5 @@ pub mod Clmul
 pub mod Division
 pub mod Multiple
 pub mod Digits
+pub mod Coefficients
+pub mod Burst

@@ -4,9 +4,9 @@ use mathlib.Core.Path.{_≡_, sym, ap, _∙_}
 use Prim.Native.Nat.{ℕ, _≤_, _<_}
 use native.Mathlib.Nat.{lt-of-lt-of-le, le-of-suc-le-suc, lt-of-not-le}
 use lib.Pow.{pow-pos, pow-mono}
-use Rattle.polynomial.specs.Clmul.{clmul, clmul-one-l}
+use Rattle.polynomial.specs.Clmul.{clmul, clmul-one-l, clmul-zero-r}
 use Rattle.polynomial.specs.Division.{Deg, deg-lt, lt-of-deg, lt-of-shr, xor-shr, rem}
-use Rattle.polynomial.specs.Division.{rem-small, rem-xor, rem-multiple, division, le-of-deg}
+use Rattle.polynomial.specs.Division.{rem-small, rem-xor, rem-multiple, rem-clmul-r, rem-zero, division, le-of-deg}
 use Rattle.polynomial.specs.Xor.{xor, xors, xor-self, xor-eq-zero}
 
 abbrev pub Multiple : ℕ → ℕ → Type 0
@@ -39,3 +39,10 @@ rem-differ g k d f = (division g k d f .0, move f (clmul (division g k d f .0) g
   where
     move : (f h r : ℕ) → f ≡ xor h r → xor f r ≡ h
     move f h r e = rw e (simp xors)
+
+-- a divisor of h leaves of f what it leaves of f reduced by h
+pub rem-reduced : (g k h m : ℕ) → Deg g k → Deg h m → rem g k h ≡ 0 → (f : ℕ) → rem g k (rem h m f) ≡ rem g k f
+rem-reduced g k h m d e z f =
+    let M : Multiple h (xor f (rem h m f)) = rem-differ h m e f in
+    sym (xor-eq-zero (rem g k f) (rem g k (rem h m f))
+    (sym (rem-xor g k d f (rem h m f)) ∙ ap (rem g k) (M .1) ∙ sym (rem-clmul-r g k d (M .0) h) ∙ rw (z, clmul-zero-r (M .0)) (rem-zero g k)))

@@ -7,7 +7,7 @@ use Prim.Native.Nat.{ℕ, zero, suc, _<_, suc-le-suc}
 use native.Mathlib.Nat as Nat
 use native.Mathlib.Omega.{arith}
 use lib.ListN.{length, getD, take, drop}
-use Rattle.polynomial.specs.Xor.{xor}
+use Rattle.polynomial.specs.Xor.{xor, xor-self}
 
 abbrev pub All : {A : Type 0} → (A → Type 0) → List A → Type 0
 All P [] = Unit {0}
@@ -52,6 +52,13 @@ pub length-add : (a b : List ℕ) → length a ≡ length b → length (add a b)
 length-add [] b e = sym e
 length-add (x ∷ a) [] e = refl
 length-add (x ∷ a) (y ∷ b) e = ap suc (length-add a b (Nat.suc-inj e))
+
+pub add-at : (a b : List ℕ) (i : ℕ) → length a ≡ length b → getD (add a b) i 0 ≡ xor (getD a i 0) (getD b i 0)
+add-at [] [] i e = sym (xor-self 0)
+add-at [] (y ∷ b) i e = absurd (Nat.suc-ne-zero (length b) (sym e))
+add-at (x ∷ a) [] i e = absurd (Nat.suc-ne-zero (length a) e)
+add-at (x ∷ a) (y ∷ b) zero e = refl
+add-at (x ∷ a) (y ∷ b) (suc i) e = add-at a b i (Nat.suc-inj e)
 
 pub add-append : (a b c d : List ℕ) → length a ≡ length b → add (a ++ c) (b ++ d) ≡ add a b ++ add c d
 add-append [] [] c d e = refl
