@@ -16,7 +16,7 @@ echo "no fault: nothing found"
 
 tried=0 missed=0
 for fault in data-high zero-page level-0-only write-touches-nothing width-37 one-strength last-byte-left overrun alters-blocks \
-    nested-power nested-sum-of-powers nested-not-turned judge-names-nested-0 judge-names-last-nested \
+    nested-power nested-sum-of-powers nested-not-turned nested-0-one-level-lower judge-names-nested-0 judge-names-last-nested \
     read-out-of-members-only read-out-answers-done unused-bits-left high-byte-first last-syndrome-left \
     refuse-all refusal-clears half-written-refusal page-before-blocks index-before-stray stray-missed clash-missed \
     quote-q-times-t quote-coset-twice quote-level-i quote-places-left quote-list-first quote-longer-list \

@@ -149,6 +149,10 @@ stored-whole p e = ap (λ (s : ℕ). len p - s) e ∙ Nat.sub-zero (len p)
 pub q-high : (q : ℕ) → Known q → q ≤ 12
 q-high = by-known (λ q. q ≤ 12) (lit≤ tt) (lit≤ tt) (lit≤ tt)
 
+width-two : (q : ℕ) → Known q → 8 ≤ G.width (fieldOf q) 2
+unfolding G.width fieldOf
+width-two = by-known (λ q. 8 ≤ G.width (fieldOf q) 2) (lit≤ tt) (lit≤ tt) (lit≤ tt)
+
 module _ (p : Parameters) (R : Rules p) where
   abbrev pub B : BinaryField
   B = fieldOf (p .q)
@@ -167,6 +171,12 @@ module _ (p : Parameters) (R : Rules p) where
 
   pub degree-rising : (a b : ℕ) → a ≤ b → b ≤ p .v → degree p a ≤ degree p b
   degree-rising a b h l = rw (degree-eq p a, degree-eq p b) (G.width-mono B (strength p a) (strength p b) (rising a b h l))
+
+  -- level v has at least as many check bits as a byte: its strength is at least 2
+  pub degree-low : 8 ≤ degree p (p .v)
+  degree-low =
+      rw (degree-eq p (p .v)) (Nat.le-trans (width-two (p .q) (R .known)) (G.width-mono B 2 (strength p (p .v))
+      (omega (arith, R .t-low, R .t-apart, rising 1 (p .v) (R .v-low) (Nat.le-refl (p .v))))))
 
   -- every sub-word has room for its check bits and a data bit
   pub stored-room : (a : ℕ) → a ≤ p .v → degree p a < stored p

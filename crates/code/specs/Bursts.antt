@@ -1,7 +1,7 @@
 -- Bursts: pages that differ in one sub-word alone, within w_v neighbouring places. Nested word 0 of their sum is the difference of
 -- that sub-word, so they do not both pass. One place more is too many: g_v in one sub-word and zeros elsewhere pass.
 --   single p i c    m words, word i of them c, the others zero; singlePage p i c their page
-use mathlib.Core.Path.{_≡_, refl, sym, ap, ap₂, _∙_}
+use mathlib.Core.Path.{_≡_, sym, ap, ap₂, _∙_}
 use mathlib.Core.Logic.{_≢_, _⊎_, inl, inr}
 use mathlib.Core.List.{List, [], _∷_}
 use Prim.Native.Nat.{ℕ, zero, suc, _+_, _-_, _*_, _/_, _%_, _^_, _≤_, _<_, zero-le, suc-le-suc}
@@ -30,7 +30,7 @@ use Rattle.code.specs.Distance.{Passing, nested-add}
 use Rattle.code.specs.Layout.{IsBlank, IsPage, coefficientOf, wordSizes, wordsOf}
 use Rattle.code.specs.Lists.{join}
 use Rattle.code.specs.Pages.{IsWords, join-words, page-words, words-join, words-page}
-use Rattle.code.specs.Parameters.{len, stored, strength}
+use Rattle.code.specs.Parameters.{len, stored, strength, subWordBytes}
 use Rattle.code.specs.Placement.{sub-word-bit}
 use Rattle.code.specs.Steps.{Divides, combine-cons, combine-nil, degree-eq, gen-eq, nested-eq}
 
@@ -66,6 +66,37 @@ single p i c = set (replicate (p .m) 0) i c
 
 abbrev pub singlePage : Parameters → ℕ → ℕ → List ℕ
 singlePage p i c = join (wordSizes p) (single p i c)
+
+-- ---- l neighbouring bytes of a sub-word are a burst
+-- byte r of run j, of b bytes each, lies among bytes o to o + l - 1 of run i only if j is i
+same-run : (b i j o l r : ℕ) → r < b → o + l ≤ b → i * b + o ≤ j * b + r → j * b + r < i * b + o + l → (j ≡ i) × (o ≤ r) × (r < o + l)
+same-run b i j o l r h c f g =
+    let up : j < suc i = Nat.lt-of-mul-lt-mul-right b (omega (arith, Nat.suc-mul i b)) in
+    let down : i < suc j = Nat.lt-of-mul-lt-mul-right b (omega (arith, Nat.suc-mul j b)) in
+    let e : j ≡ i = omega arith in
+    (e, omega (arith, ap (λ (k : ℕ). k * b) e), omega (arith, ap (λ (k : ℕ). k * b) e))
+
+pub bytes-burst : (p : Parameters) (x y : List ℕ) (i o l : ℕ) → o + l ≤ subWordBytes p → 8 * l ≤ degree p (p .v)
+    → ((k : ℕ) → (k < i * subWordBytes p + o) ⊎ (i * subWordBytes p + o + l ≤ k) → getD x k 0 ≡ getD y k 0)
+    → Burst p x y i (8 * o)
+bytes-burst p x y i o l c w same j k h b d = (
+  run .0,
+  inl (omega (arith, run .1), omega (arith, run .2)),
+)
+  where
+    equal : getD x (j * subWordBytes p + k / 8) 0 ≡ getD y (j * subWordBytes p + k / 8) 0 → ⊥
+    equal e = d (ap (λ (f : ℕ). coefficient f (k % 8)) e)
+
+    from : Dec (i * subWordBytes p + o ≤ j * subWordBytes p + k / 8) → i * subWordBytes p + o ≤ j * subWordBytes p + k / 8
+    from (yes f) = f
+    from (no f) = absurd (equal (same (j * subWordBytes p + k / 8) (inl (omega arith))))
+
+    to : Dec (i * subWordBytes p + o + l ≤ j * subWordBytes p + k / 8) → j * subWordBytes p + k / 8 < i * subWordBytes p + o + l
+    to (yes f) = absurd (equal (same (j * subWordBytes p + k / 8) (inr f)))
+    to (no f) = omega arith
+
+    run : (j ≡ i) × (o ≤ k / 8) × (k / 8 < o + l)
+    run = same-run (subWordBytes p) i j o l (k / 8) (omega arith) c (from (decLe _ _)) (to (decLe _ _))
 
 module _ (p : Parameters) (R : Rules p) where
   -- every generator divides x^n + 1

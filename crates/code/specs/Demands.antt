@@ -331,6 +331,12 @@ pub record BurstLaws (p : Parameters) : Type 0 where
   -- of a page other than blank, that sub-word is named or, if it passes, nested word 0
   pub named : (x y : List ℕ) (i a : ℕ) (r : Verdict) → Bytes x → IsPage p y → (¬ IsBlank p y) → i < p .m → a < stored p
       → Judged p x Verdict.Member → Burst p x y i a → x ≢ y → Judged p y r → (r ≡ Verdict.SubWord i) ⊎ (r ≡ Verdict.NestedWord 0)
+  -- in bytes: whatever is done to l neighbouring bytes of a sub-word, 8 l up to w_v; and 8 is, so one byte always may be
+  pub bytes : (x y : List ℕ) (i o l : ℕ) (r : Verdict) → Bytes x → Bytes y → i < p .m → 1 ≤ l → o + l ≤ subWordBytes p
+      → 8 * l ≤ degree p (p .v)
+      → ((k : ℕ) → (k < i * subWordBytes p + o) ⊎ (i * subWordBytes p + o + l ≤ k) → getD x k 0 ≡ getD y k 0)
+      → Judged p x Verdict.Member → x ≢ y → Judged p y r → r ≢ Verdict.Member
+  pub one-byte : 8 ≤ degree p (p .v)
   -- a spare bit that is 1 makes bytes of a page's length 8, unless every coefficient is 1: then they are blank
   pub stray : (y : List ℕ) (j k : ℕ) (r : Verdict) → Bytes y → PageBuffer p y → (¬ IsBlank p y) → j < p .m → stored p ≤ k
       → k < 8 * subWordBytes p → coefficientOf p y j k ≡ 1 → Judged p y r → r ≡ Verdict.Refused 8
@@ -387,6 +393,9 @@ pub record BurstC (p : Parameters) : Type 0 where
       → JudgedC p y r → r ≢ 0
   pub named : (x y : List ℕ) (i a r : ℕ) → Bytes x → IsPage p y → (¬ IsBlank p y) → i < p .m → a < stored p → JudgedC p x 0
       → Burst p x y i a → x ≢ y → JudgedC p y r → (r ≡ 32 + i) ⊎ (r ≡ 64)
+  pub bytes : (x y : List ℕ) (i o l r : ℕ) → Bytes x → Bytes y → i < p .m → 1 ≤ l → o + l ≤ subWordBytes p → 8 * l ≤ degree p (p .v)
+      → ((k : ℕ) → (k < i * subWordBytes p + o) ⊎ (i * subWordBytes p + o + l ≤ k) → getD x k 0 ≡ getD y k 0)
+      → JudgedC p x 0 → x ≢ y → JudgedC p y r → r ≢ 0
   pub stray : (y : List ℕ) (j k r : ℕ) → Bytes y → PageBuffer p y → (¬ IsBlank p y) → j < p .m → stored p ≤ k → k < 8 * subWordBytes p
       → coefficientOf p y j k ≡ 1 → JudgedC p y r → r ≡ 8
 

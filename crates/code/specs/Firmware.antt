@@ -167,6 +167,8 @@ module _ (p : Parameters) (A : Accepted p) where
     named = λ x y i a r b h o l d J S n K.
         which i r (judgeAnswer p y) (judge-number y r K)
         (bursts p A .named x y i a (judgeAnswer p y) b h o l d (member-c x J) S n (judged p y (judgeAnswer p y) refl));
+    bytes = λ x y i o l r b c h s d w same J n K z.
+        bursts p A .bytes x y i o l (judgeAnswer p y) b c h s d w same (member-c x J) n (judged p y (judgeAnswer p y) refl) (judge-iff y r K .0 z);
     stray = λ y j k r b e o l h c s K.
         judge-number y r K ∙ ap verdictNumber (bursts p A .stray y j k (judgeAnswer p y) b e o l h c s (judged p y (judgeAnswer p y) refl));
   }

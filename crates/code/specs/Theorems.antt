@@ -26,11 +26,11 @@ use Rattle.code.specs.declared.Verdict.{Verdict}
 use Rattle.code.specs.Register.{Register}
 use Rattle.generator.specs.Generator as G
 use Rattle.code.specs.Answers.{read-as-judge}
-use Rattle.code.specs.Accepted.{Rules, accepted, degree-le, degree-of, lawful, n-is, q-high, stored-le, stored-room, stored-whole, width-below}
+use Rattle.code.specs.Accepted.{Rules, accepted, degree-le, degree-low, degree-of, lawful, q-high, stored-le, stored-room, stored-whole, width-below}
 use Rattle.code.specs.Blank.{blank-iff, blank-stays, page-ones}
 use Rattle.code.specs.Buffers.{bytes-at, divides-up, divisor-deg, divisor-degree, divisor-times, length-syndromes}
 use Rattle.code.specs.Buffers.{nested-back, remainder-back, row-back, short-back, short-differ, short-lt, syndromes-at}
-use Rattle.code.specs.Bursts.{apart-pages, apart-places, burst-same, cyclic, moved-divides, moved-lt, others-same}
+use Rattle.code.specs.Bursts.{apart-pages, apart-places, burst-same, bytes-burst, cyclic, moved-divides, moved-lt, others-same}
 use Rattle.code.specs.Bursts.{single-has, single-is, single-passing, single-unblank, singlePage}
 use Rattle.code.specs.Calls.{Judged, QuoteMade, ReadOut, Written, asBytes, empty, judgeAnswer, leaves}
 use Rattle.code.specs.Calls.{nestedOf, nestedSyndromeList, outcome, quote, subWordOf, syndromeList}
@@ -60,7 +60,7 @@ use Rattle.code.specs.Registers.{cut, fed-done, fed-holds, feedings, hol
 use Rattle.code.specs.Shortened.{lengthened-fits, lengthened-keeps, lengthened-zero, same-degree, same-members, same-words, short-accepted, short-refused, shortened-all}
 use Rattle.code.specs.Shortened.{unshortened-accepted, whole-blocks, whole-bytes, whole-clear, whole-data}
 use Rattle.code.specs.Shortened.{whole-page, whole-unused, whole-verdict}
-use Rattle.code.specs.Steps.{Divides, degree-eq, gen-eq}
+use Rattle.code.specs.Steps.{Divides, gen-eq}
 
 -- ---- the distance is the smallest of its formulas
 abbrev formula : Parameters → ℕ → ℕ
@@ -576,6 +576,9 @@ module _ (p : Parameters) (A : Accepted p) where
   bursts = record {
     never = never;
     named = named;
+    bytes = λ x y i o l r bx by h s c w same J n K.
+        never x y i (8 * o) r bx by h (omega arith) J (bytes-burst p x y i o l c w same) n K;
+    one-byte = degree-low p R;
     stray = stray-judged;
     longer = λ i a l b. (
       singlePage p i 0,

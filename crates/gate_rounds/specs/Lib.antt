@@ -2,4 +2,5 @@
 pub mod Answers
 pub mod Apt
 pub mod Sum
+pub mod Scratched
 pub mod Sheets

@@ -1,21 +1,15 @@
 -- A sum of bytes, place by place.
 --   Summed a b s i    s has the sums of a and b below place i
-use mathlib.Core.Path.{_≡_, refl, sym, _∙_}
-use mathlib.Core.List.{List, [], _∷_}
-use Prim.Native.Nat.{ℕ, zero, suc, _+_, _≤_, _<_}
+use mathlib.Core.Path.{_≡_, sym, _∙_}
+use mathlib.Core.List.{List}
+use Prim.Native.Nat.{ℕ, _+_, _≤_, _<_}
 use native.Mathlib.Nat as Nat
 use borrow.Author.Count.{below-more}
 use lib.Bits.{bitXor}
 use lib.ListN.{length, getD, set, length-set}
 use lib.Seq.{ext-getD, getD-set-same, getD-set-other}
-use Rattle.polynomial.specs.Sums.{add, length-add}
+use Rattle.polynomial.specs.Sums.{add, add-at, length-add}
 use Rattle.polynomial.specs.Xor.{xor, xor-is}
-
-getD-add : (a b : List ℕ) → length a ≡ length b → (k : ℕ) → k < length a → getD (add a b) k 0 ≡ xor (getD a k 0) (getD b k 0)
-getD-add [] b e k h = absurd (Nat.not-suc-le-zero h)
-getD-add (x ∷ a) [] e k h = absurd (Nat.suc-ne-zero (length a) e)
-getD-add (x ∷ a) (y ∷ b) e zero h = refl
-getD-add (x ∷ a) (y ∷ b) e (suc k) h = getD-add a b (Nat.suc-inj e) k (Nat.le-of-suc-le-suc h)
 
 pub record Summed (a b s : List ℕ) (i : ℕ) : Type 0 where
   pub long : length s ≡ length a
@@ -35,4 +29,4 @@ module _ (a b : List ℕ) where
   pub summed-all : (s : List ℕ) (i : ℕ) → length a ≡ length b → length s ≤ i → Summed a b s i → s ≡ add a b
   summed-all s i e h t =
       ext-getD 0 s (add a b) (t .long ∙ sym (length-add a b e))
-      (λ k l. t .sums k (Nat.lt-of-lt-of-le l h) ∙ sym (getD-add a b e k (rw (t .long) at l)))
+      (λ k l. t .sums k (Nat.lt-of-lt-of-le l h) ∙ sym (add-at a b k e))

@@ -1,9 +1,10 @@
-// Pages written at several widths, judged, read out and written again, of shortened sheets too; erased pages judged, read out and refused.
+// Pages written at several widths, judged, read out and written again, of shortened sheets too; pages with a byte changed judged; erased
+// pages judged, read out and refused.
 // Each equality is expected as the program runs, and proved of every run:
 // from what the calls promise and the theorems on the promises, and nothing of how a page is made.
 ghost use mathlib.Core.Path.{_≡_};
 ghost use mathlib.Core.Bool.{_&&_};
-ghost use Prim.Native.Nat.{_≤_};
+ghost use Prim.Native.Nat.{_≤_, _<_};
 ghost use lib.ListN.{length, getD};
 ghost use Rattle.polynomial.specs.Sums.{add};
 ghost use Rattle.code.specs.Calls.{Written, judgeAnswer, outcomeNumber};
@@ -199,6 +200,15 @@ fn erased(p: Parameters, l: u32, page: &[u8], blocks: &mut [u8], again: &mut [u8
     check::expect(check::same(again, old));
 }
 
+// One byte of a member changed, whichever it is: no member.
+fn scratched(p: Parameters, page: &mut [u8], k: usize, e: u8)
+    requires { ⌜ Accepted p × IsPage p (now page) × (judgeAnswer p (now page) ≡ Verdict.Member) × (k < length (now page)) × (1 ≤ e) ⌝ }
+{
+    page[k] = page[k] ^ e;
+    let j = page::judge(p, page);
+    check::expect(!member(j));
+}
+
 // ---- the laws on blocks a and b that fit and make no blank page, nor does their sum, at some widths
 
 // Blocks a and b, and other bytes, refused alike where they do not fit.
@@ -210,12 +220,13 @@ fn widths(p: Parameters, a: &[u8], b: &[u8], other: &[u8], x: &mut [u8], y: &mut
     two_widths(p, 63, 2, other, x, y);
 }
 
-// The page of a is a member by rewriting too.
+// The page of a is a member by rewriting too, and with a byte of it changed is none.
 fn round_again(p: Parameters, a: &[u8], back: &mut [u8], x: &mut [u8], y: &mut [u8])
     requires { ⌜ Accepted p × Apt p (now a) × BlocksBuffer p (now back) × PageBuffer p (now x) × PageBuffer p (now y) ⌝ }
 {
     round(p, 8, 33, a, x, back, y);
     check::expect(rewrites(p, 5, x, back, y));
+    scratched(p, x, x.len() / 2, 0x81);
 }
 
 fn on(

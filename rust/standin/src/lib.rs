@@ -162,7 +162,10 @@ fn judge(p: &Parameters, page: &[u8]) -> u32 {
     let fails = |l: &u32| {
         let mut list = vec![0; 4 * p.t[(p.v - l) as usize] as usize];
         nested(p, page, *l, &mut list);
-        list.iter().any(|&byte| byte != 0)
+        // To 2 t_(v-1), at two bytes a syndrome.
+        let lower = fault("nested-0-one-level-lower") && *l == 0 && p.v > 1;
+        let looked_at = if lower { 4 * p.t[p.v as usize - 1] as usize } else { list.len() };
+        list[..looked_at].iter().any(|&byte| byte != 0)
     };
     (0..p.v).find(fails).map_or(0, |l| 64 + l)
 }

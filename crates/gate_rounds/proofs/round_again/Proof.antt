@@ -1,6 +1,8 @@
 use borrow.Author.Needs.{needs}
 use mathlib.Core.Path.{ap, _∙_}
+use lib.Dec.{lit≤}
 use Rattle.gate_rounds.specs.Answers.{isMember}
+use Rattle.gate_rounds.specs.Scratched.{middle}
 use Rattle.gate_rounds.proofs.round_again.Statement.{statement}
 use Rattle.gate_rounds.proofs.round_again.Tie as tie
 
@@ -12,6 +14,14 @@ rewrites-requires c κs = search needs
 
 expect-requires : tie.Need-expect-requires
 expect-requires c κs = let r = c .before .before .before .before in r .rewrites .ensures ∙ ap isMember (r .before .before .before .before .before .before .before .before .before .before .round .ensures .1)
+
+scratched-requires : tie.Need-scratched-requires
+scratched-requires c κs =
+    let r = c .before .before .before .before .before .before in
+    let o = r .before .before .before .before .before .before .before .before .before .before in
+    let s = o .before .before .before .before .before .before .before .before in
+    let e = o .round .ensures in
+    (s .pre .0, e .0, e .1, middle (s .args .p) (s .pre .0) _ (e .0), lit≤ tt)
 
 same-length : tie.Need-same-length
 same-length c = search needs
@@ -32,6 +42,7 @@ round-again-spec =
     round-requires
     rewrites-requires
     expect-requires
+    scratched-requires
     same-length
     same-length-2
     same-length-3
