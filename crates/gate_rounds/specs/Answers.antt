@@ -1,8 +1,8 @@
 -- Tests of answers.
 --   isDone r, isMember r, isBlank r    is it done? is it member? is it blank?
 use mathlib.Core.Path.{_≡_, refl, sym, ap, ap₂, _∙_}
-use mathlib.Core.Bool.{Bool, Bool·beq, true, false, _&&_}
-use mathlib.Core.Logic.{_↔_}
+use mathlib.Core.Bool.{Bool, Bool·beq, true, false, not, _&&_}
+use mathlib.Core.Logic.{_≢_, _↔_}
 use native.Mathlib.Omega.{arith}
 use Prim.Native.Nat.{ℕ}
 use Rattle.code.specs.declared.Outcome.{Outcome}
@@ -39,6 +39,13 @@ is-member Verdict.Blank e = absurd (never e)
 is-member (Verdict.SubWord i) e = absurd (never e)
 is-member (Verdict.NestedWord l) e = absurd (never e)
 is-member (Verdict.Refused k) e = absurd (never e)
+
+pub not-member : (r : Verdict) → r ≢ Verdict.Member → not (isMember r) ≡ true
+not-member Verdict.Member h = absurd (h refl)
+not-member Verdict.Blank h = refl
+not-member (Verdict.SubWord i) h = refl
+not-member (Verdict.NestedWord l) h = refl
+not-member (Verdict.Refused k) h = refl
 
 agree : (a b : Bool) → (a ≡ true → b ≡ true) → (b ≡ true → a ≡ true) → Bool·beq a b ≡ true
 agree true b f g = rw (f refl) refl

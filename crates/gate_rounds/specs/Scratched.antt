@@ -1,6 +1,6 @@
 -- A member of which one byte is changed is no member.
-use mathlib.Core.Path.{_≡_, refl, sym, ap, _∙_}
-use mathlib.Core.Bool.{Bool, true, false, not}
+use mathlib.Core.Path.{_≡_, sym, ap, _∙_}
+use mathlib.Core.Bool.{true, not}
 use mathlib.Core.Logic.{_≢_, _⊎_, inl, inr}
 use mathlib.Core.List.{List}
 use Prim.Native.Nat.{ℕ, _+_, _*_, _/_, _%_, _≤_, _<_}
@@ -22,7 +22,7 @@ use Rattle.code.specs.Layout.{Bytes, IsPage}
 use Rattle.code.specs.Parameters.{Accepted, subWordBytes}
 use Rattle.code.specs.Theorems.{demands}
 use Rattle.layout.specs.Sizes.{stored-low}
-use Rattle.gate_rounds.specs.Answers.{isMember}
+use Rattle.gate_rounds.specs.Answers.{isMember, not-member}
 
 -- a page has a byte in the middle
 pub middle : (p : Parameters) → Accepted p → (x : List ℕ) → IsPage p x → length x / 2 < length x
@@ -30,13 +30,6 @@ middle p A x h = go (p .m) (subWordBytes p) (h .exact) (omega (arith, accepted p
   where
     go : (m b : ℕ) → length x ≡ m * b → 1 ≤ m → 1 ≤ b → length x / 2 < length x
     go m b e i j = let l : 1 ≤ m * b = Nat.mul-pos i j in omega arith
-
-no-member : (r : Verdict) → r ≢ Verdict.Member → not (isMember r) ≡ true
-no-member Verdict.Member h = absurd (h refl)
-no-member Verdict.Blank h = refl
-no-member (Verdict.SubWord i) h = refl
-no-member (Verdict.NestedWord l) h = refl
-no-member (Verdict.Refused k) h = refl
 
 module _ (p : Parameters) (A : Accepted p) (x : List ℕ) (k e : ℕ) (h : IsPage p x) (l : k < length x) (f : e < 256) (g : 1 ≤ e) where
   abbrev b : ℕ
@@ -66,18 +59,14 @@ module _ (p : Parameters) (A : Accepted p) (x : List ℕ) (k e : ℕ) (h : IsPag
   other s = o (sym (ap (λ (y : List ℕ). getD y k 0) s ∙ getD-set-same x k c 0 l))
 
   b-pos : 0 < b
-  b-pos = go (Nat.eq-zero-or-pos b)
-    where
-      go : (b ≡ 0) ⊎ (0 < b) → 0 < b
-      go (inl z) = absurd (Nat.not-suc-le-zero (rw (h .exact, z, Nat.mul-zero (p .m)) at l))
-      go (inr z) = z
+  b-pos = omega (arith, stored-low p A)
 
   place : k / b * b + k % b ≡ k
   place = Nat.div-add-mod' k b
 
   pub byte-changed : judgeAnswer p x ≡ Verdict.Member → (r : Verdict) → Judged p (set x k c) r → not (isMember r) ≡ true
   byte-changed m r J =
-      no-member r (demands p A .2 .bytes x (set x k c) (k / b) (k % b) 1 r (h .bytes) set-bytes
+      not-member r (demands p A .2 .bytes x (set x k c) (k / b) (k % b) 1 r (h .bytes) set-bytes
       (Nat.div-lt-iff-lt-mul b-pos .1 (rw (h .exact) at l)) (Nat.le-refl 1) (omega (arith, Nat.mod-lt k b-pos)) (demands p A .2 .one-byte)
       (λ j s. sym (getD-set-other x k j c 0 (apart j s))) (judged p x Verdict.Member (sym m)) other J)
     where
