@@ -1,6 +1,6 @@
 /*
- * The C functions at work: a sheet is quoted, a page is written, judged, damaged, judged and read out, an erased page is
- * known as blank, all that with full and with shortened sub-words, and every refusal is shown to leave its buffers. Every
+ * The C functions at work: a sheet is quoted, a page is written, judged, damaged, judged and read out, scratched and judged,
+ * an erased page is known as blank, all that with full and with shortened sub-words, and every refusal is shown to leave its buffers. Every
  * length comes from the calls. Prints what it does; the first surprise ends it with status 1.
  *
  *   rt staticlib gii_bch
@@ -94,6 +94,26 @@ static void print_bytes(const char *name, const uint8_t *bytes, size_t length)
     printf("%s (%lu bytes)\n", length > 16 ? " .." : "", (unsigned long)length);
 }
 
+/* A member scratched: w_v neighbouring places of sub-word i flipped, from many places on. */
+static void scratched(const struct gii_sheet *s, const uint8_t *quote, const uint8_t *page, uint32_t i)
+{
+    static uint8_t other[GII_PAGE_MAX];
+    size_t page_len = gii_sheet_page_bytes(s);
+    uint32_t w = gii_number(quote, GII_QUOTE_DEGREE(s->v)), a, k, at, verdict;
+    int found = 1;
+
+    for (a = 0; a < stored(s); a += 1 + stored(s) / 9) {
+        memcpy(other, page, page_len);
+        for (k = a; k < a + w && (s->s == 0 || k < stored(s)); k++) {
+            at = k % stored(s);
+            other[i * (page_len / s->m) + at / 8] ^= (uint8_t)(1u << at % 8);
+        }
+        verdict = gii_sheet_judge(s, other, page_len);
+        found = found && (verdict == GII_SUB_WORD + i || verdict == GII_NESTED_WORD);
+    }
+    must(found, "scratched, w_v places in a row: never a member");
+}
+
 /* A page's way: written, judged, read out; damaged, judged, read out. */
 static void round_trip(const struct gii_sheet *s)
 {
@@ -138,6 +158,7 @@ static void round_trip(const struct gii_sheet *s)
         must(gii_sheet_read_out(s, other, page_len, out, blocks_len) == GII_SUB_WORD + i, "read out says so too");
         must(gii_sheet_syndromes(s, other, page_len, i, list, GII_LIST_BYTES(s->t[0])) == GII_DONE, "syndromes");
         must(gii_number(list, 0) != 0, "S_1 is not 0");
+        scratched(s, quote, page, i);
     }
 }
 
