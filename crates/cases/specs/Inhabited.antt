@@ -1,7 +1,7 @@
 -- The theorems' hypotheses hold of something, and seven statements that go further than the theorems are false. All by computation.
 use mathlib.Core.Path.{_≡_, refl, sym, ap, _∙_}
 use mathlib.Core.Logic.{_≢_, _⊎_, inl, inr}
-use mathlib.Core.Bool.{Bool, true, false, not, _&&_}
+use mathlib.Core.Bool.{Bool, true, false, not, _&&_, _||_}
 use mathlib.Core.List.{List, [], _∷_}
 use Prim.Native.Nat.{ℕ, zero, suc, _+_, _-_, _≤_, _<_, zero-le}
 use native.Mathlib.Nat.{le-of-suc-le-suc, not-suc-le-zero, lt-irrefl, zero-add}
@@ -18,10 +18,13 @@ use Rattle.code.specs.declared.Parameters.{Parameters}
 use Rattle.code.specs.declared.Verdict.{Verdict}
 use Rattle.code.specs.Accepted.{accepted, any-none}
 use Rattle.code.specs.Blank.{blank-iff}
+use Rattle.code.specs.Chains.{either}
+use Rattle.code.specs.Demands.{Burst}
 use Rattle.code.specs.Lists.{any, range}
 use Rattle.code.specs.Parameters.{Accepted, sheetRefusal, sheet, stored}
 use Rattle.code.specs.Code.{gen, degree, remainder, nested, combine, N, newton, IsMember, distance, verdict}
-use Rattle.code.specs.Layout.{dataBytes, pageBytes, blocksClear, blocksFull, pageClear, pageOf, blank, wordsOf, Fits, IsBlank, IsPage, Bytes, coefficientOf, differences}
+use Rattle.code.specs.Layout.{dataBytes, pageBytes, blocksClear, blocksFull, pageClear, pageOf, blank, wordsOf, Fits, IsBlank, IsPage, Bytes}
+use Rattle.code.specs.Layout.{coefficientOf, differences}
 use Rattle.code.specs.Calls.{judgeAnswer, verdictNumber}
 use Rattle.code.specs.Refusals.{writeRefusal}
 use Rattle.cases.specs.Sheets.{A, B}
@@ -68,6 +71,12 @@ light = 0xD1 ∷ 0x01 ∷ 0x00 ∷ 0x00 ∷ []
 abbrev zeros : List ℕ
 zeros = 0x00 ∷ 0x00 ∷ 0x00 ∷ 0x00 ∷ []
 
+bytes-light : Bytes light
+bytes-light = (lit< tt, (lit< tt, (lit< tt, (lit< tt, tt))))
+
+bytes-zeros : Bytes zeros
+bytes-zeros = (lit< tt, (lit< tt, (lit< tt, (lit< tt, tt))))
+
 -- judge calls the first a member
 pub light-member : judgeAnswer A light ≡ Verdict.Member
 unfolding judgeAnswer pow
@@ -92,27 +101,57 @@ pub not-farther : ((x y : List ℕ) → Bytes x → Bytes y → judgeAnswer A x 
     → suc (distance A) ≤ differences A x y) → ⊥
 not-farther h =
     let far : suc (distance A) ≤ differences A light zeros =
-    h light zeros (lit< tt, (lit< tt, (lit< tt, (lit< tt, tt))))
-    (lit< tt, (lit< tt, (lit< tt, (lit< tt, tt)))) light-member zeros-member light-other in
+    h light zeros bytes-light bytes-zeros light-member zeros-member light-other in
     lt-irrefl (distance A) (rw light-distance at far)
 
--- ---- bursts: these two differ in sub-word 0 alone, at places 0, 4, 6, 7 and 8
--- where two pages differ, a test holds of the sub-word and the place: all places looked at
+-- ---- bursts: pages that differ in sub-word 0 alone
+-- two pages differ at place k of sub-word j, where Q does not hold
+abbrev elsewhere : Parameters → List ℕ → List ℕ → (ℕ → ℕ → Bool) → ℕ → ℕ → Bool
+elsewhere p x y Q j k = not (eqb (coefficientOf p x j k) (coefficientOf p y j k)) && not (Q j k)
+
+-- all places looked at
 only-where : (p : Parameters) (x y : List ℕ) (Q : ℕ → ℕ → Bool)
-    → T (not (any (λ j. any (λ k. not (eqb (coefficientOf p x j k) (coefficientOf p y j k)) && not (Q j k)) (range 0 (stored p))) (range 0 (p .m))))
+    → T (not (any (λ j. any (elsewhere p x y Q j) (range 0 (stored p))) (range 0 (p .m))))
     → (j k : ℕ) → j < p .m → k < stored p → coefficientOf p x j k ≢ coefficientOf p y j k → T (Q j k)
 only-where p x y Q t j k h l d =
     go (eqb (coefficientOf p x j k) (coefficientOf p y j k)) (Q j k) (λ e. d (eqb→eq (coefficientOf p x j k) (coefficientOf p y j k) e))
-    (any-none (λ k. not (eqb (coefficientOf p x j k) (coefficientOf p y j k)) && not (Q j k)) 0 (stored p)
-    (any-none (λ j. any (λ k. not (eqb (coefficientOf p x j k) (coefficientOf p y j k)) && not (Q j k)) (range 0 (stored p))) 0 (p .m) t j zero-le
-    (rw (zero-add (p .m)) h)) k zero-le (rw (zero-add (stored p)) l))
+    (any-none (elsewhere p x y Q j) 0 (stored p)
+    (any-none (λ j. any (elsewhere p x y Q j) (range 0 (stored p))) 0 (p .m) t j zero-le (rw (zero-add (p .m)) h))
+    k zero-le (rw (zero-add (stored p)) l))
   where
     go : (b q : Bool) → (T b → ⊥) → T (not (not b && not q)) → T q
     go b true n u = tt
     go true false n u = absurd (n tt)
     go false false n u = u
 
--- so w_v + 1 neighbouring places are too many
+-- from place 0 on: g_0 alone, which nested word 0 shows
+pub burst-A : Burst A zeros (0x13 ∷ 0x00 ∷ 0x00 ∷ 0x00 ∷ []) 0 0
+unfolding any range degree
+burst-A j k l b d =
+    let t = both (eqb j 0) (ltb k 8) (only-where A zeros (0x13 ∷ 0x00 ∷ 0x00 ∷ 0x00 ∷ []) (λ j k. eqb j 0 && ltb k 8) tt j k l b d) in
+    (eqb→eq j 0 (t .0), inl (zero-le, ltb→lt k 8 (t .1)))
+
+pub burst-nested : judgeAnswer A (0x13 ∷ 0x00 ∷ 0x00 ∷ 0x00 ∷ []) ≡ Verdict.NestedWord 0
+unfolding judgeAnswer pow
+burst-nested = refl
+
+-- from place 14 on, the last, and on to place 0
+pub burst-around : Burst A zeros (0x01 ∷ 0x40 ∷ 0x00 ∷ 0x00 ∷ []) 0 14
+unfolding any range degree
+burst-around j k l b d =
+    let t = both (eqb j 0) (eqb k 0 || ltb 13 k)
+    (only-where A zeros (0x01 ∷ 0x40 ∷ 0x00 ∷ 0x00 ∷ []) (λ j k. eqb j 0 && (eqb k 0 || ltb 13 k)) tt j k l b d) in
+    (eqb→eq j 0 (t .0), place (either (eqb k 0) (ltb 13 k) (t .1)))
+  where
+    place : T (eqb k 0) ⊎ T (ltb 13 k) → ((14 ≤ k) × (k < 14 + 8)) ⊎ ((A .s ≡ 0) × (k + 15 < 14 + 8))
+    place (inl u) = inr (refl, omega (arith, eqb→eq k 0 u))
+    place (inr u) = inl (ltb→lt 13 k u, omega arith)
+
+pub burst-sub-word : judgeAnswer A (0x01 ∷ 0x40 ∷ 0x00 ∷ 0x00 ∷ []) ≡ Verdict.SubWord 0
+unfolding judgeAnswer pow
+burst-sub-word = refl
+
+-- the two members differ at places 0, 4, 6, 7 and 8: so w_v + 1 neighbouring places are too many
 pub not-longer :
     ((x y : List ℕ) (i a : ℕ) → Bytes x → Bytes y → i < A .m → a < stored A → judgeAnswer A x ≡ Verdict.Member
     → ((j k : ℕ) → j < A .m → k < stored A → coefficientOf A x j k ≢ coefficientOf A y j k
@@ -121,7 +160,7 @@ pub not-longer :
     → ⊥
 unfolding any range degree
 not-longer h =
-    h light zeros 0 0 (lit< tt, (lit< tt, (lit< tt, (lit< tt, tt)))) (lit< tt, (lit< tt, (lit< tt, (lit< tt, tt)))) (lit< tt) (lit< tt) light-member
+    h light zeros 0 0 bytes-light bytes-zeros (lit< tt) (lit< tt) light-member
     (λ j k l b d. (let t = both (eqb j 0) (ltb k 9) (only-where A light zeros (λ j k. eqb j 0 && ltb k 9) tt j k l b d) in
     (eqb→eq j 0 (t .0), zero-le, ltb→lt k 9 (t .1)))) light-other zeros-member
 
@@ -217,7 +256,7 @@ pub not-at-every-s :
 unfolding blocksFull
 not-at-every-s h = let z : _≡_ {A = ℕ} 0 13 = sym short-written ∙ h short (0x01 ∷ 0x1F ∷ []) accepted-short fits-short tt in omega arith
 
--- nor may a burst pass from place n - s - 1 to place 0: on the same sheet, where n - s is 9, from place 2 on, place 1 left out
+-- the two members again: they differ within places 2 to 8 and 0, so at s > 0 no burst may pass from place n - s - 1 to place 0
 short-member : judgeAnswer short light ≡ Verdict.Member
 unfolding judgeAnswer pow
 short-member = refl
@@ -234,7 +273,7 @@ pub not-around-short :
     → ⊥
 unfolding any range degree
 not-around-short h =
-    h light zeros 0 2 (lit< tt, (lit< tt, (lit< tt, (lit< tt, tt)))) (lit< tt, (lit< tt, (lit< tt, (lit< tt, tt)))) (lit< tt) (lit< tt) short-member
+    h light zeros 0 2 bytes-light bytes-zeros (lit< tt) (lit< tt) short-member
     (λ j k l b d. (let t = both (eqb j 0) (not (eqb k 1)) (only-where short light zeros (λ j k. eqb j 0 && not (eqb k 1)) tt j k l b d) in
     (eqb→eq j 0 (t .0), around k b (t .1)))) light-other short-zeros
   where

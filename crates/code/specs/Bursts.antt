@@ -18,7 +18,7 @@ use Rattle.polynomial.specs.Coefficients.{beyond, coefficient-xor, same-bits}
 use Rattle.polynomial.specs.Digits.{low-coefficient}
 use Rattle.polynomial.specs.Division.{Deg, lt-of-deg, rem, rem-clmul-r, rem-multiple, rem-small, rem-xor, rem-zero, unity-deg, xor-lt}
 use Rattle.polynomial.specs.Multiple.{deg-pos, rem-reduced}
-use Rattle.polynomial.specs.Sums.{All, add, add-at, all-at, at-all, length-add}
+use Rattle.polynomial.specs.Sums.{All, add, add-at, at-all, length-add}
 use Rattle.polynomial.specs.Xor.{xor, xor-eq-zero, xor-self, xor-zero-l, xor-zero-r}
 use Rattle.field.specs.Fields.{fieldOf}
 use Rattle.generator.specs.Generator.{generator-cyclic}
@@ -29,7 +29,7 @@ use Rattle.code.specs.Demands.{Burst, InBurst}
 use Rattle.code.specs.Distance.{Passing, nested-add}
 use Rattle.code.specs.Layout.{IsBlank, IsPage, coefficientOf, wordSizes, wordsOf}
 use Rattle.code.specs.Lists.{join}
-use Rattle.code.specs.Pages.{IsWords, join-words, page-words, words-join, words-page}
+use Rattle.code.specs.Pages.{IsWords, join-words, word-lt, words-join, words-many, words-page}
 use Rattle.code.specs.Parameters.{len, stored, strength, subWordBytes}
 use Rattle.code.specs.Placement.{sub-word-bit}
 use Rattle.code.specs.Steps.{Divides, combine-cons, combine-nil, degree-eq, gen-eq, nested-eq}
@@ -119,17 +119,8 @@ module _ (p : Parameters) (R : Rules p) where
     abbrev cy : ℕ → ℕ
     cy j = getD (wordsOf p y) j 0
 
-    X : IsWords p (wordsOf p x)
-    X = page-words p R x hx
-
-    Y : IsWords p (wordsOf p y)
-    Y = page-words p R y hy
-
-    lx : (j : ℕ) → j < p .m → cx j < 2 ^ stored p
-    lx j h = all-at (λ c. c < 2 ^ stored p) (wordsOf p x) (X .below) j (rw (X .many) h)
-
-    ly : (j : ℕ) → j < p .m → cy j < 2 ^ stored p
-    ly j h = all-at (λ c. c < 2 ^ stored p) (wordsOf p y) (Y .below) j (rw (Y .many) h)
+    same-many : length (wordsOf p x) ≡ length (wordsOf p y)
+    same-many = words-many p x ∙ sym (words-many p y)
 
     differs : (j k : ℕ) → j < p .m → k < stored p → coefficient (cx j) k ≢ coefficient (cy j) k → (j ≡ i) × InBurst p a k
     differs j k h b d =
@@ -138,7 +129,8 @@ module _ (p : Parameters) (R : Rules p) where
     -- the other sub-words are the same
     pub others-same : (j : ℕ) → j < p .m → j ≢ i → cx j ≡ cy j
     others-same j h o =
-        same-bits (stored p) (cx j) (cy j) (lx j h) (ly j h) (λ k b. pick k b (ℕ-discrete (coefficient (cx j) k) (coefficient (cy j) k)))
+        same-bits (stored p) (cx j) (cy j) (word-lt p R x hx j h) (word-lt p R y hy j h)
+        (λ k b. pick k b (ℕ-discrete (coefficient (cx j) k) (coefficient (cy j) k)))
       where
         pick : (k : ℕ) → k < stored p → Dec (coefficient (cx j) k ≡ coefficient (cy j) k) → coefficient (cx j) k ≡ coefficient (cy j) k
         pick k b (yes e) = e
@@ -152,16 +144,16 @@ module _ (p : Parameters) (R : Rules p) where
     e = xor (cx i) (cy i)
 
     sums-at : (j : ℕ) → getD sums j 0 ≡ xor (cx j) (cy j)
-    sums-at j = add-at (wordsOf p x) (wordsOf p y) j (X .many ∙ sym (Y .many))
+    sums-at j = add-at (wordsOf p x) (wordsOf p y) j same-many
 
     many : length sums ≡ p .m
-    many = length-add (wordsOf p x) (wordsOf p y) (X .many ∙ sym (Y .many)) ∙ X .many
+    many = length-add (wordsOf p x) (wordsOf p y) same-many ∙ words-many p x
 
     alone : (j : ℕ) → j < length sums → j ≢ i → getD sums j 0 ≡ 0
     alone j h o = sums-at j ∙ ap (λ (c : ℕ). xor c (cy j)) (others-same j (rw many at h) o) ∙ xor-self (cy j)
 
     e-stored : e < 2 ^ stored p
-    e-stored = xor-lt (stored p) (cx i) (cy i) (lx i l) (ly i l)
+    e-stored = xor-lt (stored p) (cx i) (cy i) (word-lt p R x hx i l) (word-lt p R y hy i l)
 
     e-lt : e < 2 ^ len p
     e-lt = Nat.lt-of-lt-of-le e-stored (pow-mono (stored-le p R))
@@ -191,7 +183,7 @@ module _ (p : Parameters) (R : Rules p) where
     -- nested word 0 passes in both only if they are the same page
     pub burst-same : Divides p (p .v) (nested p 0 (wordsOf p x)) → Divides p (p .v) (nested p 0 (wordsOf p y)) → x ≡ y
     burst-same dx dy =
-        sym (join-words p R x hx) ∙ ap (join (wordSizes p)) (ext-getD 0 (wordsOf p x) (wordsOf p y) (X .many ∙ sym (Y .many)) each)
+        sym (join-words p R x hx) ∙ ap (join (wordSizes p)) (ext-getD 0 (wordsOf p x) (wordsOf p y) same-many each)
         ∙ join-words p R y hy
       where
         divides : Divides p (p .v) e
@@ -210,7 +202,7 @@ module _ (p : Parameters) (R : Rules p) where
           where
             go : Dec (j ≡ i) → cx j ≡ cy j
             go (yes s) = rw s (xor-eq-zero (cx i) (cy i) zero-e)
-            go (no s) = others-same j (rw (X .many) at h) s
+            go (no s) = others-same j (rw (words-many p x) at h) s
 
   -- ---- a multiple of g_v in sub-word i, and zeros elsewhere
   module _ (i c : ℕ) (l : i < p .m) where

@@ -8,10 +8,10 @@ use Prim.Native.Nat.{ℕ, zero, suc, _+_, _-_, _*_, _/_, _%_, _^_, _≤_, _<_}
 use native.Mathlib.Nat as Nat
 use native.Mathlib.Omega.{arith}
 use lib.Dec.{T, ltb→lt, lt→ltb}
-use lib.ListN.{length, replicate, length-replicate, length-map}
+use lib.ListN.{length, getD, replicate, length-replicate, length-map}
 use lib.Pow.{pow-mono, pow-pos}
 use Rattle.polynomial.specs.Division.{xor-lt}
-use Rattle.polynomial.specs.Sums.{All, add, length-add}
+use Rattle.polynomial.specs.Sums.{All, add, all-at, length-add}
 use Rattle.field.specs.Field.{zero-mul}
 use Rattle.field.specs.Irreducible.{both}
 use Rattle.code.specs.declared.Parameters.{Parameters}
@@ -196,6 +196,9 @@ module _ (p : Parameters) (R : Rules p) where
   page-words x h =
       let e : length (wordsOf p x) ≡ p .m = words-many p x in
       record { many = e; below = within-all (stored p) (p .m) (wordsOf p x) e (rw (pageClear-eq p x) at (h .clear)) }
+
+  pub word-lt : (x : List ℕ) → IsPage p x → (i : ℕ) → i < p .m → getD (wordsOf p x) i 0 < 2 ^ stored p
+  word-lt x h i l = let W = page-words x h in all-at (λ c. c < 2 ^ stored p) (wordsOf p x) (W .below) i (rw (W .many) l)
 
   -- with clear spare bits a page has no other coefficients
   pub stored-page : (x : List ℕ) → IsPage p x → storedOf p x ≡ wordsOf p x

@@ -14,7 +14,7 @@ use Rattle.polynomial.specs.Bits.{coefficient}
 use Rattle.polynomial.specs.Coefficients.{beyond}
 use Rattle.polynomial.specs.Digits.{value}
 use Rattle.polynomial.specs.Division.{rem-lt, rem-zero}
-use Rattle.polynomial.specs.Sums.{All, add, all-at, at-all}
+use Rattle.polynomial.specs.Sums.{All, add, at-all}
 use Rattle.polynomial.specs.Multiple.{Multiple, multiple-same, rem-differ}
 use Rattle.field.specs.Elements.{power-full, power-order, syndrome, syndrome-iff, syndrome-lt, syndrome-sum}
 use Rattle.field.specs.Fields.{BinaryField, fieldOf, irreducible, polynomial-degree, polynomial-irreducible}
@@ -47,7 +47,7 @@ use Rattle.code.specs.Layout.{pageClear, pageOf, storedOf, wordSizes, wo
 use Rattle.code.specs.Lists.{addBelow, countBelow, join, sum}
 use Rattle.code.specs.Newton.{nesteds-of, newtons-of}
 use Rattle.code.specs.Pages.{IsWords, again-from, again-to, data-fit, dataBytes-eq, join-words}
-use Rattle.code.specs.Pages.{page-back, page-has, page-is, page-words, sum-fits, sum-page}
+use Rattle.code.specs.Pages.{page-back, page-has, page-is, page-words, sum-fits, sum-page, word-lt}
 use Rattle.code.specs.Parameters.{Accepted, full, len, stored, strength, subWordBytes}
 use Rattle.code.specs.Placement.{all-places, any-fit, any-has, blocks-same, check-bits, data-room, place-bit, read-bit, sub-word-bit, written-bit}
 use Rattle.code.specs.Places.{addBelow-ext, countBelow-ext, distance-places}
@@ -181,8 +181,7 @@ module _ (p : Parameters) (A : Accepted p) where
     full-count = refl;
     word-bytes = refl;
     nested-bytes = refl;
-    top = λ x h i k l b. beyond (subWordOf p x i) (stored p) k
-        (all-at (λ c. c < 2 ^ stored p) (wordsOf p x) (page-words p R x h .below) i (rw (page-words p R x h .many) l)) b;
+    top = λ x h i k l b. beyond (subWordOf p x i) (stored p) k (word-lt p R x h i l) b;
     data-bit = λ i l. omega (arith, stored-room p R (p .v - i) (Nat.sub-le (p .v) i));
   }
 
@@ -562,10 +561,8 @@ module _ (p : Parameters) (A : Accepted p) where
     where
       unclear : T (pageClear p y) → ⊥
       unclear t =
-          let W : IsWords p (wordsOf p y) = page-words p R y (record { bytes = b; exact = e; clear = t }) in
-          let z : coefficient (subWordOf p y j) k ≡ 0 = beyond (subWordOf p y j) (stored p) k
-          (all-at (λ f. f < 2 ^ stored p) (wordsOf p y) (W .below) j (rw (W .many) l)) h in
-          Nat.suc-ne-zero 0 (sym s ∙ sym (place-bit p R y b j k l c) ∙ z)
+          let w : subWordOf p y j < 2 ^ stored p = word-lt p R y (record { bytes = b; exact = e; clear = t }) j l in
+          Nat.suc-ne-zero 0 (sym s ∙ sym (place-bit p R y b j k l c) ∙ beyond (subWordOf p y j) (stored p) k w h)
 
   single-judged : (i c : ℕ) → i < p .m → c < 2 ^ stored p → Divides p (p .v) c → judgeAnswer p (singlePage p i c) ≡ Verdict.Member
   single-judged i c l b d =

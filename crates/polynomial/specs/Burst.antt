@@ -94,13 +94,15 @@ module _ (n w a e : ℕ) (b : a ≤ n) (l : e < 2 ^ n) (run : (k : ℕ) → k < 
     moved =
         let s : a + (n - a) ≡ n = omega arith in
         clmul-pow (n - a) e ∙ ap (λ (y : ℕ). y * 2 ^ (n - a)) (sym (split e a)) ∙ Nat.add-mul (hi * 2 ^ a) lo (2 ^ (n - a))
-        ∙ ap (λ (y : ℕ). y + lo * 2 ^ (n - a)) (Nat.mul-assoc hi (2 ^ a) (2 ^ (n - a)) ∙ ap (λ (y : ℕ). hi * y) (sym (pow-add 2 a (n - a)) ∙ ap (λ (k : ℕ). 2 ^ k) s))
+        ∙ ap (λ (y : ℕ). y + lo * 2 ^ (n - a)) (Nat.mul-assoc hi (2 ^ a) (2 ^ (n - a))
+        ∙ ap (λ (y : ℕ). hi * y) (sym (pow-add 2 a (n - a)) ∙ ap (λ (k : ℕ). 2 ^ k) s))
         ∙ sym (sym (xor-is (hi * 2 ^ n) (lo * 2 ^ (n - a))) ∙ xor-shifted hi n (lo * 2 ^ (n - a)) (rw s at (shl-lt a (n - a) (Nat.mod-lt e (pow-pos a)))))
         ∙ ap (λ (y : ℕ). xor y (lo * 2 ^ (n - a))) (sym (clmul-pow n hi))
 
     turned-rem : rem g w e ≡ 0 → rem g w turned ≡ 0
     turned-rem z =
-        rem-xor g w d (lo * 2 ^ (n - a)) hi ∙ ap (xor (rem g w (lo * 2 ^ (n - a)))) (sym (around hi)) ∙ xor-comm (rem g w (lo * 2 ^ (n - a))) (rem g w (clmul (2 ^ n) hi))
+        rem-xor g w d (lo * 2 ^ (n - a)) hi ∙ ap (xor (rem g w (lo * 2 ^ (n - a)))) (sym (around hi))
+        ∙ xor-comm (rem g w (lo * 2 ^ (n - a))) (rem g w (clmul (2 ^ n) hi))
         ∙ sym (rem-xor g w d (clmul (2 ^ n) hi) (lo * 2 ^ (n - a))) ∙ ap (rem g w) (sym moved) ∙ sym (rem-clmul-r g w d (2 ^ (n - a)) e)
         ∙ rw (z, clmul-zero-r (2 ^ (n - a))) (rem-zero g w)
 
