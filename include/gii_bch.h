@@ -156,8 +156,8 @@ uint32_t gii_read_out(uint32_t q, uint32_t m, uint32_t v, uint32_t t0, uint32_t 
  * that is no multiple of g_(v-l), nested word l being the sum over i of x^(l i) c_i with x^n = 1, whatever s is. Or it
  * refuses: 1 to 4, 14, 7, 8 (a spare bit of a page that is not blank).
  *
- * A member of which only w_v neighbouring coefficients of one sub-word are changed, w_v being GII_QUOTE_DEGREE(v) of the
- * quote, is never a member again; where s is 0 the coefficient of x^0 follows that of x^(n-1).
+ * What comes of a member by changes within w_v neighbouring coefficients of one sub-word, w_v being GII_QUOTE_DEGREE(v) of
+ * the quote, is never a member; where s is 0 the coefficient of x^0 follows that of x^(n-1).
  */
 uint32_t gii_judge(uint32_t q, uint32_t m, uint32_t v, uint32_t t0, uint32_t t1, uint32_t t2, uint32_t t3,
                    uint32_t s, const uint8_t *page, size_t page_len);

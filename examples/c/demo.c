@@ -1,7 +1,7 @@
 /*
  * The C functions at work: a sheet is quoted, a page is written, judged, damaged, judged and read out, scratched and judged,
- * an erased page is known as blank, all that with full and with shortened sub-words, and every refusal is shown to leave its buffers. Every
- * length comes from the calls. Prints what it does; the first surprise ends it with status 1.
+ * an erased page is known as blank, all that with full and with shortened sub-words, and every refusal is shown to leave its
+ * buffers. Every length comes from the calls. Prints what it does; the first surprise ends it with status 1.
  *
  *   rt staticlib gii_bch
  *   cc -O2 -Iinclude examples/c/demo.c target/staticlib/libgii_bch.a -o target/demo && target/demo

@@ -438,8 +438,8 @@ impl Sheet {
 
     /// Whether the page is a member of the code. Refuses the parameters, the length, a spare bit of a page that is not blank.
     ///
-    /// A member of which only w_v neighbouring coefficients of one sub-word are changed, w_v being `degrees[v]` of the quote,
-    /// is never a member again; where s is 0 the coefficient of x^0 follows that of x^(n−1).
+    /// What comes of a member by changes within w_v neighbouring coefficients of one sub-word, w_v being `degrees[v]` of the
+    /// quote, is never a member; where s is 0 the coefficient of x^0 follows that of x^(n−1).
     ///
     /// ```
     /// # use gii_bch::{Refusal, Sheet, Verdict};
