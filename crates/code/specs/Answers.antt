@@ -72,6 +72,11 @@ pub leaves-refused : (r : ℕ) (x old : List ℕ) → 0 < r → leaves r x old �
 leaves-refused zero x old h = absurd (Nat.not-suc-le-zero h)
 leaves-refused (suc r) x old h = refl
 
+-- an answer that is a refusal comes of one
+pub refused-pos : (k r : ℕ) → Outcome.Refused k ≡ outcome r → 0 < r
+refused-pos k zero e = let z : _≡_ {A = ℕ} 0 1 = cc in absurd (omega arith)
+refused-pos k (suc r) e = omega arith
+
 pub made-refused : (refusal k : ℕ) (result old : List ℕ) → refusal ≡ k → 0 < k → refusal ≤ lastRefusal
     → Made refusal result old old (Outcome.Refused k)
 made-refused refusal k result old e h b = record {

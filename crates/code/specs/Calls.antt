@@ -5,6 +5,7 @@
 --   pageVerdict, pageNumber, pageValues            what is said of a page that is not refused, with number and values apart from the
 --                                                  enum: blank or, else, the first word that fails
 --   judgeNumber, judgeValues, readNumber, readValues    the same behind the refusals of judge and of read out
+--   statuses, pagesBy                              the list of a write of many pages, and the pages afterwards
 --   quote p                                        the 12 numbers of the quote
 --   sizeUnless r x                                 the size x or, under the refusal r, 0
 --   Made, Named, Judged, ReadOut, ..               what a call promises, of its answer and of the buffer after it;
@@ -24,11 +25,11 @@ use Rattle.code.specs.declared.Outcome.{Outcome}
 use Rattle.code.specs.declared.Verdict.{Verdict}
 use Rattle.code.specs.declared.Nesting.{Nesting}
 use Rattle.code.specs.Register.{Register, Fed}
-use Rattle.code.specs.Lists.{range, _orElse_, valuesBy, lastRefusal}
+use Rattle.code.specs.Lists.{range, part, runs, _orElse_, valuesBy, lastRefusal}
 use Rattle.code.specs.Parameters.{nestedBytes, strength, sheetRefusal}
 use Rattle.code.specs.Code.{gen, degree, remainder, nested, N, shortRemainder, syndromes, verdict, failingNumber, failingValues}
-use Rattle.code.specs.Layout.{wordsOf, blank, pageOf, dataBits, dataOf}
-use Rattle.code.specs.Refusals.{writeRefusal, readRefusal, judgeRefusal, remainderRefusal, shortRefusal, nestedRefusal}
+use Rattle.code.specs.Layout.{wordsOf, blank, pageBytes, pageOf, dataBits, dataBytes, dataOf}
+use Rattle.code.specs.Refusals.{writeRefusal, manyRefusal, readRefusal, judgeRefusal, remainderRefusal, shortRefusal, nestedRefusal}
 use Rattle.code.specs.Refusals.{syndromesRefusal, nestedSyndromesRefusal, openRefusal, feedRefusal, quoteRefusal, nestingRefusal}
 
 -- ---- numbers and values of the answers
@@ -92,6 +93,28 @@ writeLeaves p L blocks page = leaves (writeRefusal p L blocks (length page)) (pa
 
 abbrev pub Written : Parameters → ℕ → List ℕ → List ℕ → List ℕ → Outcome → Type 0
 Written p L blocks page after r = Made (writeRefusal p L blocks (length page)) (pageOf p blocks) page after r
+
+-- ---- write of `count` pages, whose blocks and pages stand one behind another: page k's refusal if it were written alone is listed,
+-- and a page so refused is left as it was
+abbrev pub statusOf : Parameters → ℕ → List ℕ → ℕ → ℕ
+statusOf p L blocks k = writeRefusal p L (part (dataBytes p) k blocks) (pageBytes p)
+
+unfoldable pub statuses : Parameters → ℕ → ℕ → List ℕ → List ℕ
+unfolding range dataBytes writeRefusal
+statuses p L count blocks = map (statusOf p L blocks) (range 0 count)
+
+-- the pages by a list of their refusals
+abbrev pub pageBy : Parameters → List ℕ → List ℕ → List ℕ → ℕ → List ℕ
+pageBy p list blocks pages k = leaves (getD list k 0) (pageOf p (part (dataBytes p) k blocks)) (part (pageBytes p) k pages)
+
+unfoldable pub pagesBy : Parameters → List ℕ → List ℕ → List ℕ → List ℕ
+unfolding runs dataBytes pageOf
+pagesBy p list blocks pages = runs (pageBy p list blocks pages) 0 (length list)
+
+abbrev pub WrittenMany : Parameters → ℕ → ℕ → List ℕ → List ℕ → List ℕ → List ℕ → List ℕ → Outcome → Type 0
+WrittenMany p L count blocks pages after list listed r =
+    Made (manyRefusal p L count (length blocks) (length pages) (length list)) (pagesBy p (statuses p L count blocks) blocks pages) pages after r
+    × Made (manyRefusal p L count (length blocks) (length pages) (length list)) (statuses p L count blocks) list listed r
 
 -- ---- judge and read out
 -- the verdict on the words of a page
@@ -209,6 +232,11 @@ pub record MadeC (refusal : ℕ) (result old after : List ℕ) (answer : ℕ) : 
 
 abbrev pub WrittenC : Parameters → ℕ → List ℕ → List ℕ → List ℕ → ℕ → Type 0
 WrittenC p L blocks page after r = MadeC (writeRefusal p L blocks (length page)) (pageOf p blocks) page after r
+
+abbrev pub WrittenManyC : Parameters → ℕ → ℕ → List ℕ → List ℕ → List ℕ → List ℕ → List ℕ → ℕ → Type 0
+WrittenManyC p L count blocks pages after list listed r =
+    MadeC (manyRefusal p L count (length blocks) (length pages) (length list)) (pagesBy p (statuses p L count blocks) blocks pages) pages after r
+    × MadeC (manyRefusal p L count (length blocks) (length pages) (length list)) (statuses p L count blocks) list listed r
 
 pub record ReadOutC (p : Parameters) (page blocks after : List ℕ) (r : ℕ) : Type 0 where
   pub answers : r ≡ readNumber p page blocks

@@ -11,11 +11,13 @@
 --   InBurst p a k        place k is one of the w_v neighbouring places from a on
 --   Burst p x y i a      two pages differ in sub-word i alone, in the burst from a on: the requirement's scratched run
 --   BurstLaws p          judge finds every burst, and a longer one it need not find
+--   ManyLaws p           many pages in one call: each page and each listed byte are a single call's
 --   Shortening           which s are refused
 --   Demand3C p           the same of the C calls: WrittenC, ReadOutC, JudgedC, whose answers are numbers, 0 for done and member
 --   BlankC p             blank pages in C: 96 of judge and of read out, 13 of write
 --   BurstC p             bursts in C: judge's number is not 0
 --   QuotedC p            the quote of C, whose numbers are bytes
+--   ManyC p              many pages in C: a listed byte is the number of a single call
 use mathlib.Core.Path.{_≡_}
 use mathlib.Core.Logic.{_≢_, _↔_, _⊎_}
 use mathlib.Core.Bool.{cond}
@@ -36,14 +38,15 @@ use Rattle.field.specs.Irreducible.{NoFactor}
 use Rattle.code.specs.declared.Parameters.{Parameters}
 use Rattle.code.specs.declared.Outcome.{Outcome}
 use Rattle.code.specs.declared.Verdict.{Verdict}
-use Rattle.code.specs.Calls.{Judged, JudgedC, QuoteMade, QuoteMadeC, ReadOut, ReadOutC, Written, WrittenC, asBytes}
+use Rattle.code.specs.Calls.{Judged, JudgedC, QuoteMade, QuoteMadeC, ReadOut, ReadOutC, Written, WrittenC, WrittenMany, WrittenManyC, asBytes}
 use Rattle.code.specs.Calls.{empty, generators, nestedOf, nestedSyndromeList, nestedWordBytes}
 use Rattle.code.specs.Calls.{opened, outcome, pageVerdict, remainderBytes, shortBytes, subWordOf, syndromeList}
 use Rattle.code.specs.Code.{IsMember, N, carried, dataWords, degree, distance, divisor, encode, gen}
 use Rattle.code.specs.Code.{nested, newton, remainder, shortRemainder, verdict}
 use Rattle.code.specs.Layout.{Bytes, Fits, IsBlank, IsPage, blockBit, blockSizes, blocksClear, blocksOf, coefficientOf, dataBytes}
 use Rattle.code.specs.Layout.{dataOf, differences, pageBytes, pageClear, pageOf, storedOf, wordsOf}
-use Rattle.code.specs.Lists.{any, countBelow, each, fitsIn, join, onesIn, range, split, sum}
+use Rattle.code.specs.Lists.{any, countBelow, each, fitsIn, join, onesIn, part, range, runs, split, sum}
+use Rattle.code.specs.Many.{Lent}
 use Rattle.code.specs.Parameters.{Accepted, full, len, nestedBytes, sheetRefusal, stored, strength, subWordBytes, unshortened}
 use Rattle.code.specs.Refused.{BlocksBuffer, PageBuffer, Width}
 use Rattle.code.specs.Registers.{AllDone, cut, feedings}
@@ -343,6 +346,35 @@ pub record BurstLaws (p : Parameters) : Type 0 where
   -- and w_v is the most: one place more, and two members differ, in whatever sub-word and from whatever place on
   pub longer : (i a : ℕ) → i < p .m → a + degree p (p .v) < stored p → (x : List ℕ) × (y : List ℕ) × LongerBurst p i a x y
 
+-- ---- many pages in one call
+-- the same answer and, when that is done, the same list, and the same pages where the list has 0
+pub record AlikeMany (p : Parameters) (after after′ listed listed′ : List ℕ) (r r′ : Outcome) : Type 0 where
+  pub answers : r ≡ r′
+  pub lists : r ≡ Outcome.Done → listed ≡ listed′
+  pub pages : r ≡ Outcome.Done → (k : ℕ) → k < length listed → getD listed k 0 ≡ 0
+      → part (pageBytes p) k after ≡ part (pageBytes p) k after′
+
+pub record ManyLaws (p : Parameters) : Type 0 where
+  -- done exactly when a width, 1 to 16 pages and exact lengths are lent, whatever bytes
+  pub done : (L count : ℕ) (blocks pages after list listed : List ℕ) (r : Outcome) → WrittenMany p L count blocks pages after list listed r
+      → (r ≡ Outcome.Done) ↔ Lent p L count (length blocks) (length pages) (length list)
+  -- a refusal of the call alters no byte
+  pub kept : (L count n : ℕ) (blocks pages after list listed : List ℕ)
+      → WrittenMany p L count blocks pages after list listed (Outcome.Refused n) → (after ≡ pages) × (listed ≡ list)
+  -- done, page k and the k-th byte listed are what write gives of the k-th blocks; and the pages are all that there is
+  pub each : (L count : ℕ) (blocks pages after list listed : List ℕ) → WrittenMany p L count blocks pages after list listed Outcome.Done
+      → (k : ℕ) → k < count
+      → Written p L (part (dataBytes p) k blocks) (part (pageBytes p) k pages) (part (pageBytes p) k after) (outcome (getD listed k 0))
+  pub whole : (L count : ℕ) (blocks pages after list listed : List ℕ) → WrittenMany p L count blocks pages after list listed Outcome.Done
+      → (after ≡ runs (λ k. part (pageBytes p) k after) 0 count) × (length after ≡ length pages) × (length listed ≡ count)
+  -- a listed byte is 0, 8 or 13
+  pub says : (L count : ℕ) (blocks pages after list listed : List ℕ) → WrittenMany p L count blocks pages after list listed Outcome.Done
+      → (k : ℕ) → k < count → (getD listed k 0 ≡ 0) ⊎ ((getD listed k 0 ≡ 8) ⊎ (getD listed k 0 ≡ 13))
+  -- demand 3: alike at every two widths, whatever bytes are lent
+  pub alike : (L M count : ℕ) (blocks pages pages′ after after′ list list′ listed listed′ : List ℕ) (r r′ : Outcome) → Width L → Width M
+      → length pages ≡ length pages′ → length list ≡ length list′ → WrittenMany p L count blocks pages after list listed r
+      → WrittenMany p M count blocks pages′ after′ list′ listed′ r′ → AlikeMany p after after′ listed listed′ r r′
+
 -- ---- demand 3 of the C calls
 -- the same number and, when that is 0, the same page
 pub record AlikeC (after after′ : List ℕ) (r r′ : ℕ) : Type 0 where
@@ -408,16 +440,30 @@ pub record QuotedC (p : Parameters) : Type 0 where
   pub quoted-pages : (number : ℕ → ℕ) (L : ℕ) (blocks old after : List ℕ) (r : ℕ) → QuoteLaws p number → Width L → Fits p blocks
       → PageBuffer p old → (¬ IsBlank p (pageOf p blocks)) → WrittenC p L blocks old after r → QuotedPage p number blocks after
 
+-- ---- many pages in C
+pub record ManyC (p : Parameters) : Type 0 where
+  pub done : (L count : ℕ) (blocks pages after list listed : List ℕ) (r : ℕ) → WrittenManyC p L count blocks pages after list listed r
+      → (r ≡ 0) ↔ Lent p L count (length blocks) (length pages) (length list)
+  pub kept : (L count : ℕ) (blocks pages after list listed : List ℕ) (r : ℕ) → WrittenManyC p L count blocks pages after list listed r
+      → r ≢ 0 → (after ≡ pages) × (listed ≡ list)
+  pub each : (L count : ℕ) (blocks pages after list listed : List ℕ) → WrittenManyC p L count blocks pages after list listed 0
+      → (k : ℕ) → k < count
+      → WrittenC p L (part (dataBytes p) k blocks) (part (pageBytes p) k pages) (part (pageBytes p) k after) (getD listed k 0)
+  pub whole : (L count : ℕ) (blocks pages after list listed : List ℕ) → WrittenManyC p L count blocks pages after list listed 0
+      → (after ≡ runs (λ k. part (pageBytes p) k after) 0 count) × (length after ≡ length pages) × (length listed ≡ count)
+  pub says : (L count : ℕ) (blocks pages after list listed : List ℕ) → WrittenManyC p L count blocks pages after list listed 0
+      → (k : ℕ) → k < count → (getD listed k 0 ≡ 0) ⊎ ((getD listed k 0 ≡ 8) ⊎ (getD listed k 0 ≡ 13))
+
 -- ---- 14: of the sheets that keep every other rule, those are refused, and with 14, whose s is above n - w_v - 1
 abbrev pub Shortening : Type 0
 Shortening =
     (p : Parameters) → fullRefusal p ≡ 0
     → (Accepted p ↔ (p .s ≤ 2 ^ p .q - 1 - degree p (p .v) - 1)) × ((sheetRefusal p ≡ 14) ↔ (2 ^ p .q - 1 - degree p (p .v) - 1 < p .s))
 
--- ---- both, and bursts, for every accepted sheet
+-- ---- both, bursts, and many pages in one call, for every accepted sheet
 abbrev pub Demands : Type 0
-Demands = (p : Parameters) → Accepted p → Demand2 p × Demand3 p × BurstLaws p
+Demands = (p : Parameters) → Accepted p → Demand2 p × Demand3 p × BurstLaws p × ManyLaws p
 
--- ---- and, of the C calls, demand 3, blank pages, the quote and bursts
+-- ---- and, of the C calls, demand 3, blank pages, the quote, bursts and many pages
 abbrev pub DemandsC : Type 0
-DemandsC = (p : Parameters) → Accepted p → Demand3C p × BlankC p × QuotedC p × BurstC p
+DemandsC = (p : Parameters) → Accepted p → Demand3C p × BlankC p × QuotedC p × BurstC p × ManyC p

@@ -1,25 +1,26 @@
--- Demand 3, blank pages, the quote and bursts of the C calls, from those of the calls behind them: a C call's promise is that of the call behind it, with the number of its answer.
+-- Demand 3, blank pages, the quote, bursts and many pages of the C calls, from those of the calls behind them: a C call's promise is that of the call behind it, with the number of its answer.
 use mathlib.Core.Path.{_≡_, refl, sym, ap, _∙_}
 use mathlib.Core.Logic.{_↔_, _⊎_, inl, inr}
 use mathlib.Core.List.{List}
 use Prim.Native.Nat.{ℕ, _+_}
-use lib.ListN.{length}
+use native.Mathlib.Nat as Nat
+use lib.ListN.{length, getD}
 use Rattle.polynomial.specs.Sums.{add}
 use Rattle.code.specs.declared.Outcome.{Outcome}
 use Rattle.code.specs.declared.Parameters.{Parameters}
 use Rattle.code.specs.declared.Verdict.{Verdict}
 use Rattle.code.specs.Accepted.{accepted}
-use Rattle.code.specs.Answers.{judged, judged-blanks, judged-zero, made-of, outcome-number, read, read-as-judge, read-zero}
+use Rattle.code.specs.Answers.{judged, judged-blanks, judged-zero, leaves-refused, made-of, outcome-number, read, read-as-judge, read-zero}
 use Rattle.code.specs.Buffers.{bytes-at}
-use Rattle.code.specs.Calls.{Judged, JudgedC, QuoteMadeC, ReadOut, ReadOutC, Written, WrittenC, asBytes, judgeAnswer}
+use Rattle.code.specs.Calls.{Judged, JudgedC, QuoteMadeC, ReadOut, ReadOutC, Written, WrittenC, WrittenMany, WrittenManyC, asBytes, judgeAnswer}
 use Rattle.code.specs.Calls.{leaves, outcome, outcomeNumber, quote, readAnswer, verdictNumber}
-use Rattle.code.specs.Demands.{AlikeC, BlankC, BlankWriteLaws, BurstC, Demand3C, DemandsC, QuoteLaws, QuotedC, RewritesC, SumsC, numberAt}
+use Rattle.code.specs.Demands.{AlikeC, BlankC, BlankWriteLaws, BurstC, Demand3C, DemandsC, ManyC, QuoteLaws, QuotedC, RewritesC, SumsC, numberAt}
 use Rattle.code.specs.Layout.{Bytes, Fits, IsBlank, IsPage, pageOf}
 use Rattle.code.specs.Parameters.{Accepted}
 use Rattle.code.specs.Quote.{quote-length, quote-none, quote-small}
-use Rattle.code.specs.Refusals.{quoteRefusal, writeRefusal}
+use Rattle.code.specs.Refusals.{manyRefusal, quoteRefusal, writeRefusal}
 use Rattle.code.specs.Refused.{BlocksBuffer, PageBuffer, Width}
-use Rattle.code.specs.Theorems.{bursts, demand2, demand3, quote-numbers, whole-13}
+use Rattle.code.specs.Theorems.{bursts, demand2, demand3, many, quote-numbers, whole-13}
 
 module _ (p : Parameters) (A : Accepted p) where
   abbrev refusal : ℕ → List ℕ → List ℕ → ℕ
@@ -177,5 +178,42 @@ module _ (p : Parameters) (A : Accepted p) where
       which i r v e (inl s) = inl (e ∙ ap verdictNumber s)
       which i r v e (inr s) = inr (e ∙ ap verdictNumber s)
 
+  -- ---- many pages
+  abbrev manyRefused : ℕ → ℕ → List ℕ → List ℕ → List ℕ → ℕ
+  manyRefused L count blocks pages list = manyRefusal p L count (length blocks) (length pages) (length list)
+
+  written-many : (L count : ℕ) (blocks pages after list listed : List ℕ) (r : ℕ) → WrittenManyC p L count blocks pages after list listed r
+      → WrittenMany p L count blocks pages after list listed (outcome (manyRefused L count blocks pages list))
+  written-many L count blocks pages after list listed r W = (
+    made-of (manyRefused L count blocks pages list) _ pages after r (W .0),
+    made-of (manyRefused L count blocks pages list) _ list listed r (W .1),
+  )
+
+  many-done : (L count : ℕ) (blocks pages after list listed : List ℕ) → WrittenManyC p L count blocks pages after list listed 0
+      → WrittenMany p L count blocks pages after list listed Outcome.Done
+  many-done L count blocks pages after list listed W =
+      rw (ap outcome (sym (W .0 .answers))) at (written-many L count blocks pages after list listed 0 W)
+
+  pub many-c : ManyC p
+  many-c = record {
+    done = λ L count blocks pages after list listed r W.
+        (let i = many p A .done L count blocks pages after list listed _ (written-many L count blocks pages after list listed r W) in (
+          (λ e. i .0 (ap outcome (sym (W .0 .answers) ∙ e))),
+          (λ s. zero-of r (manyRefused L count blocks pages list) (W .0 .answers) (i .1 s)),
+        ));
+    kept = λ L count blocks pages after list listed r W n.
+        (let h = Nat.pos-of-ne-zero (λ z. n (W .0 .answers ∙ z)) in (
+          W .0 .buffer ∙ leaves-refused (manyRefused L count blocks pages list) _ pages h,
+          W .1 .buffer ∙ leaves-refused (manyRefused L count blocks pages list) _ list h,
+        ));
+    each = λ L count blocks pages after list listed W k h.
+        (let X = many p A .each L count blocks pages after list listed (many-done L count blocks pages after list listed W) k h in
+        record { answers = sym (outcome-number (getD listed k 0)) ∙ X .number; small = X .small; buffer = X .buffer });
+    whole = λ L count blocks pages after list listed W.
+        many p A .whole L count blocks pages after list listed (many-done L count blocks pages after list listed W);
+    says = λ L count blocks pages after list listed W.
+        many p A .says L count blocks pages after list listed (many-done L count blocks pages after list listed W);
+  }
+
 pub demands-c : DemandsC
-demands-c p A = (demand3-c p A, blank-c p A, quote-c p A, burst-c p A)
+demands-c p A = (demand3-c p A, blank-c p A, quote-c p A, burst-c p A, many-c p A)

@@ -30,6 +30,7 @@ pub mod Registers
 pub mod Buffers
 pub mod Degrees
 pub mod Quote
+pub mod Many
 -- What demands 2 and 3 say, and the theorems; Firmware is demand 3 of the C calls:
 pub mod Demands
 pub mod Bursts

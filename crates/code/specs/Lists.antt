@@ -1,5 +1,7 @@
 -- Lists, tests, and refusals as numbers.
 --   range i k         i, i + 1, .., k of them
+--   part n k l        run k of l, cut into runs of n elements, k from 0
+--   runs f i k        the runs f i, f (i + 1), .., k of them, one behind another
 --   any P l           some element passes the test P
 --   first P l o       the first element that passes, or o
 --   sum l             the sum of the elements
@@ -13,7 +15,7 @@
 --   lastRefusal       the greatest number of a refusal
 use mathlib.Core.Bool.{Bool, true, false, _&&_, _||_, cond}
 use mathlib.Core.List.{List, [], _∷_, _++_}
-use Prim.Native.Nat.{ℕ, zero, suc, _+_, _-_, _%_, _^_}
+use Prim.Native.Nat.{ℕ, zero, suc, _+_, _-_, _*_, _%_, _^_}
 use lib.Dec.{eqb, ltb}
 use lib.ListN.{take, drop}
 use Rattle.polynomial.specs.Digits.{value, digits}
@@ -21,6 +23,13 @@ use Rattle.polynomial.specs.Digits.{value, digits}
 unfoldable pub range : ℕ → ℕ → List ℕ
 range from zero = []
 range from (suc k) = from ∷ range (suc from) k
+
+abbrev pub part : ℕ → ℕ → List ℕ → List ℕ
+part n k l = take n (drop (k * n) l)
+
+unfoldable pub runs : (ℕ → List ℕ) → ℕ → ℕ → List ℕ
+runs f i zero = []
+runs f i (suc k) = f i ++ runs f (suc i) k
 
 unfoldable pub any : {A : Type 0} → (A → Bool) → List A → Bool
 any P [] = false

@@ -22,7 +22,7 @@ use Rattle.code.specs.Bytes.{Small, bytes-join, join-add, join-split, le
 use Rattle.code.specs.Code.{dataFrom, dataWords, degree, encode}
 use Rattle.code.specs.Encode.{Sized, data-encode, data-fits, encode-add, encode-length, encode-lt}
 use Rattle.code.specs.Layout.{Fits, IsPage, blockBits, blockSizes, blocksClear, blocksOf}
-use Rattle.code.specs.Layout.{dataBits, dataBytes, dataOf, pageClear, pageOf, storedOf, wordSizes, wordsOf}
+use Rattle.code.specs.Layout.{dataBits, dataBytes, dataOf, pageBytes, pageClear, pageOf, storedOf, wordSizes, wordsOf}
 use Rattle.code.specs.Lists.{each, fitsIn, join, range, split, sum}
 use Rattle.code.specs.Parameters.{stored, subWordBytes}
 
@@ -186,6 +186,13 @@ pub stored-words : (p : Parameters) (x : List ℕ) → IsWords p (storedOf p x)
 stored-words p x =
     rw (storedOf-eq p x)
     (record { many = length-map (wordsOf p x) (λ c. c % 2 ^ stored p) ∙ words-many p x; below = all-low (stored p) (wordsOf p x) })
+
+-- whatever the blocks are, their page has a page's length
+pub page-length : (p : Parameters) (x : List ℕ) → length (pageOf p x) ≡ pageBytes p
+page-length p x =
+    ap length (pageOf-eq p x)
+    ∙ length-join (wordSizes p) (encode p (blocksOf p x)) (encode-length p (blocksOf p x) ∙ blocks-many p x ∙ sym (length-sizes p))
+    ∙ sum-replicate (p .m) (subWordBytes p)
 
 module _ (p : Parameters) (R : Rules p) where
   -- ---- pages

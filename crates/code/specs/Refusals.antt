@@ -17,6 +17,10 @@ use Rattle.code.specs.Layout.{pageBytes, dataBytes, pageClear, blank, bl
 abbrev pub badWidth : ℕ → Bool
 badWidth L = eqb L 0 || ltb 64 L
 
+-- 9 of a write of many pages: their count is not 1 to 16
+abbrev pub badCount : ℕ → Bool
+badCount count = eqb count 0 || ltb 16 count
+
 -- 6, 7, 10: a length is not exact
 abbrev pub notExact : ℕ → ℕ → Bool
 notExact k exact = not (eqb k exact)
@@ -40,6 +44,17 @@ writeRefusal p L blocks page =
     writeLengths p L (length blocks) page
     orElse 8 when not (blocksClear p blocks)
     orElse 13 when blank p (pageOf p blocks)
+
+-- ---- write of `count` pages: the whole call, which page by page is refused no more
+unfoldable pub manyRefusal : Parameters → ℕ → ℕ → ℕ → ℕ → ℕ → ℕ
+unfolding sheetRefusal dataBytes
+manyRefusal p L count blocks pages list =
+    sheetRefusal p
+    orElse 5 when badWidth L
+    orElse 9 when badCount count
+    orElse 6 when notExact blocks (count * dataBytes p)
+    orElse 7 when notExact pages (count * pageBytes p)
+    orElse 10 when notExact list count
 
 -- ---- read out
 unfoldable pub readLengths : Parameters → ℕ → ℕ → ℕ

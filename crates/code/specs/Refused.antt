@@ -53,7 +53,7 @@ width-good L w = not-T (badWidth L) (λ t. go (either (eqb L 0) (ltb 64 L) t))
     go (inl t) = Nat.not-suc-le-zero {n = 0} (omega (arith, eqb→eq L 0 t, w .low))
     go (inr t) = Nat.not-suc-le-zero {n = 0} (omega (arith, ltb→lt 64 L t, w .high))
 
-width-is : (L : ℕ) → T (not (badWidth L)) → Width L
+pub width-is : (L : ℕ) → T (not (badWidth L)) → Width L
 width-is L t = let n = neither (eqb L 0) (ltb 64 L) t in record { low = nonzero L (n .0); high = nltb→le 64 L (n .1) }
 
 pub width-of : (L : ℕ) → true ≡ not (badWidth L) → Width L

@@ -1,4 +1,4 @@
--- THE THEOREM: demands 2 and 3 hold for all accepted parameters, and judge finds every burst.
+-- THE THEOREM: demands 2 and 3 hold for all accepted parameters, judge finds every burst, and many pages in one call are those of single calls.
 use mathlib.Core.Path.{_≡_, refl, sym, ap, ap₂, _∙_}
 use mathlib.Core.Logic.{_≢_, _↔_, _⊎_, inl, inr}
 use mathlib.Core.Bool.{Bool, true, false, not}
@@ -25,26 +25,28 @@ use Rattle.code.specs.declared.Outcome.{Outcome}
 use Rattle.code.specs.declared.Verdict.{Verdict}
 use Rattle.code.specs.Register.{Register}
 use Rattle.generator.specs.Generator as G
-use Rattle.code.specs.Answers.{read-as-judge}
+use Rattle.code.specs.Answers.{leaves-refused, read-as-judge, refused-pos}
 use Rattle.code.specs.Accepted.{Rules, accepted, degree-le, degree-low, degree-of, lawful, q-high, stored-le, stored-room, stored-whole, width-below}
 use Rattle.code.specs.Blank.{blank-iff, blank-stays, page-ones}
 use Rattle.code.specs.Buffers.{bytes-at, divides-up, divisor-deg, divisor-degree, divisor-times, length-syndromes}
 use Rattle.code.specs.Buffers.{nested-back, remainder-back, row-back, short-back, short-differ, short-lt, syndromes-at}
 use Rattle.code.specs.Bursts.{apart-pages, apart-places, burst-same, bytes-burst, cyclic, moved-divides, moved-lt, others-same}
 use Rattle.code.specs.Bursts.{single-has, single-is, single-passing, single-unblank, singlePage}
-use Rattle.code.specs.Calls.{Judged, QuoteMade, ReadOut, Written, asBytes, empty, judgeAnswer, leaves}
-use Rattle.code.specs.Calls.{nestedOf, nestedSyndromeList, outcome, quote, subWordOf, syndromeList}
+use Rattle.code.specs.Calls.{Judged, QuoteMade, ReadOut, Written, WrittenMany, asBytes, empty, judgeAnswer, leaves}
+use Rattle.code.specs.Calls.{nestedOf, nestedSyndromeList, outcome, outcomeNumber, pagesBy, quote, statuses, subWordOf, syndromeList}
 use Rattle.code.specs.Code.{IsMember, checkBits, degree, distance, gen, least, nested, newton, remainder, syndromes, verdict}
 use Rattle.code.specs.Degrees.{degree-exact}
-use Rattle.code.specs.Demands.{Alike, BlankReadLaws, BlankWriteLaws, BufferLaws, Burst, BurstLaws, Demand2, Demand3, Demands, GeneratorLaws, GeneratorOf}
-use Rattle.code.specs.Demands.{JudgeLaws, QuoteLaws, QuotedPage, RegisterLaws, Rewrites, ShortLaws, ShortenedLaws, Smallest}
+use Rattle.code.specs.Demands.{Alike, AlikeMany, BlankReadLaws, BlankWriteLaws, BufferLaws, Burst, BurstLaws, Demand2, Demand3, Demands, GeneratorLaws, GeneratorOf}
+use Rattle.code.specs.Demands.{JudgeLaws, ManyLaws, QuoteLaws, QuotedPage, RegisterLaws, Rewrites, ShortLaws, ShortenedLaws, Smallest}
 use Rattle.code.specs.Demands.{Shortening, StoredLaws, Sums, Vanishes, WholeLaws, WriteLaws}
 use Rattle.code.specs.Distance.{Passing, least-few, least-many}
 use Rattle.code.specs.Encode.{N-above, encode-member, member-encode}
 use Rattle.code.specs.Judge.{member-passing, multiple-iff, passing-member, verdict-member, verdict-nested, verdict-sub}
-use Rattle.code.specs.Layout.{Bytes, Fits, IsBlank, IsPage, blank, blocksOf, coefficientOf, dataBits, dataOf, differences}
-use Rattle.code.specs.Layout.{pageClear, pageOf, storedOf, wordSizes, wordsOf}
-use Rattle.code.specs.Lists.{addBelow, countBelow, join, sum}
+use Rattle.code.specs.Layout.{Bytes, Fits, IsBlank, IsPage, blank, blocksOf, coefficientOf, dataBits, dataBytes, dataOf, differences}
+use Rattle.code.specs.Layout.{pageBytes, pageClear, pageOf, storedOf, wordSizes, wordsOf}
+use Rattle.code.specs.Lists.{addBelow, countBelow, join, part, sum}
+use Rattle.code.specs.Many.{each-written, length-by, length-statuses, many-alike, many-lent, many-none, part-length, runs-are}
+use Rattle.code.specs.Many.{status-at, status-left, statuses-alike}
 use Rattle.code.specs.Newton.{nesteds-of, newtons-of}
 use Rattle.code.specs.Pages.{IsWords, again-from, again-to, data-fit, dataBytes-eq, join-words}
 use Rattle.code.specs.Pages.{page-back, page-has, page-is, page-words, sum-fits, sum-page, word-lt}
@@ -52,7 +54,7 @@ use Rattle.code.specs.Parameters.{Accepted, full, len, stored, strength,
 use Rattle.code.specs.Placement.{all-places, any-fit, any-has, blocks-same, check-bits, data-room, place-bit, read-bit, sub-word-bit, written-bit}
 use Rattle.code.specs.Places.{addBelow-ext, countBelow-ext, distance-places}
 use Rattle.code.specs.Quote.{quote-bits, quote-degree, quote-length, quote-none, quote-past-m, quote-past-v}
-use Rattle.code.specs.Refusals.{quoteRefusal, writeRefusal}
+use Rattle.code.specs.Refusals.{manyRefusal, quoteRefusal, writeRefusal}
 use Rattle.code.specs.Refused.{BlocksBuffer, PageBuffer, Width, blank-judgeable, judge-is, judge-stray, judged-blank, judged-else, judged-page}
 use Rattle.code.specs.Refused.{page-judgeable, read-leaves, verdict-blank, verdict-else, write-alike, write-done, write-keeps}
 use Rattle.code.specs.Refused.{write-13, write-leaves, write-refused}
@@ -589,8 +591,87 @@ module _ (p : Parameters) (A : Accepted p) where
     );
   }
 
+  -- ---- many pages in one call
+  abbrev refusedBy : ℕ → ℕ → List ℕ → List ℕ → List ℕ → ℕ
+  refusedBy L count blocks pages list = manyRefusal p L count (length blocks) (length pages) (length list)
+
+  many-zero : (L count : ℕ) (blocks pages after list listed : List ℕ) → WrittenMany p L count blocks pages after list listed Outcome.Done
+      → refusedBy L count blocks pages list ≡ 0
+  many-zero L count blocks pages after list listed W = sym (W .0 .number)
+
+  -- what a call that is done leaves
+  many-made : (L count : ℕ) (blocks pages after list listed : List ℕ) → WrittenMany p L count blocks pages after list listed Outcome.Done
+      → (after ≡ pagesBy p (statuses p L count blocks) blocks pages) × (listed ≡ statuses p L count blocks)
+  many-made L count blocks pages after list listed W =
+      let z = many-zero L count blocks pages after list listed W in
+      (rw z at (W .0 .buffer), rw z at (W .1 .buffer))
+
+  many-each : (L count : ℕ) (blocks pages after list listed : List ℕ) → WrittenMany p L count blocks pages after list listed Outcome.Done
+      → (k : ℕ) → k < count
+      → Written p L (part (dataBytes p) k blocks) (part (pageBytes p) k pages) (part (pageBytes p) k after) (outcome (getD listed k 0))
+  many-each L count blocks pages after list listed W k h =
+      let m = many-made L count blocks pages after list listed W in
+      let s = many-lent p L count (length blocks) (length pages) (length list) (many-zero L count blocks pages after list listed W) in
+      rw (m .0, m .1) (each-written p L count blocks pages (s .pages-exact) k h)
+
+  pub many : ManyLaws p
+  many = record {
+    done = λ L count blocks pages after list listed r W. (
+      (λ e. many-lent p L count (length blocks) (length pages) (length list) (sym (W .0 .number) ∙ ap outcomeNumber e)),
+      (λ s. W .0 .answers ∙ ap outcome (many-none p L count (length blocks) (length pages) (length list) A s)),
+    );
+    kept = λ L count n blocks pages after list listed W.
+        (let h = refused-pos n (refusedBy L count blocks pages list) (W .0 .answers) in (
+          W .0 .buffer ∙ leaves-refused (refusedBy L count blocks pages list) _ pages h,
+          W .1 .buffer ∙ leaves-refused (refusedBy L count blocks pages list) _ list h,
+        ));
+    each = many-each;
+    whole = λ L count blocks pages after list listed W.
+        (let m = many-made L count blocks pages after list listed W in
+        let s = many-lent p L count (length blocks) (length pages) (length list) (many-zero L count blocks pages after list listed W) in
+        let c = length-statuses p L count blocks in
+        let l : length after ≡ length pages = ap length (m .0) ∙ length-by p (statuses p L count blocks) blocks pages (rw c (s .pages-exact)) in (
+          runs-are (pageBytes p) (λ k. part (pageBytes p) k after) 0 count after (l ∙ s .pages-exact)
+              (λ k h. ap (λ (j : ℕ). part (pageBytes p) j after) (sym (Nat.zero-add k))),
+          l,
+          ap length (m .1) ∙ c,
+        ));
+    says = λ L count blocks pages after list listed W k h.
+        (let m = many-made L count blocks pages after list listed W in
+        let s = many-lent p L count (length blocks) (length pages) (length list) (many-zero L count blocks pages after list listed W) in
+        rw (m .1, status-at p L count blocks k h) (status-left p L (part (dataBytes p) k blocks) A (s .width)
+        (part-length (dataBytes p) count blocks (s .blocks-exact) k h)));
+    alike = many-alikes;
+  }
+    where
+      many-alikes : (L M count : ℕ) (blocks pages pages′ after after′ list list′ listed listed′ : List ℕ) (r r′ : Outcome) → Width L → Width M
+          → length pages ≡ length pages′ → length list ≡ length list′ → WrittenMany p L count blocks pages after list listed r
+          → WrittenMany p M count blocks pages′ after′ list′ listed′ r′ → AlikeMany p after after′ listed listed′ r r′
+      many-alikes L M count blocks pages pages′ after after′ list list′ listed listed′ r r′ w w′ e f W W′ =
+          let s : refusedBy L count blocks pages list ≡ refusedBy M count blocks pages′ list′ =
+          many-alike p L M count (length blocks) (length pages) (length list) w w′
+          ∙ ap₂ (manyRefusal p M count (length blocks)) e f in
+          let a : r ≡ r′ = W .0 .answers ∙ ap outcome s ∙ sym (W′ .0 .answers) in
+          let l : r ≡ Outcome.Done → listed ≡ listed′ = λ d.
+          many-made L count blocks pages after list listed (rw d at W) .1 ∙ statuses-alike p L M count blocks w w′
+          ∙ sym (many-made M count blocks pages′ after′ list′ listed′ (rw (sym a ∙ d) at W′) .1) in
+          record {
+            answers = a;
+            lists = l;
+            pages = λ d k h z.
+                (let X : WrittenMany p L count blocks pages after list listed Outcome.Done = rw d at W in
+                let X′ : WrittenMany p M count blocks pages′ after′ list′ listed′ Outcome.Done = rw (sym a ∙ d) at W′ in
+                let c = many-lent p L count (length blocks) (length pages) (length list) (many-zero L count blocks pages after list listed X) in
+                let i : k < count = rw (ap length (many-made L count blocks pages after list listed X .1) ∙ length-statuses p L count blocks) at h in
+                alike L M (part (dataBytes p) k blocks) (part (pageBytes p) k pages) (part (pageBytes p) k pages′) (part (pageBytes p) k after)
+                (part (pageBytes p) k after′) (outcome (getD listed k 0)) (outcome (getD listed′ k 0)) w w′
+                (part-length (pageBytes p) count pages (c .pages-exact) k i ∙ sym (part-length (pageBytes p) count pages′ (sym e ∙ c .pages-exact) k i))
+                (many-each L count blocks pages after list listed X k i) (many-each M count blocks pages′ after′ list′ listed′ X′ k i)
+                .pages (ap outcome z));
+          }
+
 pub shortening : Shortening
 shortening p z = (short-accepted p z, short-refused p z)
 
 pub demands : Demands
-demands p A = (demand2 p A, demand3 p A, bursts p A)
+demands p A = (demand2 p A, demand3 p A, bursts p A, many p A)
