@@ -3,25 +3,24 @@
 use mathlib.Core.Path.{_≡_, refl, sym, ap, ap₂, _∙_}
 use mathlib.Core.Logic.{_⊎_, inl, inr}
 use mathlib.Core.Bool.{Bool, true, false, not}
-use mathlib.Core.List.{List, [], _∷_, _++_, map}
-use Prim.Native.Nat.{ℕ, zero, suc, _+_, _-_, _*_, _≤_, _<_, suc-le-suc}
+use mathlib.Core.List.{List, [], _∷_, _++_, map, append-nil}
+use Prim.Native.Nat.{ℕ, zero, suc, _+_, _*_, _≤_, _<_, suc-le-suc}
 use native.Mathlib.Nat as Nat
 use native.Mathlib.Omega.{arith}
-use lib.Dec.{T, eqb, ltb, eqb→eq, ltb→lt, nltb→le, lit≤, not-T}
-use lib.ListN.{length, getD, take, drop, length-append, length-map, length-take, length-drop, take-append-drop}
-use lib.Seq.{take-at, drop-at, drop-drop}
-use Rattle.code.specs.declared.Outcome.{Outcome}
+use lib.Dec.{lit≤}
+use lib.ListN.{length, getD, take, drop, replicate, length-append, length-map, length-take, length-drop, take-append-drop}
+use lib.Seq.{take-all, take-at, drop-at, drop-drop}
 use Rattle.code.specs.declared.Parameters.{Parameters}
 use Rattle.code.specs.Answers.{outcome-number, outcome-values}
-use Rattle.code.specs.Calls.{Made, Written, leaves, outcome, pageBy, pagesBy, statusOf, statuses}
-use Rattle.code.specs.Chains.{either, exact-none, exact-of, last, neither, nonzero, off′, or-le, or-none, or-second, or-zero, when-le}
+use Rattle.code.specs.Calls.{Written, leaves, outcome, pageBy, pagesBy, statusOf, statuses}
+use Rattle.code.specs.Chains.{exact-none, exact-of, last, off′, or-le, or-none, or-second, or-zero, when-le}
 use Rattle.code.specs.Layout.{blank, blocksClear, dataBytes, pageBytes, pageOf}
 use Rattle.code.specs.Lists.{_orElse_, _when_, lastRefusal, part, range, runs}
 use Rattle.code.specs.Pages.{length-range, page-length}
 use Rattle.code.specs.Parameters.{Accepted, sheetRefusal}
 use Rattle.code.specs.Placement.{getD-map-range}
 use Rattle.code.specs.Refusals.{badCount, badWidth, manyRefusal, notExact, writeRefusal}
-use Rattle.code.specs.Refused.{Width, sheet-le, width-good, width-is, write-alike, write-le, write-links}
+use Rattle.code.specs.Refused.{Width, between-good, between-is, sheet-le, width-good, width-is, write-alike, write-le, write-links}
 
 -- ---- runs of n elements
 part-zero : (n : ℕ) (x : List ℕ) → part n 0 x ≡ take n x
@@ -32,7 +31,7 @@ part-suc n k x =
     let w : suc k * n ≡ n + k * n = omega arith in
     ap (λ (z : ℕ). take n (drop z x)) w ∙ ap (take n) (sym (drop-drop (k * n) n x))
 
-part-room : (n c k : ℕ) → k < c → k * n + n ≤ c * n
+pub part-room : (n c k : ℕ) → k < c → k * n + n ≤ c * n
 part-room n c k h = let w : suc k * n ≡ k * n + n = omega arith in rw w at (Nat.mul-le-mul-right n h)
 
 pub part-length : (n c : ℕ) (x : List ℕ) → length x ≡ c * n → (k : ℕ) → k < c → length (part n k x) ≡ n
@@ -87,13 +86,6 @@ pub record Lent (p : Parameters) (L count blocks pages list : ℕ) : Type 0 wher
   pub pages-exact : pages ≡ count * pageBytes p
   pub list-exact : list ≡ count
 
-count-good : (c : ℕ) → 1 ≤ c → c ≤ 16 → T (not (badCount c))
-count-good c l h = not-T (badCount c) (λ t. go (either (eqb c 0) (ltb 16 c) t))
-  where
-    go : T (eqb c 0) ⊎ T (ltb 16 c) → ⊥
-    go (inl t) = Nat.not-suc-le-zero {n = 0} (omega (arith, eqb→eq c 0 t))
-    go (inr t) = Nat.not-suc-le-zero {n = 0} (omega (arith, ltb→lt 16 c t))
-
 module _ (p : Parameters) (L count blocks pages list : ℕ) where
   abbrev from-10 : ℕ
   from-10 = 10 when notExact list count
@@ -125,7 +117,7 @@ module _ (p : Parameters) (L count blocks pages list : ℕ) where
       many-links
       ∙ or-zero (sheetRefusal p) (5 when badWidth L orElse from-9) A
       (or-zero (5 when badWidth L) from-9 (off′ 5 (badWidth L) (width-good L (s .width)))
-      (or-zero (9 when badCount count) from-6 (off′ 9 (badCount count) (count-good count (s .low) (s .high)))
+      (or-zero (9 when badCount count) from-6 (off′ 9 (badCount count) (between-good 16 count (s .low) (s .high)))
       (or-zero (6 when notExact blocks (count * dataBytes p)) from-7 (exact-none 6 blocks (count * dataBytes p) (s .blocks-exact))
       (or-zero (7 when notExact pages (count * pageBytes p)) from-10 (exact-none 7 pages (count * pageBytes p) (s .pages-exact))
       (exact-none 10 list count (s .list-exact))))))
@@ -137,11 +129,11 @@ module _ (p : Parameters) (L count blocks pages list : ℕ) where
       let c = or-none (9 when badCount count) from-6 (b .1) in
       let d = or-none (6 when notExact blocks (count * dataBytes p)) from-7 (c .1) in
       let e = or-none (7 when notExact pages (count * pageBytes p)) from-10 (d .1) in
-      let n = neither (eqb count 0) (ltb 16 count) (last 8 (badCount count) (c .0)) in
+      let n = between-is 16 count (last 8 (badCount count) (c .0)) in
       record {
         width = width-is L (last 4 (badWidth L) (b .0));
-        low = nonzero count (n .0);
-        high = nltb→le 16 count (n .1);
+        low = n .0;
+        high = n .1;
         blocks-exact = exact-of 5 blocks (count * dataBytes p) (d .0);
         pages-exact = exact-of 6 pages (count * pageBytes p) (e .0);
         list-exact = exact-of 9 list count (e .1);
@@ -235,3 +227,10 @@ each-written p L count blocks pages e k h =
       small = write-le p L b (length old);
       buffer = page-at p (statuses p L count blocks) blocks pages (rw c e) k (rw c h) ∙ ap (λ (r : ℕ). leaves r (pageOf p b) old) s;
     }
+
+-- one page, which is written
+pub one-page : (p : Parameters) (blocks page : List ℕ) → length blocks ≡ dataBytes p → pagesBy p (replicate 1 0) blocks page ≡ pageOf p blocks
+unfolding pagesBy runs
+one-page p blocks page e =
+    append-nil (pageOf p (part (dataBytes p) 0 blocks))
+    ∙ ap (pageOf p) (part-zero (dataBytes p) blocks ∙ take-all (dataBytes p) blocks (Nat.le-of-eq e))

@@ -45,16 +45,23 @@ page-judgeable p x h = record { exact = h .exact; passes = left (pageClear p x) 
 pub blank-judgeable : (p : Parameters) (x : List ℕ) → PageBuffer p x → T (blank p x) → Judgeable p x
 blank-judgeable p x e t = record { exact = e; passes = right (pageClear p x) (blank p x) t }
 
+-- ---- a number from 1 to m
+pub between-good : (m x : ℕ) → 1 ≤ x → x ≤ m → T (not (eqb x 0 || ltb m x))
+between-good m x l h = not-T (eqb x 0 || ltb m x) (λ t. go (either (eqb x 0) (ltb m x) t))
+  where
+    go : T (eqb x 0) ⊎ T (ltb m x) → ⊥
+    go (inl t) = Nat.not-suc-le-zero {n = 0} (omega (arith, eqb→eq x 0 t))
+    go (inr t) = Nat.not-suc-le-zero {n = 0} (omega (arith, ltb→lt m x t))
+
+pub between-is : (m x : ℕ) → T (not (eqb x 0 || ltb m x)) → (1 ≤ x) × (x ≤ m)
+between-is m x t = let n = neither (eqb x 0) (ltb m x) t in (nonzero x (n .0), nltb→le m x (n .1))
+
 -- ---- widths
 pub width-good : (L : ℕ) → Width L → T (not (badWidth L))
-width-good L w = not-T (badWidth L) (λ t. go (either (eqb L 0) (ltb 64 L) t))
-  where
-    go : T (eqb L 0) ⊎ T (ltb 64 L) → ⊥
-    go (inl t) = Nat.not-suc-le-zero {n = 0} (omega (arith, eqb→eq L 0 t, w .low))
-    go (inr t) = Nat.not-suc-le-zero {n = 0} (omega (arith, ltb→lt 64 L t, w .high))
+width-good L w = between-good 64 L (w .low) (w .high)
 
 pub width-is : (L : ℕ) → T (not (badWidth L)) → Width L
-width-is L t = let n = neither (eqb L 0) (ltb 64 L) t in record { low = nonzero L (n .0); high = nltb→le 64 L (n .1) }
+width-is L t = let b = between-is 64 L t in record { low = b .0; high = b .1 }
 
 pub width-of : (L : ℕ) → true ≡ not (badWidth L) → Width L
 width-of L e = width-is L (rw (← e) tt)

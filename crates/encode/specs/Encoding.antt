@@ -1,7 +1,6 @@
 -- Sub-word i as encoding makes it, and the page with it in its place.
 --   Ready p w blocks                           accepted parameters, the degrees of their generators, blocks that fit
 --   Writing p w blocks page width acc          the same, a page to write, coefficients a step, room for the sum of a rule
---   Making p rows w blocks page width t acc    the same, the generators' rows, room for a table
 --   wordOf p b x i                             sub-word i from its block and the later sub-words of the page x
 --   written p x i c                            the page x with c as sub-word i
 use mathlib.Core.Path.{_≡_, sym, ap, ap₂, _∙_}
@@ -18,7 +17,6 @@ use Rattle.polynomial.specs.Sums.{at-all}
 use Rattle.polynomial.specs.Xor.{xor, xor-is}
 use Rattle.code.specs.declared.Parameters.{Parameters}
 use Rattle.code.specs.Accepted.{accepted, lawful}
-use Rattle.code.specs.Calls.{generators}
 use Rattle.code.specs.Code.{carried, checkBits, checked, gen, level, remainder}
 use Rattle.code.specs.Layout.{Fits, blockOffset, blocksClear, blocksOf, dataBits, dataBytes, pageBytes, wordsOf}
 use Rattle.code.specs.Pages.{blocks-blocks}
@@ -43,11 +41,6 @@ pub record Writing (p : Parameters) (w blocks page : List ℕ) (width : ℕ) (ac
   pub low : 1 ≤ width
   pub high : width ≤ 64
   pub room : length acc ≡ roomBytes p
-
-pub record Making (p : Parameters) (rows : List (List ℕ)) (w blocks page : List ℕ) (width : ℕ) (t acc : List ℕ) : Type 0 where
-  pub writing : Writing p w blocks page width acc
-  pub rowed : rows ≡ generators p
-  pub table : length t ≡ 3072
 
 abbrev pub wordOf : Parameters → List ℕ → List ℕ → ℕ → ℕ
 wordOf p blocks page i =

@@ -1,5 +1,6 @@
 -- A page encoded from the last sub-word down.
 --   Encoded p blocks i x                       sub-words i to m - 1 of x are those of the page of the blocks
+--   Span p t least most                        t is the table of the level of sub-words least to most - 1
 --   Going p blocks least most i x acc          a run from sub-word most down to least, at i, with room acc to work in
 use mathlib.Core.Path.{_≡_, refl, sym, ap, ap₂, _∙_}
 use mathlib.Core.Logic.{_⊎_, inl, inr}
@@ -19,6 +20,7 @@ use Rattle.code.specs.Pages.{IsWords, blocks-blocks, encode-words, pageOf-eq, w
 use Rattle.code.specs.Parameters.{Accepted, stored, subWordBytes}
 use Rattle.code.specs.Placement.{encode-at}
 use Rattle.layout.specs.Parts.{page-parts, word-at, word-room}
+use Rattle.levels.specs.Ready.{Prepared}
 use Rattle.layout.specs.Replaced.{replaced, replaced-after, replaced-length, replaced-part}
 use Rattle.encode.specs.Carried.{roomBytes}
 use Rattle.encode.specs.Encoding.{wordOf, written}
@@ -108,7 +110,12 @@ module _ (p : Parameters) (A : Accepted p) (blocks : List ℕ) (F : Fits p block
   pub encoded-all : (x : List ℕ) (i : ℕ) → i ≡ 0 → Encoded p blocks i x → x ≡ pageOf p blocks
   encoded-all x i z e = page-parts p x cs (e .exact) (words .many) (λ j h. e .each j (rw z zero-le) h) ∙ sym (pageOf-eq p blocks)
 
--- ---- the two runs of sub-words: from m down to v, and from v down to 0; acc is room to work in
+-- ---- a run of sub-words from `most` - 1 down to `least`, all of the level whose table is t
+pub record Span (p : Parameters) (t : List ℕ) (least most : ℕ) : Type 0 where
+  pub rising : least ≤ most
+  pub inside : most ≤ p .m
+  pub prepared : (i : ℕ) → least ≤ i → i < most → Prepared p (level p i) t
+
 pub record Going (p : Parameters) (blocks : List ℕ) (least most i : ℕ) (x acc : List ℕ) : Type 0 where
   pub page : Encoded p blocks i x
   pub low : least ≤ i

@@ -1,22 +1,21 @@
-// Sub-words from their blocks: data above, check bits below; what later sub-words add to the rule of an earlier one.
+// The sub-words of a page from their blocks: data above, check bits below; what later sub-words add to the rule of an earlier one.
 ghost use mathlib.Core.Path.{_≡_};
 ghost use Prim.Native.Nat.{suc, _+_, _*_, _%_, _^_, _≤_, _<_};
 ghost use lib.ListN.{length, drop};
 ghost use Rattle.polynomial.specs.Digits.{value};
 ghost use Rattle.polynomial.specs.Xor.{xor};
 ghost use Rattle.code.specs.Code.{N, carried, checkBits, combine, degree, level, remainder};
-ghost use Rattle.code.specs.Calls.{generators};
-ghost use Rattle.code.specs.Layout.{dataBits, pageBytes, pageOf, wordsOf};
+ghost use Rattle.code.specs.Layout.{dataBits, pageBytes, wordsOf};
 ghost use Rattle.code.specs.Parameters.{Accepted};
 ghost use Rattle.levels.specs.Ready.{Prepared};
 ghost use Rattle.encode.specs.Carried.{roomBytes};
 ghost use Rattle.encode.specs.Horner.{Over, Sums};
-ghost use Rattle.encode.specs.Page.{Encoded};
-ghost use Rattle.encode.specs.Encoding.{Ready, Writing, Making, wordOf, written};
+ghost use Rattle.encode.specs.Page.{Encoded, Span};
+ghost use Rattle.encode.specs.Encoding.{Writing, wordOf, written};
 use code::Parameters;
 
 // The room in which a rule is summed: whole words, with 8 bytes above a sub-word.
-fn room_bytes(p: Parameters) -> usize
+pub fn room_bytes(p: Parameters) -> usize
     requires { ⌜ Accepted p ⌝ }
     ensures { λ r. ⌜ r ≡ roomBytes p ⌝ }
 {
@@ -158,92 +157,26 @@ fn write_word(
     put_sub_word(&mut page[start..end], s, bits, &r);
 }
 
-// The same with the table of the level made in t.
-fn write_afresh(
+// ---- a run of sub-words
+
+// Sub-words `from` - 1 down to `to` of the page, whose later ones are written; t is the table of the level of each.
+pub fn write_span(
     p: Parameters,
-    rows: [[u64; 13]; 4],
     w: &[u32],
     blocks: &[u8],
     page: &mut [u8],
-    i: usize,
+    from: usize,
+    to: usize,
     width: usize,
-    t: &mut [u64],
+    t: &[u64],
     acc: &mut [u8],
 )
-    requires { ⌜ Making p rows (now w) (now blocks) (now page) width (now t) (now acc) × (i < p .m) ⌝ }
-    ensures { λ x. ⌜ now (page .exit) ≡ written p (now (page .entry)) i (wordOf p (now (blocks .entry)) (now (page .entry)) i) ⌝ }
+    requires { ⌜ Writing p (now w) (now blocks) (now page) width (now acc) × Span p (now t) to from × Encoded p (now blocks) from (now page) ⌝ }
+    ensures { λ x. ⌜ Encoded p (now (blocks .entry)) to (now (page .exit)) ⌝ }
 {
-    let a = layout::level_of(p, i);
-    let bits = layout::check_bits(p, w, i);
-    levels::prepare(t, p, rows, a, bits);
-    write_word(p, w, blocks, page, i, width, t, acc);
-}
-
-// ---- the page
-
-// Sub-words m - 1 down to v: level 0.
-fn write_later(
-    p: Parameters,
-    rows: [[u64; 13]; 4],
-    w: &[u32],
-    blocks: &[u8],
-    page: &mut [u8],
-    width: usize,
-    t: &mut [u64],
-    acc: &mut [u8],
-)
-    requires { ⌜ Making p rows (now w) (now blocks) (now page) width (now t) (now acc) ⌝ }
-    ensures { λ x. ⌜ Encoded p (now (blocks .entry)) (p .v) (now (page .exit)) ⌝ }
-{
-    let v = p.v as usize;
-    let bits = layout::check_bits(p, w, v);
-    levels::prepare(t, p, rows, 0, bits);
-    let mut i = p.m as usize;
-    while v < i {
+    let mut i = from;
+    while to < i {
         i -= 1;
         write_word(p, w, blocks, page, i, width, t, acc);
     }
-}
-
-// Sub-words v - 1 down to 0, each of a level of its own.
-fn write_earlier(
-    p: Parameters,
-    rows: [[u64; 13]; 4],
-    w: &[u32],
-    blocks: &[u8],
-    page: &mut [u8],
-    width: usize,
-    t: &mut [u64],
-    acc: &mut [u8],
-)
-    requires { ⌜ Making p rows (now w) (now blocks) (now page) width (now t) (now acc) × Encoded p (now blocks) (p .v) (now page) ⌝ }
-    ensures { λ x. ⌜ now (page .exit) ≡ pageOf p (now (blocks .entry)) ⌝ }
-{
-    let mut i = p.v as usize;
-    while 0 < i {
-        i -= 1;
-        write_afresh(p, rows, w, blocks, page, i, width, t, acc);
-    }
-}
-
-// The page of the blocks, `width` coefficients a step. The array has one word more than the table: so the table stands at a multiple of
-// 16 bytes in the frame of the C call, where two words are read at a time, and no read crosses a line of the cache.
-pub fn encode(
-    p: Parameters,
-    rows: [[u64; 13]; 4],
-    w: &[u32],
-    blocks: &[u8],
-    page: &mut [u8],
-    width: usize,
-)
-    requires { ⌜ Ready p (now w) (now blocks) × (rows ≡ generators p) × (length (now page) ≡ pageBytes p) × (1 ≤ width) × (width ≤ 64) ⌝ }
-    ensures { λ x. ⌜ now (page .exit) ≡ pageOf p (now (blocks .entry)) ⌝ }
-{
-    let mut table = [0u64; 3073];
-    let mut room = [0u8; 520];
-    let k = room_bytes(p);
-    let t = &mut table[..3072];
-    let acc = &mut room[..k];
-    write_later(p, rows, w, blocks, page, width, t, acc);
-    write_earlier(p, rows, w, blocks, page, width, t, acc);
 }

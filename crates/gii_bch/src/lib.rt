@@ -1,5 +1,5 @@
 // The C calls: the numbers of a sheet one by one, buffers as byte slices, the answer as a number. Each tests everything.
-ghost use Rattle.code.specs.Calls.{WrittenC, JudgedC, ReadOutC, SyndromesMadeC, NestedSyndromesMadeC, QuoteMadeC, SizeC};
+ghost use Rattle.code.specs.Calls.{WrittenC, WrittenManyC, JudgedC, ReadOutC, SyndromesMadeC, NestedSyndromesMadeC, QuoteMadeC, SizeC};
 ghost use Rattle.code.specs.Code.{distance};
 ghost use Rattle.code.specs.Layout.{dataBytes, pageBytes};
 ghost use Rattle.code.specs.Parameters.{sheet};
@@ -43,6 +43,40 @@ pub extern "C" fn gii_write(
         s,
     };
     let r = page::write(p, width, blocks, page);
+    outcome_number(r)
+}
+
+// The pages of `count` block sets, and what each alone would be refused for.
+#[no_mangle]
+pub extern "C" fn gii_write_many(
+    q: u32,
+    m: u32,
+    v: u32,
+    t0: u32,
+    t1: u32,
+    t2: u32,
+    t3: u32,
+    s: u32,
+    width: u32,
+    count: u32,
+    blocks: &[u8],
+    pages: &mut [u8],
+    list: &mut [u8],
+) -> u32
+    ensures { λ r. ⌜ WrittenManyC (sheet q m v t0 t1 t2 t3 s) width count (now (blocks .entry)) (now (pages .entry)) (now (pages .exit))
+        (now (list .entry)) (now (list .exit)) r ⌝ }
+{
+    let p = Parameters {
+        q,
+        m,
+        v,
+        t0,
+        t1,
+        t2,
+        t3,
+        s,
+    };
+    let r = page::write_many(p, width, count, blocks, pages, list);
     outcome_number(r)
 }
 

@@ -1,3 +1,4 @@
--- Blocks of a page, one by one.
+-- Blocks of a page, one by one; many pages' list.
 pub mod Taken
 pub mod Exact
+pub mod Listed

@@ -1,13 +1,14 @@
-// Pages: written, judged, read out.
+// Pages: written, one or many, judged, read out.
 ghost use mathlib.Core.Path.{_≡_};
-ghost use Prim.Native.Nat.{_+_, _/_, _%_, _^_, _≤_, _<_};
+ghost use Prim.Native.Nat.{_+_, _*_, _/_, _%_, _^_, _≤_, _<_};
 ghost use lib.ListN.{length, getD};
 ghost use Rattle.polynomial.specs.Digits.{digits, value};
-ghost use Rattle.code.specs.Calls.{Judged, ReadOut, Written, generators};
+ghost use Rattle.code.specs.Calls.{Judged, ReadOut, Written, WrittenMany, generators, statusOf, statuses};
 ghost use Rattle.code.specs.Code.{checkBits};
-ghost use Rattle.code.specs.Layout.{blockOffset, dataOf, pageBytes, storedOf};
+ghost use Rattle.code.specs.Layout.{blockOffset, dataBytes, dataOf, pageBytes, storedOf};
 ghost use Rattle.code.specs.Parameters.{Accepted};
 ghost use Rattle.layout.specs.Replaced.{replaced};
+ghost use Rattle.layout.specs.Sizes.{Degrees};
 ghost use Rattle.page.specs.Exact.{isRefused};
 ghost use Rattle.page.specs.Taken.{Taking, sizeOf};
 use code::Outcome;
@@ -131,7 +132,8 @@ fn write_accepted(p: Parameters, width: u32, blocks: &[u8], page: &mut [u8]) -> 
     if n != 0 {
         return Outcome::Refused(n);
     }
-    encode::encode(p, rows, &w, blocks, page, width as usize);
+    let list = [0u8; 1];
+    pages::encode(p, rows, &w, blocks, page, &list, width as usize);
     Outcome::Done
 }
 
@@ -144,4 +146,73 @@ pub fn write(p: Parameters, width: u32, blocks: &[u8], page: &mut [u8]) -> Outco
         return Outcome::Refused(k);
     }
     write_accepted(p, width, blocks, page)
+}
+
+// ---- many pages in one call
+
+// What page k alone would be refused for, by its blocks.
+fn status_at(p: Parameters, w: &[u32], width: u32, blocks: &[u8], k: usize) -> u8
+    requires { ⌜ Accepted p × Degrees p (now w) × (k < 16) × (k * dataBytes p + dataBytes p ≤ length (now blocks)) ⌝ }
+    ensures { λ r. ⌜ r ≡ statusOf p width (now (blocks .entry)) k ⌝ }
+{
+    let size = layout::data_bytes(p, w);
+    let bytes = layout::page_bytes(p);
+    let at = k * size;
+    let end = at + size;
+    refusal::write_refusal(p, w, width, &blocks[at..end], bytes)
+}
+
+// The same of every page, listed.
+fn list_pages(p: Parameters, w: &[u32], width: u32, blocks: &[u8], list: &mut [u8])
+    requires { ⌜ Accepted p × Degrees p (now w) × (length (now list) ≤ 16) × (length (now blocks) ≡ length (now list) * dataBytes p) ⌝ }
+    ensures { λ x. ⌜ now (list .exit) ≡ statuses p width (length (now (list .entry))) (now (blocks .entry)) ⌝ }
+{
+    let mut k: usize = 0;
+    while k < list.len() {
+        list[k] = status_at(p, w, width, blocks, k);
+        k += 1;
+    }
+}
+
+// Write of `count` pages, for accepted parameters: all that refuses the whole call is tested before a byte is touched.
+fn many_accepted(
+    p: Parameters,
+    width: u32,
+    count: u32,
+    blocks: &[u8],
+    pages: &mut [u8],
+    list: &mut [u8],
+) -> Outcome
+    requires { ⌜ Accepted p ⌝ }
+    ensures { λ r. ⌜ WrittenMany p width count (now (blocks .entry)) (now (pages .entry)) (now (pages .exit)) (now (list .entry))
+        (now (list .exit)) r ⌝ }
+{
+    let rows = levels::rows(p);
+    let w = levels::degrees(p, rows);
+    let n = refusal::many_refusal(p, &w, width, count, blocks.len(), pages.len(), list.len());
+    if n != 0 {
+        return Outcome::Refused(n);
+    }
+    list_pages(p, &w, width, blocks, list);
+    pages::encode(p, rows, &w, blocks, pages, list, width as usize);
+    Outcome::Done
+}
+
+// The pages of `count` block sets, `width` coefficients a step, and a list of what each is refused for, 0 for a page that is written.
+pub fn write_many(
+    p: Parameters,
+    width: u32,
+    count: u32,
+    blocks: &[u8],
+    pages: &mut [u8],
+    list: &mut [u8],
+) -> Outcome
+    ensures { λ r. ⌜ WrittenMany p width count (now (blocks .entry)) (now (pages .entry)) (now (pages .exit)) (now (list .entry))
+        (now (list .exit)) r ⌝ }
+{
+    let k = refusal::sheet_refusal(p);
+    if k != 0 {
+        return Outcome::Refused(k);
+    }
+    many_accepted(p, width, count, blocks, pages, list)
 }

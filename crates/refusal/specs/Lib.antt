@@ -2,6 +2,7 @@
 pub mod Judging
 pub mod Reading
 pub mod Writing
+pub mod Many
 pub mod Indexed
 pub mod Tests
 pub mod Feeding

@@ -1,6 +1,6 @@
 -- The tests of numbers: what a program's comparisons show of them.
 use mathlib.Core.Path.{_≡_, refl, sym, ap, _∙_}
-use mathlib.Core.Bool.{Bool, true, false, not}
+use mathlib.Core.Bool.{Bool, true, false, not, _||_}
 use mathlib.Core.List.{List}
 use Prim.Native.Nat.{ℕ, suc, _+_, _-_, _*_, _/_, _%_, _^_, _≤_, _<_, zero-le}
 use native.Mathlib.Nat as Nat
@@ -15,7 +15,6 @@ use Rattle.polynomial.specs.Division.{lt-of-shr}
 use Rattle.kernels.specs.Value.{Bounded, value-lt, drop-shr, digit-at}
 use Rattle.code.specs.declared.Parameters.{Parameters}
 use Rattle.code.specs.Parameters.{Accepted, full}
-use Rattle.code.specs.Refusals.{badWidth}
 use Rattle.layout.specs.Sizes.{stored-high}
 
 -- two tests that pass together are one
@@ -28,13 +27,13 @@ never : (b : Bool) → (b ≡ true → ⊥) → false ≡ b
 never true h = absurd (h refl)
 never false h = refl
 
--- ---- the width
-pub width-zero : (L : ℕ) → L ≡ 0 → false ≡ not (badWidth L)
-width-zero L e = simp (eq-eqb L 0 e)
+-- ---- the width and the count: a number from 1 to m
+pub between-zero : (m x : ℕ) → x ≡ 0 → false ≡ not (eqb x 0 || ltb m x)
+between-zero m x e = simp (eq-eqb x 0 e)
 
-pub width-above : (L : ℕ) → (L ≡ 0 → ⊥) → leb L 64 ≡ not (badWidth L)
-width-above L h =
-    sym (simp (ne-eqb L 0 h) (same _ _ (λ t. le-leb L 64 (ltb-false 64 L (not-true _ t))) (λ t. rw (le-ltb 64 L (leb-true L 64 t)) refl)))
+pub between-above : (m x : ℕ) → (x ≡ 0 → ⊥) → leb x m ≡ not (eqb x 0 || ltb m x)
+between-above m x h =
+    sym (simp (ne-eqb x 0 h) (same _ _ (λ t. le-leb x m (ltb-false m x (not-true _ t))) (λ t. rw (le-ltb m x (leb-true x m t)) refl)))
 
 -- ---- a number of L bits
 pub below-pow : (u L : ℕ) → 1 ≤ L → ltb (u / 2 ^ (L - 1)) 2 ≡ ltb u (2 ^ L)

@@ -7,7 +7,7 @@ ghost use lib.ListN.{length};
 ghost use Rattle.polynomial.specs.Digits.{value};
 ghost use Rattle.code.specs.Layout.{blocksFull, dataBytes};
 ghost use Rattle.code.specs.Parameters.{Accepted, sheetRefusal};
-ghost use Rattle.code.specs.Refusals.{badWidth, judgeLengths, openRefusal, pageRefusal, quoteRefusal, readLengths, wordRefusal, writeRefusal};
+ghost use Rattle.code.specs.Refusals.{badCount, badWidth, judgeLengths, manyRefusal, openRefusal, pageRefusal, quoteRefusal, readLengths, wordRefusal, writeRefusal};
 ghost use Rattle.layout.specs.Sizes.{Degrees};
 ghost use Rattle.refusal.specs.Feeding.{numbersRefusal};
 use code::Parameters;
@@ -112,6 +112,48 @@ pub fn write_refusal(p: Parameters, w: &[u32], width: u32, blocks: &[u8], page: 
     }
     if page_ones(p, w, blocks) {
         return 13;
+    }
+    0
+}
+
+// 1 to 16 pages.
+fn count_good(count: u32) -> bool
+    ensures { λ r. ⌜ r ≡ not (badCount count) ⌝ }
+{
+    if count == 0 {
+        return false;
+    }
+    count <= 16
+}
+
+// For accepted parameters, whose degrees are w, `count` pages, and lengths of blocks, pages and list: 5, 9 for the count, 6, 7, 10, or 0.
+pub fn many_refusal(
+    p: Parameters,
+    w: &[u32],
+    width: u32,
+    count: u32,
+    blocks: usize,
+    pages: usize,
+    list: usize,
+) -> u8
+    requires { ⌜ Accepted p × Degrees p (now w) ⌝ }
+    ensures { λ r. ⌜ r ≡ manyRefusal p width count blocks pages list ⌝ }
+{
+    if !width_good(width) {
+        return 5;
+    }
+    if !count_good(count) {
+        return 9;
+    }
+    let c = count as usize;
+    if blocks != c * layout::data_bytes(p, w) {
+        return 6;
+    }
+    if pages != c * layout::page_bytes(p) {
+        return 7;
+    }
+    if list != c {
+        return 10;
     }
     0
 }

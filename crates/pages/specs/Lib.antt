@@ -1,0 +1,2 @@
+-- Pages from their blocks, level by level.
+pub mod Filling
