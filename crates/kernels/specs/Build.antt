@@ -32,7 +32,7 @@ pub record Put (t t′ : List ℕ) (at n : ℕ) : Type 0 where
   pub here : rowAt t′ at ≡ n
   pub below : (i : ℕ) → i + 12 ≤ at → rowAt t′ i ≡ rowAt t i
 
-window : (n i m : ℕ) (l : List ℕ) → i + n ≤ m → take n (drop i (take m l)) ≡ take n (drop i l)
+pub window : (n i m : ℕ) (l : List ℕ) → i + n ≤ m → take n (drop i (take m l)) ≡ take n (drop i l)
 window n zero m l h = take-take n m l (rw (zero-add n) at h)
 window n (suc i) zero l h = absurd (Nat.not-suc-le-zero (rw (Nat.suc-add i n) at h))
 window n (suc i) (suc m) [] h = refl
@@ -48,7 +48,7 @@ pub record Putting (t₀ t : List ℕ) (at j n : ℕ) : Type 0 where
   pub before : take at t ≡ take at t₀
   pub done : value 64 (take j (drop at t)) ≡ n
 
-next-word : (t₀ t : List ℕ) (at j v n : ℕ) → at + j < length t → Putting t₀ t at j n
+pub next-word : (t₀ t : List ℕ) (at j v n : ℕ) → at + j < length t → Putting t₀ t at j n
     → Putting t₀ (set t (at + j) v) at (j + 1) (v * 2 ^ (64 * j) + n)
 next-word t₀ t at j v n h p = record {
   before = take-set-le at t (at + j) v (omega arith) ∙ p .before;

@@ -18,7 +18,7 @@ use crate::row::lower;
 use crate::row::shift;
 
 // The words of src from `from` on, below the 13th, are copied to dst.
-fn copy(dst: &mut [u64], src: &[u64], from: usize)
+pub fn copy(dst: &mut [u64], src: &[u64], from: usize)
     requires { ⌜ (12 ≤ length (now dst)) × (12 ≤ length (now src)) × (from ≤ 12) × (take from (now dst) ≡ take from (now src)) ⌝ }
     ensures { λ x. ⌜ Copied (now (dst .entry)) (now (dst .exit)) (now (src .entry)) 12 ⌝ }
 {
@@ -103,7 +103,7 @@ pub fn step(r: &mut [u64], t: &[u64], u: u64, l: usize, p: usize)
 }
 
 // The words of src from `from` on, below the 12th, are copied to dst, each one place higher.
-fn copy_next(dst: &mut [u64], src: &[u64], from: usize)
+pub fn copy_next(dst: &mut [u64], src: &[u64], from: usize)
     requires { ⌜ (length (now dst) ≡ 12) × (12 ≤ length (now src)) × (from ≤ 11)
         × (value 64 (take (from + 1) (now dst)) ≡ value 64 (take from (now src)) * 2 ^ 64) ⌝ }
     ensures { λ x. ⌜ (value 64 (now (dst .exit)) ≡ value 64 (take 11 (now (src .entry))) * 2 ^ 64)
@@ -222,7 +222,7 @@ fn feed_top(r: &mut [u64], t: &[u64], s: &[u8], n: usize, w: usize, l: usize, p:
 }
 
 // The k lowest coefficients of s are added.
-fn add_low(r: &mut [u64], s: &[u8], k: usize)
+pub fn add_low(r: &mut [u64], s: &[u8], k: usize)
     requires { ⌜ (length (now r) ≡ 13) × (k ≤ 768) ⌝ }
     ensures { λ x. ⌜ value 64 (now (r .exit)) ≡ xor (value 64 (now (r .entry))) (value 8 (now (s .entry)) % 2 ^ k) ⌝ }
 {

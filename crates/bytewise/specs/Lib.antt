@@ -1,0 +1,2 @@
+-- Tables and remainders with a byte for a digit.
+pub mod Bytes
