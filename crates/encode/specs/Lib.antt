@@ -4,4 +4,5 @@ pub mod Horner
 pub mod Carried
 pub mod Rule
 pub mod Encoding
+pub mod Loaded
 pub mod Page

@@ -20,10 +20,10 @@ use Rattle.code.specs.Pages.{IsWords, blocks-blocks, encode-words, pageOf-eq, w
 use Rattle.code.specs.Parameters.{Accepted, stored, subWordBytes}
 use Rattle.code.specs.Placement.{encode-at}
 use Rattle.layout.specs.Parts.{page-parts, word-at, word-room}
-use Rattle.levels.specs.Ready.{Prepared}
 use Rattle.layout.specs.Replaced.{replaced, replaced-after, replaced-length, replaced-part}
 use Rattle.encode.specs.Carried.{roomBytes}
 use Rattle.encode.specs.Encoding.{wordOf, written}
+use Rattle.encode.specs.Loaded.{Loaded}
 
 pub record Encoded (p : Parameters) (blocks : List ℕ) (i : ℕ) (x : List ℕ) : Type 0 where
   pub exact : length x ≡ pageBytes p
@@ -114,7 +114,7 @@ module _ (p : Parameters) (A : Accepted p) (blocks : List ℕ) (F : Fits p block
 pub record Span (p : Parameters) (t : List ℕ) (least most : ℕ) : Type 0 where
   pub rising : least ≤ most
   pub inside : most ≤ p .m
-  pub prepared : (i : ℕ) → least ≤ i → i < most → Prepared p (level p i) t
+  pub prepared : (i : ℕ) → least ≤ i → i < most → Loaded p (level p i) t
 
 pub record Going (p : Parameters) (blocks : List ℕ) (least most i : ℕ) (x acc : List ℕ) : Type 0 where
   pub page : Encoded p blocks i x

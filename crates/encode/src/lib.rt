@@ -7,9 +7,9 @@ ghost use Rattle.polynomial.specs.Xor.{xor};
 ghost use Rattle.code.specs.Code.{N, carried, checkBits, combine, degree, level, remainder};
 ghost use Rattle.code.specs.Layout.{dataBits, pageBytes, wordsOf};
 ghost use Rattle.code.specs.Parameters.{Accepted};
-ghost use Rattle.levels.specs.Ready.{Prepared};
 ghost use Rattle.encode.specs.Carried.{roomBytes};
 ghost use Rattle.encode.specs.Horner.{Over, Sums};
+ghost use Rattle.encode.specs.Loaded.{Loaded};
 ghost use Rattle.encode.specs.Page.{Encoded, Span};
 ghost use Rattle.encode.specs.Encoding.{Writing, wordOf, written};
 use code::Parameters;
@@ -109,13 +109,17 @@ fn ruled_into(acc: &mut [u8], p: Parameters, page: &[u8], i: usize, s: &[u8], bi
     add_carried(acc, p, page, i);
 }
 
-// The remainder of acc by level a's generator, of degree w, whose table is t, `width` coefficients a step.
+// The remainder of acc by level a's generator, of degree w, whose table is t: `width` coefficients a step with hex digits, 64 with bytes.
 fn check_of(r: &mut [u64], t: &[u64], acc: &[u8], p: Parameters, a: usize, w: usize, width: usize)
-    requires { ⌜ Accepted p × (a ≤ p .v) × (w ≡ degree p a) × Prepared p a (now t) × (length (now r) ≡ 13) × (length (now acc) < 1000)
+    requires { ⌜ Accepted p × (a ≤ p .v) × (w ≡ degree p a) × Loaded p a (now t) × (length (now r) ≡ 13) × (length (now acc) < 1000)
         × (1 ≤ width) × (width ≤ 64) ⌝ }
     ensures { λ x. ⌜ value 64 (now (r .exit)) ≡ remainder p a (value 8 (now (acc .entry))) ⌝ }
 {
-    kernels::remainder::remainder_of(r, t, acc, 8 * acc.len(), width, 768 - w);
+    if t.len() == 3072 {
+        kernels::remainder::remainder_of(r, t, acc, 8 * acc.len(), width, 768 - w);
+        return;
+    }
+    bytewise::remainder_of(r, t, acc, w);
 }
 
 // The data s moved up over their check bits r.
@@ -139,7 +143,7 @@ fn write_word(
     t: &[u64],
     acc: &mut [u8],
 )
-    requires { ⌜ Writing p (now w) (now blocks) (now page) width (now acc) × (i < p .m) × Prepared p (level p i) (now t) ⌝ }
+    requires { ⌜ Writing p (now w) (now blocks) (now page) width (now acc) × (i < p .m) × Loaded p (level p i) (now t) ⌝ }
     ensures { λ x. ⌜ now (page .exit) ≡ written p (now (page .entry)) i (wordOf p (now (blocks .entry)) (now (page .entry)) i) ⌝ }
 {
     let at = layout::block_offset(p, w, i);
