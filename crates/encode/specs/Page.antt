@@ -114,7 +114,7 @@ module _ (p : Parameters) (A : Accepted p) (blocks : List ℕ) (F : Fits p block
 pub record Span (p : Parameters) (t : List ℕ) (least most : ℕ) : Type 0 where
   pub rising : least ≤ most
   pub inside : most ≤ p .m
-  pub prepared : (i : ℕ) → least ≤ i → i < most → Loaded p (level p i) t
+  pub loaded : (i : ℕ) → least ≤ i → i < most → Loaded p (level p i) t
 
 pub record Going (p : Parameters) (blocks : List ℕ) (least most i : ℕ) (x acc : List ℕ) : Type 0 where
   pub page : Encoded p blocks i x

@@ -194,7 +194,7 @@ fn many_accepted(
         return Outcome::Refused(n);
     }
     list_pages(p, &w, width, blocks, list);
-    pages::encode(p, rows, &w, blocks, pages, list, width as usize);
+    pages::encode_many(p, rows, &w, blocks, pages, list, width as usize);
     Outcome::Done
 }
 

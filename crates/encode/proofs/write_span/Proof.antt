@@ -31,7 +31,7 @@ write-word-requires c κs =
     let last : (s .args .to) ≤ (l .loop .i) - 1 = omega (arith, h .loop-test .taken) in (
       record { ready = r .ready; exact = g .page .exact; low = r .low; high = r .high; room = g .room },
       omega (arith, g .high, h .loop-test .taken, s .pre .1 .inside),
-      s .pre .1 .prepared ((l .loop .i) - 1) last (omega (arith, g .high, h .loop-test .taken)),
+      s .pre .1 .loaded ((l .loop .i) - 1) last (omega (arith, g .high, h .loop-test .taken)),
     )
 
 loop-less : tie.Need-loop-less Inv-loop μ-loop

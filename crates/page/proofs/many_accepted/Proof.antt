@@ -47,11 +47,11 @@ list-pages-requires c κs =
     let l = lent e in
     (s .pre, d .degrees .ensures, rw (l .list-exact) (l .high), l .blocks-exact ∙ ap (λ (k : ℕ). k * dataBytes (s .args .p)) (sym (l .list-exact)))
 
-slice-aggregate-encode : tie.Need-slice-aggregate-encode
-slice-aggregate-encode c = search needs
+slice-aggregate-encode-many : tie.Need-slice-aggregate-encode-many
+slice-aggregate-encode-many c = search needs
 
-encode-requires : tie.Need-encode-requires
-encode-requires c κs =
+encode-many-requires : tie.Need-encode-many-requires
+encode-many-requires c κs =
     let z = c .before .before .before .before .before in
     let e = z .before .before .before in
     let d = e .before .before .before in
@@ -71,7 +71,7 @@ returns-2 c =
     let z = y .before .before .before .before .before .before in
     let e = z .before .before .before in
     let a = e .before .before .before .before .before .before .before .before .args in
-    many-done (a .p) (a .width) (a .count) (a .blocks .now) (a .pages .now) (a .list .now) (passed e) _ (z .list-pages .ensures) _ (y .encode .ensures)
+    many-done (a .p) (a .width) (a .count) (a .blocks .now) (a .pages .now) (a .list .now) (passed e) _ (z .list-pages .ensures) _ (y .encode-many .ensures)
 
 pub many-accepted-spec : {M : Type 1} → statement M
 many-accepted-spec =
@@ -84,8 +84,8 @@ many-accepted-spec =
     returns
     slice-aggregate-list-pages
     list-pages-requires
-    slice-aggregate-encode
-    encode-requires
+    slice-aggregate-encode-many
+    encode-many-requires
     same-length
     same-length-2
     returns-2)
