@@ -81,7 +81,7 @@ fn bytes_pay(words: usize, bits: usize, width: usize, room: usize) -> bool
     if width != 64 {
         return false;
     }
-    16 <= words
+    32 <= words
 }
 
 // Sub-words `from` - 1 down to `to` of every page, by a table with bytes that is made in b, from t, the table of their level.
