@@ -190,8 +190,7 @@ module _ (p : Parameters) (list blocks pages : List ℕ) (e : length pages ≡ l
   by-length j h =
       let z = Nat.zero-add j in
       ap (λ (k : ℕ). length (pageBy p list blocks pages k)) z
-      ∙ left-length (getD list j 0) (pageOf p (part (dataBytes p) j blocks)) (part (pageBytes p) j pages) (pageBytes p)
-      (page-length p (part (dataBytes p) j blocks)) (part-length (pageBytes p) (length list) pages e j h)
+      ∙ left-length (getD list j 0) _ _ (pageBytes p) (page-length p _) (part-length (pageBytes p) (length list) pages e j h)
 
   pub length-by : length (pagesBy p list blocks pages) ≡ length pages
   unfolding pagesBy

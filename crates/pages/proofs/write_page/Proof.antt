@@ -20,6 +20,13 @@ blocks-small d =
     let g = s .pre .0 .given in
     place-small (s .args .k) (length (s .args .list .now)) (dataBytes (s .args .p)) (d .data-bytes .result) (s .pre .1) (g .many) (bytes-high (s .args .p) (g .accepts)) (d .data-bytes .ensures)
 
+blocks-lent : (d : tie.After-data-bytes) → (let a = d .before .before .before .before .before .before .before .before .before .args in let n = d .data-bytes .result in
+    take ((a .k) * n + n - (a .k) * n) (drop ((a .k) * n) (a .blocks .now)) ≡ part (dataBytes (a .p)) (a .k) (a .blocks .now))
+blocks-lent d =
+    let a = d .before .before .before .before .before .before .before .before .before .args in
+    let n = d .data-bytes .result in
+    lent-part (a .blocks .now) (a .k) n ((a .k) * n) (dataBytes (a .p)) refl (d .data-bytes .ensures)
+
 page-small : (b : tie.After-page-bytes) → (let s = b .before .before .before .before .before .before .before .before .before .before in (s .args .k) * (b .page-bytes .result) + b .page-bytes .result ≤ 65536)
 page-small b =
     let s = b .before .before .before .before .before .before .before .before .before .before in
@@ -87,7 +94,7 @@ write-span-requires c κs =
     let a = s .args in
     let f = s .pre .0 in
     let g = f .given in
-    let x = lent-part (a .blocks .now) (a .k) (d .data-bytes .result) ((a .k) * (d .data-bytes .result)) (dataBytes (a .p)) refl (d .data-bytes .ensures) in
+    let x = blocks-lent d in
     let y = lent-part (a .pages .now) (a .k) (b .page-bytes .result) ((a .k) * (b .page-bytes .result)) (pageBytes (a .p)) refl (b .page-bytes .ensures) in
     rw (x, y) (
       record {
@@ -121,7 +128,7 @@ returns-2 c =
     let s = e .before .before .before .before .before .before .before .before in
     let a = s .args in
     let g = s .pre .0 .given in
-    let x = lent-part (a .blocks .now) (a .k) (d .data-bytes .result) ((a .k) * (d .data-bytes .result)) (dataBytes (a .p)) refl (d .data-bytes .ensures) in
+    let x = blocks-lent d in
     let w = rw x at (z .write-span .ensures) in
     rw (put-is (a .pages .now) (z .write-span .last .1 .1 .1 .0) (z .write-span .last .1 .1 .1 .0) ((a .k) * (b .page-bytes .result)) (b .page-bytes .result) ((a .k) * pageBytes (a .p)) (rw (b .page-bytes .ensures) refl) refl (w .exact ∙ sym (b .page-bytes .ensures)))
     (turned-done (a .p) (a .blocks .now) (a .list .now) (a .pages .now) (z .write-span .last .1 .1 .1 .0) (a .k) (a .to) (g .pages-exact) (s .pre .1) (e .if1 .left) w)
