@@ -5,7 +5,7 @@
 --   written p x i c                            the page x with c as sub-word i
 use mathlib.Core.Path.{_≡_, sym, ap, ap₂, _∙_}
 use mathlib.Core.List.{List}
-use Prim.Native.Nat.{ℕ, suc, _+_, _-_, _*_, _/_, _^_, _≤_, _<_}
+use Prim.Native.Nat.{ℕ, suc, _+_, _-_, _*_, _/_, _^_, _≤_, _<_, zero-le}
 use native.Mathlib.Nat as Nat
 use native.Mathlib.Omega.{arith}
 use lib.Bits.{xor-shifted}
@@ -17,7 +17,7 @@ use Rattle.polynomial.specs.Sums.{at-all}
 use Rattle.polynomial.specs.Xor.{xor, xor-is}
 use Rattle.code.specs.declared.Parameters.{Parameters}
 use Rattle.code.specs.Accepted.{accepted, lawful}
-use Rattle.code.specs.Code.{carried, checkBits, checked, gen, level, remainder}
+use Rattle.code.specs.Code.{carried, checkBits, checked, degree, gen, level, remainder}
 use Rattle.code.specs.Layout.{Fits, blockOffset, blocksClear, blocksOf, dataBits, dataBytes, pageBytes, wordsOf}
 use Rattle.code.specs.Pages.{blocks-blocks}
 use Rattle.code.specs.Parameters.{Accepted, subWordBytes}
@@ -68,6 +68,9 @@ block-part p blocks i at size h e f =
     ∙ sym (block-at p blocks i h)
 
 -- ---- data above, check bits below
+pub late-lt : (p : Parameters) → Accepted p → (f : ℕ) → remainder p 0 f < 2 ^ degree p 0
+late-lt p A f = rem-lt (gen p 0) (degree p 0) (lawful p (accepted p A) .degrees 0 zero-le) f
+
 module _ (p : Parameters) (A : Accepted p) (i : ℕ) where
   pub check-lt : (f : ℕ) → remainder p (level p i) f < 2 ^ checkBits p i
   check-lt f = rem-lt (gen p (level p i)) (checkBits p i) (lawful p (accepted p A) .degrees (level p i) (level-low p i)) f

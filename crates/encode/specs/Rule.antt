@@ -1,7 +1,7 @@
 -- The rule of a sub-word: its data in their places, and what the later sub-words add.
 use mathlib.Core.Path.{_≡_, sym, ap, ap₂, _∙_}
 use mathlib.Core.List.{List}
-use Prim.Native.Nat.{ℕ, suc, _+_, _-_, _*_, _%_, _^_, _≤_, _<_}
+use Prim.Native.Nat.{ℕ, suc, _+_, _-_, _*_, _^_, _≤_, _<_}
 use native.Mathlib.Nat as Nat
 use native.Mathlib.Omega.{arith}
 use lib.Pow.{pow-mono, shl-lt}
@@ -37,17 +37,14 @@ module _ (p : Parameters) (A : Accepted p) where
   pub placed-room : (d i k : ℕ) → d < 2 ^ dataBits p i → subWordBytes p ≤ k → d * 2 ^ checkBits p i < 2 ^ (8 * k)
   placed-room d i k h l = Nat.lt-of-lt-of-le (placed-lt d i h) (pow-mono (omega (arith, bits-all p A)))
 
-  copied : (x d w i k : ℕ) → w ≡ checkBits p i → k ≡ roomBytes p → d < 2 ^ dataBits p i → x ≡ d * 2 ^ w % 2 ^ (8 * k)
-      → x ≡ d * 2 ^ checkBits p i
-  copied x d w i k e f h z = z ∙ ap (λ (j : ℕ). d * 2 ^ j % 2 ^ (8 * k)) e ∙ Nat.mod-eq-of-lt (placed-room d i k h (omega arith))
+  pub rule-room : (d w i k : ℕ) → w ≡ checkBits p i → k ≡ roomBytes p → d < 2 ^ dataBits p i → d * 2 ^ w < 2 ^ (8 * k)
+  rule-room d w i k e f h = rw e (placed-room d i k h (omega arith))
 
-  pub ruled-late : (x d w i k : ℕ) (cs : List ℕ) → w ≡ checkBits p i → k ≡ roomBytes p → d < 2 ^ dataBits p i
-      → x ≡ d * 2 ^ w % 2 ^ (8 * k) → p .v ≤ i
-      → x ≡ xor (d * 2 ^ checkBits p i) (carried (level p i) i cs)
-  ruled-late x d w i k cs e f h z l =
-      copied x d w i k e f h z ∙ sym (ap (xor (d * 2 ^ checkBits p i)) (carried-late p i cs l) ∙ xor-zero-r (d * 2 ^ checkBits p i))
+pub ruled-late : (p : Parameters) (d w i : ℕ) (cs : List ℕ) → w ≡ checkBits p i → p .v ≤ i
+    → d * 2 ^ w ≡ xor (d * 2 ^ checkBits p i) (carried (level p i) i cs)
+ruled-late p d w i cs e l =
+    ap (λ (j : ℕ). d * 2 ^ j) e ∙ sym (ap (xor (d * 2 ^ checkBits p i)) (carried-late p i cs l) ∙ xor-zero-r (d * 2 ^ checkBits p i))
 
-  pub ruled-early : (y x d w i k : ℕ) (cs : List ℕ) → w ≡ checkBits p i → k ≡ roomBytes p → d < 2 ^ dataBits p i
-      → x ≡ d * 2 ^ w % 2 ^ (8 * k) → i < p .v
-      → y ≡ xor x (combine (λ k. N k i) (suc i) cs) → y ≡ xor (d * 2 ^ checkBits p i) (carried (level p i) i cs)
-  ruled-early y x d w i k cs e f h z l u = u ∙ ap₂ xor (copied x d w i k e f h z) (sym (carried-early p i cs l))
+pub ruled-early : (p : Parameters) (y x d w i : ℕ) (cs : List ℕ) → w ≡ checkBits p i → x ≡ d * 2 ^ w → i < p .v
+    → y ≡ xor x (combine (λ k. N k i) (suc i) cs) → y ≡ xor (d * 2 ^ checkBits p i) (carried (level p i) i cs)
+ruled-early p y x d w i cs e z l u = u ∙ ap₂ xor (z ∙ ap (λ (j : ℕ). d * 2 ^ j) e) (sym (carried-early p i cs l))

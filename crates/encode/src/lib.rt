@@ -11,7 +11,7 @@ ghost use Rattle.encode.specs.Carried.{roomBytes};
 ghost use Rattle.encode.specs.Horner.{Over, Sums};
 ghost use Rattle.encode.specs.Loaded.{Loaded};
 ghost use Rattle.encode.specs.Page.{Encoded, Span};
-ghost use Rattle.encode.specs.Encoding.{Writing, wordOf, written};
+ghost use Rattle.encode.specs.Encoding.{Ready, Writing, wordOf, written};
 use code::Parameters;
 
 // The room in which a rule is summed: whole words, with 8 bytes above a sub-word.
@@ -95,18 +95,12 @@ fn add_carried(acc: &mut [u8], p: Parameters, page: &[u8], i: usize)
 
 // ---- one sub-word
 
-// Block i's data s in their places, and what the later sub-words add to the rule of sub-word i.
-fn ruled_into(acc: &mut [u8], p: Parameters, page: &[u8], i: usize, s: &[u8], bits: usize)
-    requires { ⌜ Accepted p × (length (now page) ≡ pageBytes p) × (i < p .m) × (bits ≡ checkBits p i)
-        × (length (now acc) ≡ roomBytes p) × (value 8 (now s) < 2 ^ dataBits p i) ⌝ }
-    ensures { λ x. ⌜ value 8 (now (acc .exit)) ≡ xor (value 8 (now (s .entry)) * 2 ^ checkBits p i)
-        (carried (level p i) i (drop (suc i) (wordsOf p (now (page .entry))))) ⌝ }
+// The data s in their places, from x^bits on, and 0 below and above.
+fn place(part: &mut [u8], s: &[u8], bits: usize)
+    requires { ⌜ (bits < 8192) × (length (now part) < 1000) × (value 8 (now s) * 2 ^ bits < 2 ^ (8 * length (now part))) ⌝ }
+    ensures { λ x. ⌜ value 8 (now (part .exit)) ≡ value 8 (now (s .entry)) * 2 ^ bits ⌝ }
 {
-    kernels::bytes::copy_up(acc, s, bits);
-    if p.v as usize <= i {
-        return;
-    }
-    add_carried(acc, p, page, i);
+    kernels::bytes::copy_up(part, s, bits);
 }
 
 // The remainder of acc by level a's generator, of degree w, whose table is t: `width` coefficients a step with hex digits, 64 with bytes.
@@ -122,14 +116,90 @@ fn check_of(r: &mut [u64], t: &[u64], acc: &[u8], p: Parameters, a: usize, w: us
     bytewise::remainder_of(r, t, acc, w);
 }
 
+// The data s over their own check bits, as level 0 has them: the remainder is that of the part itself.
+fn put_late(part: &mut [u8], s: &[u8], bits: usize, t: &[u64], p: Parameters, width: usize)
+    requires { ⌜ Accepted p × (bits ≡ degree p 0) × Loaded p 0 (now t) × (bits ≤ 8 * length (now part)) × (length (now part) < 1000)
+        × (value 8 (now s) * 2 ^ bits < 2 ^ (8 * length (now part))) × (1 ≤ width) × (width ≤ 64) ⌝ }
+    ensures { λ x. ⌜ value 8 (now (part .exit)) ≡ value 8 (now (s .entry)) * 2 ^ bits + remainder p 0 (value 8 (now (s .entry)) * 2 ^ bits) ⌝ }
+{
+    place(part, s, bits);
+    let mut r = [0u64; 13];
+    check_of(&mut r, t, part, p, 0, bits, width);
+    kernels::bytes::store_low(part, &r, bits);
+}
+
+// Sub-word i of the page, of level 0, from its block alone; t is the table of level 0.
+fn write_late(
+    p: Parameters,
+    w: &[u32],
+    blocks: &[u8],
+    page: &mut [u8],
+    i: usize,
+    width: usize,
+    t: &[u64],
+)
+    requires { ⌜ Ready p (now w) (now blocks) × (length (now page) ≡ pageBytes p) × (1 ≤ width) × (width ≤ 64)
+        × (i < p .m) × (p .v ≤ i) × Loaded p (level p i) (now t) ⌝ }
+    ensures { λ x. ⌜ now (page .exit) ≡ written p (now (page .entry)) i (wordOf p (now (blocks .entry)) (now (page .entry)) i) ⌝ }
+{
+    let at = layout::block_offset(p, w, i);
+    let size = layout::block_size(p, w, i);
+    let stop = at + size;
+    let bits = layout::check_bits(p, w, i);
+    let k = layout::sub_word_bytes(p);
+    let start = i * k;
+    let end = start + k;
+    put_late(&mut page[start..end], &blocks[at..stop], bits, t, p, width);
+}
+
+// Block i's data s in their places, and what the later sub-words add to the rule of sub-word i.
+fn ruled_into(acc: &mut [u8], p: Parameters, page: &[u8], i: usize, s: &[u8], bits: usize)
+    requires { ⌜ Accepted p × (length (now page) ≡ pageBytes p) × (i < p .v) × (bits ≡ checkBits p i)
+        × (length (now acc) ≡ roomBytes p) × (value 8 (now s) < 2 ^ dataBits p i) ⌝ }
+    ensures { λ x. ⌜ value 8 (now (acc .exit)) ≡ xor (value 8 (now (s .entry)) * 2 ^ checkBits p i)
+        (carried (level p i) i (drop (suc i) (wordsOf p (now (page .entry))))) ⌝ }
+{
+    place(acc, s, bits);
+    add_carried(acc, p, page, i);
+}
+
 // The data s moved up over their check bits r.
 fn put_sub_word(part: &mut [u8], s: &[u8], bits: usize, r: &[u64])
     requires { ⌜ (bits ≤ 768) × (bits ≤ 8 * length (now part)) × (length (now part) < 1000) × (length (now r) ≡ 13)
         × (value 64 (now r) < 2 ^ bits) × (value 8 (now s) * 2 ^ bits < 2 ^ (8 * length (now part))) ⌝ }
     ensures { λ x. ⌜ value 8 (now (part .exit)) ≡ value 8 (now (s .entry)) * 2 ^ bits + value 64 (now (r .entry)) ⌝ }
 {
-    kernels::bytes::copy_up(part, s, bits);
+    place(part, s, bits);
     kernels::bytes::store_low(part, r, bits);
+}
+
+// Sub-word i of the page, before the last ones, from its block and the later sub-words; t is the table of its level, acc room to work in.
+fn write_early(
+    p: Parameters,
+    w: &[u32],
+    blocks: &[u8],
+    page: &mut [u8],
+    i: usize,
+    width: usize,
+    t: &[u64],
+    acc: &mut [u8],
+)
+    requires { ⌜ Writing p (now w) (now blocks) (now page) width (now acc) × (i < p .m) × Loaded p (level p i) (now t) × (i < p .v) ⌝ }
+    ensures { λ x. ⌜ now (page .exit) ≡ written p (now (page .entry)) i (wordOf p (now (blocks .entry)) (now (page .entry)) i) ⌝ }
+{
+    let at = layout::block_offset(p, w, i);
+    let size = layout::block_size(p, w, i);
+    let stop = at + size;
+    let s = &blocks[at..stop];
+    let bits = layout::check_bits(p, w, i);
+    ruled_into(acc, p, page, i, s, bits);
+    let a = layout::level_of(p, i);
+    let mut r = [0u64; 13];
+    check_of(&mut r, t, acc, p, a, bits, width);
+    let k = layout::sub_word_bytes(p);
+    let start = i * k;
+    let end = start + k;
+    put_sub_word(&mut page[start..end], s, bits, &r);
 }
 
 // Sub-word i of the page, from its block and the later sub-words; t is the table of its level, acc room to work in.
@@ -146,19 +216,11 @@ fn write_word(
     requires { ⌜ Writing p (now w) (now blocks) (now page) width (now acc) × (i < p .m) × Loaded p (level p i) (now t) ⌝ }
     ensures { λ x. ⌜ now (page .exit) ≡ written p (now (page .entry)) i (wordOf p (now (blocks .entry)) (now (page .entry)) i) ⌝ }
 {
-    let at = layout::block_offset(p, w, i);
-    let size = layout::block_size(p, w, i);
-    let stop = at + size;
-    let s = &blocks[at..stop];
-    let bits = layout::check_bits(p, w, i);
-    ruled_into(acc, p, page, i, s, bits);
-    let a = layout::level_of(p, i);
-    let mut r = [0u64; 13];
-    check_of(&mut r, t, acc, p, a, bits, width);
-    let k = layout::sub_word_bytes(p);
-    let start = i * k;
-    let end = start + k;
-    put_sub_word(&mut page[start..end], s, bits, &r);
+    if p.v as usize <= i {
+        write_late(p, w, blocks, page, i, width, t);
+        return;
+    }
+    write_early(p, w, blocks, page, i, width, t, acc);
 }
 
 // ---- a run of sub-words

@@ -7,15 +7,14 @@ use Rattle.polynomial.specs.Digits.{value}
 use Rattle.encode.proofs.put_sub_word.Statement.{statement}
 use Rattle.encode.proofs.put_sub_word.Tie as tie
 
-copy-up-requires : tie.Need-copy-up-requires
-copy-up-requires c κs = omega arith
+place-requires : tie.Need-place-requires
+place-requires c κs = let s = c .before .before .before .before in (omega (arith, s .pre .0), s .pre .2, s .pre .5)
 
 store-low-requires : tie.Need-store-low-requires
 store-low-requires c κs =
     let k = c .before .before .before in
     let s = k .before .before .before .before .before in
-    let e = k .copy-up .ensures ∙ Nat.mod-eq-of-lt (s .pre .5) in
-    (omega arith, search needs, s .pre .4, rw e (Nat.mul-mod-left _ _))
+    (omega (arith, s .pre .0, s .pre .3), search needs, s .pre .4, rw (k .place .ensures) (Nat.mul-mod-left _ _))
 
 same-length : tie.Need-same-length
 same-length c = search needs
@@ -25,7 +24,7 @@ returns c =
     let l = c .before .before in
     let k = l .before .before .before .before in
     let s = k .before .before .before .before .before in
-    l .store-low .ensures ∙ ap (λ (x : ℕ). x + value 64 (s .args .r .now)) (k .copy-up .ensures ∙ Nat.mod-eq-of-lt (s .pre .5))
+    l .store-low .ensures ∙ ap (λ (x : ℕ). x + value 64 (s .args .r .now)) (k .place .ensures)
 
 pub put-sub-word-spec : {M : Type 1} → statement M
-put-sub-word-spec = tie.close (tie.spec copy-up-requires store-low-requires same-length returns)
+put-sub-word-spec = tie.close (tie.spec place-requires store-low-requires same-length returns)

@@ -14,8 +14,8 @@ use Rattle.layout.specs.Replaced.{put-is, middle-bytes, part-length}
 use Rattle.layout.specs.Sizes.{level-low, word-high}
 use Rattle.layout.specs.SubWords.{part-room, part-small}
 use Rattle.encode.specs.Encoding.{block-lt, block-part, check-fits, check-room, data-fits, word-made}
-use Rattle.encode.proofs.write_word.Statement.{statement}
-use Rattle.encode.proofs.write_word.Tie as tie
+use Rattle.encode.proofs.write_early.Statement.{statement}
+use Rattle.encode.proofs.write_early.Tie as tie
 
 -- block i is the part of the blocks that is taken
 taken : (c : tie.After-block-size) → (let o = c .before in let a = o .before .before .before .before .before .before .args in
@@ -71,7 +71,7 @@ ruled-into-requires c κs =
     let b = c .before .before in
     let z = b .before .before in
     let s = z .before .before .before .before .before .before .before in
-    (s .pre .0 .ready .accepts, s .pre .0 .exact, s .pre .1, b .check-bits .ensures, s .pre .0 .room, block-small z)
+    (s .pre .0 .ready .accepts, s .pre .0 .exact, s .pre .3, b .check-bits .ensures, s .pre .0 .room, block-small z)
 
 level-of-requires : tie.Need-level-of-requires
 level-of-requires c κs = search needs
@@ -156,8 +156,8 @@ returns c =
     (u .ruled-into .ensures) (o .check-of .ensures) (q .put-sub-word .ensures) in
     put-is (a .page .now) (q .put-sub-word .last .0) _ start (k .sub-word-bytes .result) _ (ap (λ (j : ℕ). (a .i) * j) (k .sub-word-bytes .ensures)) y (length-digits 8 (subWordBytes (a .p)) _ ∙ sym (k .sub-word-bytes .ensures))
 
-pub write-word-spec : {M : Type 1} → statement M
-write-word-spec =
+pub write-early-spec : {M : Type 1} → statement M
+write-early-spec =
     tie.close
     (tie.spec
     block-offset-requires

@@ -1,0 +1,61 @@
+use borrow.Author.Needs.{needs}
+use mathlib.Core.Path.{refl, ap, ap₂, _∙_}
+use native.Mathlib.Nat as Nat
+use native.Mathlib.Omega.{arith}
+use Prim.Native.Nat.{_+_, zero-le}
+use Rattle.code.specs.Accepted.{accepted, degree-high}
+use Rattle.code.specs.Code.{remainder}
+use Rattle.encode.specs.Encoding.{late-lt}
+use Rattle.encode.proofs.put_late.Statement.{statement}
+use Rattle.encode.proofs.put_late.Tie as tie
+
+place-requires : tie.Need-place-requires
+place-requires c κs =
+    let s = c .before .before .before .before in
+    (omega (arith, s .pre .1, degree-high (s .args .p) (accepted (s .args .p) (s .pre .0)) 0 zero-le), s .pre .4, s .pre .5)
+
+slice-aggregate-check-of : tie.Need-slice-aggregate-check-of
+slice-aggregate-check-of c = search needs
+
+check-of-requires : tie.Need-check-of-requires
+check-of-requires c κs =
+    let k = c .before .before .before .before in
+    let s = k .before .before .before .before .before in
+    (s .pre .0, zero-le, s .pre .1, s .pre .2, refl, omega (arith, k .place .kept .0, s .pre .4), s .pre .6, s .pre .7)
+
+slice-aggregate-store-low : tie.Need-slice-aggregate-store-low
+slice-aggregate-store-low c = search needs
+
+store-low-requires : tie.Need-store-low-requires
+store-low-requires c κs =
+    let x = c .before .before .before in
+    let k = x .before .before .before .before .before in
+    let s = k .before .before .before .before .before in (
+      omega (arith, s .pre .1, degree-high (s .args .p) (accepted (s .args .p) (s .pre .0)) 0 zero-le, x .check-of .kept .0),
+      omega (arith, k .place .kept .0, s .pre .3),
+      rw (x .check-of .ensures, s .pre .1) (late-lt (s .args .p) (s .pre .0) _),
+      rw (k .place .ensures) (Nat.mul-mod-left _ _),
+    )
+
+same-length : tie.Need-same-length
+same-length c = search needs
+
+returns : tie.Need-returns
+returns c =
+    let l = c .before .before in
+    let x = l .before .before .before .before in
+    let k = x .before .before .before .before .before in
+    let s = k .before .before .before .before .before in
+    l .store-low .ensures ∙ ap₂ _+_ (k .place .ensures) (x .check-of .ensures ∙ ap (remainder (s .args .p) 0) (k .place .ensures))
+
+pub put-late-spec : {M : Type 1} → statement M
+put-late-spec =
+    tie.close
+    (tie.spec
+    place-requires
+    slice-aggregate-check-of
+    check-of-requires
+    slice-aggregate-store-low
+    store-low-requires
+    same-length
+    returns)
