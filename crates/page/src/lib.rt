@@ -189,9 +189,9 @@ fn many_accepted(
 {
     let rows = levels::rows(p);
     let w = levels::degrees(p, rows);
-    let n = refusal::many_refusal(p, &w, width, count, blocks.len(), pages.len(), list.len());
-    if n != 0 {
-        return Outcome::Refused(n);
+    let k = refusal::many_refusal(p, &w, width, count, blocks.len(), pages.len(), list.len());
+    if k != 0 {
+        return Outcome::Refused(k);
     }
     list_pages(p, &w, width, blocks, list);
     pages::encode_many(p, rows, &w, blocks, pages, list, width as usize);
