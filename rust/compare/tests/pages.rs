@@ -326,9 +326,9 @@ fn shortened_sheets_of_q_8() {
         run.sheet(&p, &[1, 8, 63, 64], 4);
         run.blank(&p, &[1, 8, 63, 64]);
     }
-    // Every s.
+    // Every s; or one in an odd number of them, so that every number of spare bits has its turn.
     let p = Parameters::full(8, 3, 2, [2, 3, 5, 0]);
-    for (k, p) in all_shortened(&p).skip(1).step_by(one_in()).enumerate() {
+    for (k, p) in all_shortened(&p).skip(1).step_by(one_in() | 1).enumerate() {
         run.sheet(&p, &Run::widths_of(k, 2), 2);
     }
     run.drawn(|random| random.shortened_parameters(8), count(3000), 4, 150);
@@ -353,10 +353,10 @@ fn shortened_sheets_of_q_12() {
         run.sheet(&p, &[1, 7, 8, 32, 63, 64], 4);
         run.blank(&p, &[1, 7, 8, 32, 63, 64]);
     }
-    // Every s near the greatest, and one in many below.
+    // Every s near the greatest, and one in many below; or one in an odd number of these.
     let p = Parameters::full(12, 2, 1, [1, 2, 0, 0]);
     let some = all_shortened(&p).skip(1).filter(|p| p.s % 97 == 0 || p.s + 80 > p.most());
-    for (k, p) in some.step_by(one_in()).enumerate() {
+    for (k, p) in some.step_by(one_in() | 1).enumerate() {
         run.sheet(&p, &Run::widths_of(k, 1), 1);
     }
     run.drawn(|random| random.shortened_parameters(12), count(1000), 2, 200);
