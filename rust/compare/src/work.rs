@@ -110,7 +110,7 @@ pub fn stated() -> (String, f64) {
 pub fn many_stated() -> (String, f64) {
     let ratio = many_to_single();
     let line = format!(
-        "Write of {PAGES} pages in one call on {}, in times of {PAGES} single calls, by turns, least times: {ratio:.2} at width \
+        "Write of {PAGES} pages in one call on {}, in times of {PAGES} single calls, by turns, least times: {ratio:.3} at width \
          {MANY_WIDTH}; at most {MANY_LIMIT}",
         title()
     );
