@@ -235,15 +235,12 @@ static int is_ones(const struct gii_sheet *s, struct sizes is, struct buffer b)
     return memcmp(b.bytes, expected, is.data) == 0;
 }
 
-/* A count of pages: mostly one that is accepted. */
-static uint32_t any_count(void)
+/* A count of pages, and for how many of them there is room: mostly as many, and accepted. */
+static uint32_t any_count(uint32_t *room)
 {
-    switch (below(12)) {
-    case 0: return below(20);
-    case 1: return GII_COUNT_MAX;
-    case 2: return once_in(2) ? (uint32_t)any() : 1u << below(32);
-    default: return 1 + below(once_in(4) ? GII_COUNT_MAX : 4);
-    }
+    uint32_t kind = below(12);
+    *room = kind == 0 ? below(20) : kind == 1 ? GII_COUNT_MAX : kind == 2 ? below(GII_COUNT_MAX + 1) : 1 + below(once_in(4) ? GII_COUNT_MAX : 4);
+    return kind != 2 ? *room : once_in(2) ? (uint32_t)any() : *room + (1u << below(32));
 }
 
 /* Blocks for many pages: each set of ones, of any bytes, or of any data; some with a bit flipped. */
@@ -283,8 +280,8 @@ static int as_alone(const struct gii_sheet *s, struct sizes is, uint32_t width, 
 /* A call of gii_write_many, on sizes that are in range or 0: its answer, and whether all is as it is to be. */
 static uint32_t write_many(const struct gii_sheet *s, struct sizes is, unsigned long *listed, int *good)
 {
-    uint32_t count = any_count(), width = once_in(9) ? (uint32_t)any() : 1 + below(64), fitting = count <= 20 ? count : below(20), r, first;
-    struct buffer blocks = lend(fitting * (is.data ? is.data : below(100))), pages = lend(fitting * (is.page ? is.page : below(100))), list = lend(fitting);
+    uint32_t room, count = any_count(&room), width = once_in(9) ? (uint32_t)any() : 1 + below(64), r, first;
+    struct buffer blocks = lend(room * (is.data ? is.data : below(100))), pages = lend(room * (is.page ? is.page : below(100))), list = lend(room);
     if (is.data)
         fill_many(s, is, blocks);
     note(blocks);

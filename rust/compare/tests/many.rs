@@ -186,7 +186,7 @@ fn with_shortened(p: &Parameters) -> [Parameters; 3] {
 
 /// Every sheet with every s; a refused page at every place of 16, and of every other count on two of the sheets.
 #[test]
-fn every_sheet_of_q_4() {
+fn many_on_every_sheet_of_q_4() {
     let mut run = Run::new(20);
     for p in [A, B].iter().flat_map(with_shortened) {
         (1..MOST).for_each(|count| run.places(&p, count));
@@ -203,7 +203,7 @@ fn every_sheet_of_q_4() {
 }
 
 #[test]
-fn sheets_of_q_8() {
+fn many_on_sheets_of_q_8() {
     let mut run = Run::new(21);
     for p in SHEETS_OF_Q_8.iter().flat_map(with_shortened) {
         run.sheets += 1;
@@ -225,7 +225,7 @@ fn sheets_of_q_8() {
 }
 
 #[test]
-fn sheets_of_q_12() {
+fn many_on_sheets_of_q_12() {
     let mut run = Run::new(22);
     for (k, p) in SHEETS_OF_Q_12.iter().flat_map(with_shortened).step_by(one_in()).enumerate() {
         run.sheets += 1;
@@ -246,7 +246,7 @@ fn sheets_of_q_12() {
 
 /// At each of the 64 widths the same pages and the same list.
 #[test]
-fn every_width() {
+fn many_at_every_width() {
     let mut random = Random::new(seed() + 23);
     for p in [A, SHEETS_OF_Q_8[1], SHEETS_OF_Q_12[0]].iter().flat_map(with_shortened) {
         let count = random.from_to(2, MOST);
@@ -272,7 +272,7 @@ fn sheets_for_refusals(random: &mut Random) -> Vec<Parameters> {
 /// No page, 17 pages and more are refused by 9, with buffers that fit them; and so are counts that are others modulo a power
 /// of 2, with the buffers of those, or whose products with the lengths wrap in 32 bits to the lengths of the buffers.
 #[test]
-fn counts_that_are_not_accepted() {
+fn counts_of_many_that_are_not_accepted() {
     let mut run = Run::new(24);
     let mut wrapped = BTreeSet::new();
     for p in sheets_for_refusals(&mut Random::new(seed() + 24)) {
@@ -311,7 +311,7 @@ fn counts_that_are_not_accepted() {
 /// Lengths that are not exact: one off, none, those of a page less or more or of one page, exact ones modulo 2^8 and 2^16 and
 /// so much more. Each of the three alone, and with the others.
 #[test]
-fn lengths_that_are_not_exact() {
+fn lengths_of_many_that_are_not_exact() {
     let mut run = Run::new(25);
     let mut met = BTreeSet::new();
     for p in sheets_for_refusals(&mut Random::new(seed() + 25)) {

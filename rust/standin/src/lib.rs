@@ -323,10 +323,14 @@ fn many_refusal(p: &Parameters, width: u32, count: u32, lengths: [usize; 3]) -> 
         // A longer buffer, never a shorter one.
         length >= product && (length - product) << (64 - bits) == 0
     };
-    let wraps = |k: usize| lengths[k] as u32 == count.wrapping_mul(ones[k] as u32);
+    // Whether the length is a product that wraps in 32 bits.
+    let wraps = |k: usize| {
+        let (product, wrapped) = count.overflowing_mul(ones[k] as u32);
+        wrapped && lengths[k] as u32 == product
+    };
     let met = |condition: &u32| match condition {
         5 => !(1..=64).contains(&width),
-        9 if fault("many-count-wraps") && count > most => !wraps(0) || !wraps(1),
+        9 if fault("many-count-wraps") && wraps(0) && wraps(1) => false,
         9 => count > most || count == 0 && !fault("many-count-0"),
         6 => !exact(0),
         7 => !exact(1),
