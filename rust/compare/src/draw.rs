@@ -222,11 +222,8 @@ pub fn spoil(random: &mut Random, call: &mut Call, condition: u32) -> bool {
             }
         }
         9 if call.name == Name::WriteMany => {
-            let modulo = [8, 16, 31].map(|power| call.count + (1 << power));
-            call.count = any_of(
-                random,
-                &[&[0, 17, 18, 32, 255, 256, 1 << 16, 1 << 31, GREATEST - 15, GREATEST], &modulo[..]].concat(),
-            );
+            let turn = any_of(random, &[1 << 8, 1 << 16, 1 << 31]);
+            call.count = any_of(random, &[0, 17, 18, 32, 255, 256, 1 << 31, GREATEST, call.count + turn]);
         }
         9 => {
             let end = if call.name == Name::Syndromes { p.m } else { p.v };

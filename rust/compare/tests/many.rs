@@ -11,7 +11,7 @@ use reference::sample::{Random, all_parameters, all_shortened};
 use std::collections::{BTreeMap, BTreeSet};
 
 /// What is made of the blocks of a page.
-#[derive(Clone, Copy, PartialEq)]
+#[derive(Clone, Copy)]
 enum Kind {
     Fit,
     Stray,
@@ -39,6 +39,9 @@ const SHEETS_OF_Q_12: [Parameters; 3] = [
     Parameters::full(12, 3, 2, [62, 63, 64, 0]),
     Parameters::full(12, 8, 1, [1, 2, 0, 0]),
 ];
+
+/// A sheet without spare or unused bits.
+const WHOLE_BYTES: Parameters = Parameters::full(12, 4, 1, [4, 12, 0, 0]).shortened(3071);
 
 /// What a test went through.
 struct Run {
@@ -80,41 +83,36 @@ impl Run {
         assert!((&pages, &listed) == (lent, list), "{p:?}, {count} pages, lengths {lengths:?}: bytes are altered");
     }
 
-    /// The blocks of one page; none where they are to have a stray bit and have no unused one.
-    fn blocks(&mut self, sheet: &Sheet, kind: Kind) -> Option<Vec<u8>> {
-        let mut blocks = match kind {
-            Kind::Ones | Kind::StrayOnes => sheet.ones(),
-            _ => writable(&mut self.random, sheet),
+    /// The blocks of one page, and the number that is to be listed. Where there is no unused bit, none is stray.
+    fn blocks(&mut self, sheet: &Sheet, kind: Kind) -> (Vec<u8>, u8) {
+        let ones = matches!(kind, Kind::Ones | Kind::StrayOnes);
+        let mut blocks = if ones { sheet.ones() } else { writable(&mut self.random, sheet) };
+        let stray = matches!(kind, Kind::Stray | Kind::StrayOnes) && make_stray(&mut self.random, sheet, &mut blocks);
+        let number = match () {
+            _ if stray => 8,
+            _ if ones && sheet.s == 0 => 13,
+            _ => 0,
         };
-        let stray = matches!(kind, Kind::Stray | Kind::StrayOnes);
-        (!stray || make_stray(&mut self.random, sheet, &mut blocks)).then_some(blocks)
+        (blocks, number)
     }
 
-    /// A call on pages of these kinds, at a drawn width: listed is what each is made, and every page is that of a single call,
-    /// or as it was. So it is at another width. False where no such blocks are to be had.
-    fn write(&mut self, p: &Parameters, kinds: &[Kind]) -> bool {
+    /// A call on pages of these kinds, at a drawn width: each is listed by its number, and is that of a single call, or as it
+    /// was. So it is at another width.
+    fn write(&mut self, p: &Parameters, kinds: &[Kind]) {
         let archive = sheet(p);
         let made = Sheet::of(p);
-        let Some(blocks) = kinds.iter().map(|&kind| self.blocks(&made, kind)).collect::<Option<Vec<_>>>() else {
-            return false;
-        };
+        let (blocks, expected): (Vec<_>, Vec<_>) = kinds.iter().map(|&kind| self.blocks(&made, kind)).unzip();
         let call = many(&mut self.random, p, &blocks);
         let (number, pages, list) = self.both(&call);
-        assert_eq!(number, 0, "{p:?}, {} pages", kinds.len());
+        assert_eq!((number, &list), (0, &expected), "{p:?}");
         self.pages += kinds.len();
-        for (k, &kind) in kinds.iter().enumerate() {
-            let expected = match kind {
-                Kind::Stray | Kind::StrayOnes => 8,
-                Kind::Ones if p.s == 0 => 13,
-                _ => 0,
-            };
-            assert_eq!(list[k], expected, "{p:?}, page {k} of {}", kinds.len());
+        for k in 0..kinds.len() {
             let page = |pages: &[u8]| pages[k * made.page_bytes()..][..made.page_bytes()].to_vec();
             let mut single = page(&call.lent);
             let answer = archive.write(call.number, &blocks[k], &mut single).map_or_else(Refusal::number, |()| 0);
             assert_eq!(answer, u32::from(list[k]), "{p:?}, page {k} of {}", kinds.len());
             assert_eq!(page(&pages), single, "{p:?}, page {k} of {}", kinds.len());
-            assert!(expected == 0 || single == page(&call.lent), "{p:?}: a refused page is altered");
+            assert!(list[k] == 0 || single == page(&call.lent), "{p:?}: a refused page is altered");
             self.listed[usize::from(p.s > 0)].insert((kinds.len(), k, list[k]));
         }
         if !list.contains(&0) {
@@ -124,7 +122,6 @@ impl Run {
         let (mut lent, mut listed) = (other.lent.clone(), other.list.clone());
         assert_eq!(other.by_archive(&other.read, &mut lent, &mut listed), 0, "{p:?}");
         assert!((lent, listed) == (pages, list), "{p:?}: another width gives other bytes");
-        true
     }
 
     /// A single page of each kind at every place among others that fit.
@@ -232,9 +229,10 @@ fn many_on_sheets_of_q_12() {
         run.mixed(&p, MOST);
         run.drawn(&p, 1 + k);
     }
-    // The sheet of the requirement, and that of the header's example with a page of 512 bytes.
     run.places(&SHEETS_OF_Q_12[0], MOST);
-    run.places(&Parameters::full(12, 4, 1, [4, 12, 0, 0]).shortened(3071), MOST);
+    run.places(&SHEETS_OF_Q_12[0].shortened(1900), MOST);
+    run.mixed(&WHOLE_BYTES, MOST);
+    run.sheets += 2;
     for k in 0..count(60) {
         let full = run.random.parameters(12);
         let p = if k % 2 == 0 { full } else { run.random.shortened(&full) };
@@ -248,9 +246,9 @@ fn many_on_sheets_of_q_12() {
 #[test]
 fn many_at_every_width() {
     let mut random = Random::new(seed() + 23);
+    let mut met = BTreeSet::new();
     for p in [A, SHEETS_OF_Q_8[1], SHEETS_OF_Q_12[0]].iter().flat_map(with_shortened) {
-        let count = random.from_to(2, MOST);
-        let call = many_drawn(&mut random, &p, count);
+        let call = many_drawn(&mut random, &p, MOST);
         let (number, pages, list) = call.compare(0).unwrap_or_else(|found| panic!("seed {}: {found}", seed()));
         assert_eq!(number, 0, "{p:?}");
         for width in (1..=64).step_by(one_in()) {
@@ -259,14 +257,20 @@ fn many_at_every_width() {
             assert_eq!(number, 0, "{p:?}, width {width}");
             assert!((&lent, &listed) == (&pages, &list), "{p:?}, width {width}: other bytes");
         }
+        met.extend(list.into_iter().map(|number| (p.q, p.s > 0, number)));
+    }
+    for q in [4, 8, 12] {
+        for (shortened, number) in [(false, 0), (false, 8), (false, 13), (true, 0), (true, 8)] {
+            assert!(met.contains(&(q, shortened, number)), "q = {q}, shortened: {shortened}, {number} is never listed");
+        }
     }
 }
 
 /// Sheets of all fields for refusals of the call, full and shortened.
 fn sheets_for_refusals(random: &mut Random) -> Vec<Parameters> {
     let drawn = [4, 8, 12].map(|q| random.parameters(q));
-    let short = Parameters::full(12, 4, 1, [4, 12, 0, 0]).shortened(3071);
-    [A, SHEETS_OF_Q_8[0], SHEETS_OF_Q_8[3]].iter().chain(&drawn).flat_map(with_shortened).chain([short]).collect()
+    let sheets = [A, SHEETS_OF_Q_8[0], SHEETS_OF_Q_8[3]];
+    sheets.iter().chain(&drawn).flat_map(with_shortened).chain([WHOLE_BYTES]).collect()
 }
 
 /// No page, 17 pages and more are refused by 9, with buffers that fit them; and so are counts that are others modulo a power
