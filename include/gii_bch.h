@@ -66,9 +66,9 @@
  *
  * Results are of enum gii_answer. Conditions are tested in the order 1, 2, 3, 4, 14, 5, 6, 7, 8, 9, 10, 13: of the refusals
  * whose conditions a call meets the first of these is given, and a refusal leaves every byte of every buffer as it was.
- * In gii_write_many 9 is for the count of pages and comes before 6, and 8 and 13 are listed for each page: none of them
- * refuses the call. gii_judge and gii_read_out know a blank page after 7 and before 8, which is for stray bits; no other
- * function answers GII_BLANK. gii_page_bytes, gii_data_bytes and gii_distance give a size, or 0 where the sheet is refused.
+ * In gii_write_many 9 is for the count of pages and comes before 6; 8 and 13 are listed, page by page, and refuse no call.
+ * gii_judge and gii_read_out know a blank page after 7 and before 8, which is for stray bits; no other function answers
+ * GII_BLANK. gii_page_bytes, gii_data_bytes and gii_distance give a size, or 0 where the sheet is refused.
  */
 #ifndef GII_BCH_H
 #define GII_BCH_H
