@@ -146,8 +146,8 @@ uint32_t gii_write(uint32_t q, uint32_t m, uint32_t v, uint32_t t0, uint32_t t1,
                    uint32_t s, uint32_t width, const uint8_t *blocks, size_t blocks_len, uint8_t *page, size_t page_len);
 
 /*
- * Write many: the pages of `count` sets of blocks, 1 to GII_COUNT_MAX of them, into `pages`. It is the work of `count` calls
- * of gii_write, in less time.
+ * Write many: the pages of `count` sets of blocks, 1 to GII_COUNT_MAX of them, into `pages`. It does what `count` calls of
+ * gii_write do, but works out once what each of them would work out of the sheet.
  *
  * The sets of blocks stand one behind another, each on gii_data_bytes bytes, and so do the pages, each on gii_page_bytes
  * bytes. `list` has one byte for each page, in their order, which is what gii_write would answer of that page alone:

@@ -425,10 +425,11 @@ impl Sheet {
         done(call!(gii_write, self, width, blocks.as_ptr(), blocks.len(), page.as_mut_ptr(), page.len()))
     }
 
-    /// The pages of `count` sets of blocks, 1 to [`COUNT_MAX`] of them: what as many calls of [`Sheet::write`] do, in less
-    /// time. The sets of blocks stand one behind another, and so do the pages. `list` has one byte for each page, the number
-    /// that [`Sheet::write`] of it alone gives: 0, or 8 ([`Refusal::Stray`]: an unused bit of its blocks), or 13
-    /// ([`Refusal::Blank`]: it would be blank). A page that is listed as 8 or 13 keeps its bytes, and the others are written.
+    /// The pages of `count` sets of blocks, 1 to [`COUNT_MAX`] of them: what as many calls of [`Sheet::write`] do, but what
+    /// each of them would work out of the sheet is worked out once. The sets of blocks stand one behind another, and so do the
+    /// pages. `list` has one byte for each page, the number that [`Sheet::write`] of it alone gives: 0, or 8
+    /// ([`Refusal::Stray`]: an unused bit of its blocks), or 13 ([`Refusal::Blank`]: it would be blank). A page that is listed
+    /// as 8 or 13 keeps its bytes, and the others are written.
     ///
     /// The call is done whatever is listed. It refuses the parameters, the width, the count (by [`Refusal::Index`]), and then
     /// the lengths: those of the blocks and of the pages are `count` times a single one, that of the list is `count`.
