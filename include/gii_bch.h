@@ -9,7 +9,7 @@
  *   machine   x86-64 with SSE2, which every x86-64 has, and the System V calling convention, its red zone included; the
  *             code is position-independent
  *   symbols   memcpy and memset, from the C library or the firmware; nothing else is left undefined
- *   stack     at most 32 KiB a call
+ *   stack     at most 192 KiB for gii_write_many, and at most 32 KiB for every other function
  *   threads   calls may run at once in several threads, each on buffers of its own
  *
  * Parameters (every function): the sheet, struct gii_sheet
@@ -38,7 +38,8 @@
  *             to 2 t_a and e from 0 to q - 1. At q = 4, t = 1, 2, 3, 4 it is 4, 8, 10, 14; at most it is q * t_a.
  *             gii_data_bytes gives the size of all blocks, gii_quote the data bits of each.
  *   list      16-bit numbers, two bytes each, low byte first, which gii_number reads: the syndromes S_1, S_2, .., 2 t
- *             numbers on GII_LIST_BYTES(t) bytes, or a quote, 12 numbers on GII_QUOTE_BYTES bytes.
+ *             numbers on GII_LIST_BYTES(t) bytes, or a quote, 12 numbers on GII_QUOTE_BYTES bytes. The list of
+ *             gii_write_many alone has one byte a page.
  *
  *   Examples, where none is named s is 0
  *
@@ -60,10 +61,12 @@
  *   - no pointer is NULL. With length 0 nothing is read or written through it, and any pointer to an object will do.
  *
  * The bytes behind a pointer to const are never altered. A lent buffer is altered only by a call that is not refused, and
- * then wholly: what it held before is of no account.
+ * then wholly: what it held before is of no account. Only gii_write_many leaves some of the pages lent to it: those that
+ * it lists as refused.
  *
  * Results are of enum gii_answer. Conditions are tested in the order 1, 2, 3, 4, 14, 5, 6, 7, 8, 9, 10, 13: of the refusals
  * whose conditions a call meets the first of these is given, and a refusal leaves every byte of every buffer as it was.
+ * In gii_write_many 9 is for the count of pages and comes before 6; 8 and 13 are listed, page by page, and refuse no call.
  * gii_judge and gii_read_out know a blank page after 7 and before 8, which is for stray bits; no other function answers
  * GII_BLANK. gii_page_bytes, gii_data_bytes and gii_distance give a size, or 0 where the sheet is refused.
  */
@@ -75,9 +78,9 @@
 
 /* The version. A function or a number that goes or is given a new meaning moves the first number on. */
 #define GII_BCH_VERSION_MAJOR 4
-#define GII_BCH_VERSION_MINOR 0
+#define GII_BCH_VERSION_MINOR 1
 #define GII_BCH_VERSION_PATCH 0
-#define GII_BCH_VERSION "4.0.0"
+#define GII_BCH_VERSION "4.1.0"
 
 /* Bytes of a list of 2t syndromes: t is t0 for a sub-word, t_(v-l) for nested word l. */
 #define GII_LIST_BYTES(t) ((size_t)4 * (size_t)(t))
@@ -92,6 +95,9 @@
 #define GII_BLOCKS_MAX 4086
 #define GII_LIST_MAX 256
 
+/* The most pages that gii_write_many writes in one call. */
+#define GII_COUNT_MAX 16
+
 /* The numbers that are returned. */
 enum gii_answer {
     GII_DONE = 0,   /* done */
@@ -104,9 +110,9 @@ enum gii_answer {
     GII_CLASH = 4,         /* some d * j is a multiple of n */
     GII_WIDTH = 5,         /* the width is not 1 to 64 */
     GII_BLOCKS = 6,        /* the blocks' length is not exact */
-    GII_PAGE = 7,          /* the page's length is not exact */
+    GII_PAGE = 7,          /* the page's length, or that of many pages, is not exact */
     GII_STRAY = 8,         /* a spare bit of a page, or an unused bit of the blocks, that is read is 1 */
-    GII_INDEX = 9,         /* there is no such sub-word or nested word */
+    GII_INDEX = 9,         /* there is no such sub-word or nested word; or a count of pages is not 1 to 16 */
     GII_LIST = 10,         /* the list's length is not exact */
     GII_FULL = 11,         /* a register would take more than n - s coefficients */
     GII_REGISTER = 12,     /* a register's level or remainder is out of range */
@@ -138,6 +144,23 @@ extern "C" {
  */
 uint32_t gii_write(uint32_t q, uint32_t m, uint32_t v, uint32_t t0, uint32_t t1, uint32_t t2, uint32_t t3,
                    uint32_t s, uint32_t width, const uint8_t *blocks, size_t blocks_len, uint8_t *page, size_t page_len);
+
+/*
+ * Write many: the pages of `count` sets of blocks, 1 to GII_COUNT_MAX of them, into `pages`. It does what `count` calls of
+ * gii_write do, but works out once what each of them would work out of the sheet.
+ *
+ * The sets of blocks stand one behind another, each on gii_data_bytes bytes, and so do the pages, each on gii_page_bytes
+ * bytes. `list` has one byte for each page, in their order, which is what gii_write would answer of that page alone:
+ * GII_DONE, GII_STRAY (an unused bit of its blocks is 1) or GII_BLANK_BLOCKS (s is 0 and every data bit of its blocks is 1).
+ * A page that is listed as done is the one that gii_write makes; one that is listed as refused keeps every byte.
+ *
+ * Returns GII_DONE, whatever is listed, even where no page is written; or refuses the call, and leaves every byte of the
+ * pages and of the list: 1 to 4, 14, 5, 9 (count is not 1 to GII_COUNT_MAX), 6 (blocks_len is not count * gii_data_bytes),
+ * 7 (pages_len is not count * gii_page_bytes), 10 (list_len is not count).
+ */
+uint32_t gii_write_many(uint32_t q, uint32_t m, uint32_t v, uint32_t t0, uint32_t t1, uint32_t t2, uint32_t t3,
+                        uint32_t s, uint32_t width, uint32_t count, const uint8_t *blocks, size_t blocks_len,
+                        uint8_t *pages, size_t pages_len, uint8_t *list, size_t list_len);
 
 /*
  * Read out: the data bits of the page, member or not, blank or not, into `blocks`. Nothing is corrected. Of a blank page
@@ -223,6 +246,14 @@ static inline uint32_t gii_sheet_write(const struct gii_sheet *sheet, uint32_t w
                      width, blocks, blocks_len, page, page_len);
 }
 
+static inline uint32_t gii_sheet_write_many(const struct gii_sheet *sheet, uint32_t width, uint32_t count,
+                                            const uint8_t *blocks, size_t blocks_len, uint8_t *pages, size_t pages_len,
+                                            uint8_t *list, size_t list_len)
+{
+    return gii_write_many(sheet->q, sheet->m, sheet->v, sheet->t[0], sheet->t[1], sheet->t[2], sheet->t[3], sheet->s,
+                          width, count, blocks, blocks_len, pages, pages_len, list, list_len);
+}
+
 static inline uint32_t gii_sheet_read_out(const struct gii_sheet *sheet, const uint8_t *page, size_t page_len,
                                           uint8_t *blocks, size_t blocks_len)
 {
@@ -290,7 +321,7 @@ static inline const char *gii_answer_text(uint32_t number)
     case GII_BLOCKS: return "blocks: the length is not exact";
     case GII_PAGE: return "page: the length is not exact";
     case GII_STRAY: return "stray: a spare or unused bit is 1";
-    case GII_INDEX: return "index: no such sub-word or nested word";
+    case GII_INDEX: return "index: no such sub-word or nested word, or not 1 to 16 pages";
     case GII_LIST: return "list: the length is not exact";
     case GII_FULL: return "full: a register would take more than n - s coefficients";
     case GII_REGISTER: return "register: level or remainder out of range";

@@ -32,7 +32,18 @@ for fault in data-high zero-page level-0-only write-touches-nothing width-37 one
     data-high@s width-37@s last-byte-left@s nested-power@s judge-names-last-nested@s read-out-of-members-only@s \
     unused-bits-left@s last-syndrome-left@s half-written-refusal@s page-before-blocks@s blank-after-stray@s \
     blank-before-page@s blank-before-blocks@s blank-by-one-sub-word@s blank-mixed-missed@s blank-spare-bits-left@s \
-    syndromes-of-erased@s; do
+    syndromes-of-erased@s \
+    many-count-0 many-count-17 many-count-15 many-count-modulo-2-8 many-count-modulo-2-16 many-count-wraps \
+    many-lengths-modulo-2-8 many-lengths-modulo-2-16 many-shortening-after-width many-count-before-width \
+    many-count-after-blocks many-count-after-pages many-count-after-list many-pages-before-blocks \
+    many-list-before-count many-list-before-blocks many-list-before-pages many-list-any-length \
+    many-list-cleared many-half-written many-blocks-before many-stray-of-first-page many-13-before-8 \
+    many-ones-refused-shortened many-stray-carried many-refused-carried many-refused-cleared many-stray-written \
+    many-blank-written many-level-0-only many-width-37 many-page-16 many-one-strength many-last-left \
+    many-stray-stops many-blank-stops many-list-reversed many-done-not-listed many-refused-not-listed \
+    many-listed-by-1 many-13-as-8 many-overrun many-list-overrun many-clears-stray many-answers-8 many-all-refused \
+    many-blocks-before@s many-stray-carried@s many-refused-carried@s many-refused-cleared@s many-stray-written@s \
+    many-last-left@s many-list-any-length@s many-count-17@s; do
     tried=$((tried + 1))
     if run "$fault"; then
         found="NOT FOUND"
@@ -42,7 +53,7 @@ for fault in data-high zero-page level-0-only write-touches-nothing width-37 one
     fi
     # A number that a call never gives makes the crate gii-bch panic.
     GII_FAULT=$fault target/release/fuzz 20000 > target/faults.out 2>&1 && calls="none" || calls=$(sed -n 's/.*, call \([0-9]*\):.*/\1/p' target/faults.out)
-    printf '%-26s %s(any calls: part at %s)\n' "$fault" "$found" "${calls:-a panic}"
+    printf '%-27s %s(any calls: part at %s)\n' "$fault" "$found" "${calls:-a panic}"
 done
 echo "$tried faults, $missed not found"
 [ $missed = 0 ]

@@ -2,8 +2,9 @@
  * Any calls from C: any numbers, any lengths, any bytes, on buffers of their own from malloc. Each answer is one that the
  * call may give and has a text, what is only read stays, a refusal leaves every byte, a quote fits the sizes, which are in
  * range or 0, lengths by the sizes are never refused, stray bits are, s is where the quote of full sub-words says so, blank
- * pages are known, read out as ones and never written. Usage: fuzz CALLS SEED. It is built with the sanitizers, and without
- * them for valgrind, which sees every access of the archive.
+ * pages are known, read out as ones and never written. Many pages in one call are listed and written as each is alone.
+ * Usage: fuzz CALLS SEED. It is built with the sanitizers, and without them for valgrind, which sees every access of the
+ * archive.
  */
 #include "gii_bch.h"
 
@@ -234,6 +235,78 @@ static int is_ones(const struct gii_sheet *s, struct sizes is, struct buffer b)
     return memcmp(b.bytes, expected, is.data) == 0;
 }
 
+/* A count of pages, and for how many of them there is room: mostly as many, and accepted. */
+static uint32_t any_count(uint32_t *room)
+{
+    uint32_t kind = below(12);
+    *room = kind == 0 ? below(20) : kind == 1 ? GII_COUNT_MAX : kind == 2 ? below(GII_COUNT_MAX + 1) : 1 + below(once_in(4) ? GII_COUNT_MAX : 4);
+    return kind != 2 ? *room : once_in(2) ? (uint32_t)any() : *room + (1u << below(32));
+}
+
+/* Blocks for many pages: each set of ones, of any bytes, or of any data; some with a bit flipped. */
+static void fill_many(const struct gii_sheet *s, struct sizes is, struct buffer blocks)
+{
+    uint8_t used[GII_BLOCKS_MAX];
+    ones(s, is, used);
+    for (size_t k = 0; k + is.data <= blocks.length; k += is.data) {
+        uint32_t kind = below(5);
+        for (size_t i = 0; i < is.data; i++)
+            blocks.bytes[k + i] = kind == 0 ? used[i] : kind == 1 ? (uint8_t)any() : blocks.bytes[k + i] & used[i];
+        if (once_in(8))
+            blocks.bytes[k + below(is.data)] ^= (uint8_t)(1u << below(8));
+    }
+}
+
+/* Whether a call that was done has listed, and written or left, every page as gii_write does; counts what is listed. */
+static int as_alone(const struct gii_sheet *s, struct sizes is, uint32_t width, uint32_t count, struct buffer blocks, struct buffer pages, struct buffer list,
+                    unsigned long *listed)
+{
+    for (uint32_t k = 0; k < count; k++) {
+        uint8_t *page = malloc(is.page);
+        if (!page)
+            exit(2);
+        memcpy(page, pages.before + k * is.page, is.page);
+        uint32_t r = gii_sheet_write(s, width, blocks.bytes + k * is.data, is.data, page, is.page);
+        int good = list.bytes[k] == r && memcmp(page, pages.bytes + k * is.page, is.page) == 0;
+        good = good && (r == GII_DONE || ((r == GII_STRAY || r == GII_BLANK_BLOCKS) && memcmp(page, pages.before + k * is.page, is.page) == 0));
+        free(page);
+        if (!good)
+            return 0;
+        listed[r]++;
+    }
+    return 1;
+}
+
+/* A call of gii_write_many, on sizes that are in range or 0: its answer, and whether all is as it is to be. */
+static uint32_t write_many(const struct gii_sheet *s, struct sizes is, unsigned long *listed, int *good)
+{
+    uint32_t room, count = any_count(&room), width = once_in(9) ? (uint32_t)any() : 1 + below(64), r, first;
+    struct buffer blocks = lend(room * (is.data ? is.data : below(100))), pages = lend(room * (is.page ? is.page : below(100))), list = lend(room);
+    if (is.data)
+        fill_many(s, is, blocks);
+    note(blocks);
+    note(pages);
+    note(list);
+    r = gii_sheet_write_many(s, width, count, blocks.bytes, blocks.length, pages.bytes, pages.length, list.bytes, list.length);
+    /* What is to come first, where the sheet is accepted. */
+    if (width < 1 || width > 64)
+        first = GII_WIDTH;
+    else if (count < 1 || count > GII_COUNT_MAX)
+        first = GII_INDEX;
+    else if (blocks.length != (size_t)count * is.data)
+        first = GII_BLOCKS;
+    else if (pages.length != (size_t)count * is.page)
+        first = GII_PAGE;
+    else
+        first = list.length != count ? GII_LIST : GII_DONE;
+    *good = kept(blocks) && (is.page ? r == first : r >= GII_FIELD && (r <= GII_CLASH || r == GII_SHORTENING));
+    *good = *good && (r == GII_DONE ? as_alone(s, is, width, count, blocks, pages, list, listed) : kept(pages) && kept(list));
+    give_back(blocks);
+    give_back(pages);
+    give_back(list);
+    return r;
+}
+
 static int has_text(uint32_t r)
 {
     return strcmp(gii_answer_text(r), gii_answer_text(UINT32_MAX)) != 0;
@@ -243,14 +316,14 @@ int main(int argc, char **argv)
 {
     unsigned long calls = argc > 1 ? strtoul(argv[1], NULL, 10) : 10000;
     uint64_t seed = argc > 2 ? strtoull(argv[2], NULL, 10) : 1;
-    unsigned long answers[128] = {0};
+    unsigned long answers[128] = {0}, listed[GII_BLANK_BLOCKS + 1] = {0};
     state = seed * 0x9E3779B97F4A7C15u + 1;
     for (unsigned long k = 0; k < calls; k++) {
         struct gii_sheet s = any_sheet();
         struct sizes is = {gii_sheet_page_bytes(&s), gii_sheet_data_bytes(&s), gii_sheet_distance(&s)};
         size_t exact = is.page ? is.page : below(5000);
         uint32_t index = below(10), level = s.t[index <= s.v && s.v < 4 ? s.v - index : 0] % 100;
-        int call = (int)below(6), sized = in_range(&s, is), good;
+        int call = (int)below(7), sized = in_range(&s, is), good;
         size_t list = call == 5 ? GII_QUOTE_BYTES : GII_LIST_BYTES(call == 3 ? s.t[0] % 100 : level);
         struct buffer page = lend(exact), other = lend(call < 2 ? is.data : list);
         uint32_t r;
@@ -293,15 +366,19 @@ int main(int argc, char **argv)
             r = gii_sheet_nested_syndromes(&s, page.bytes, page.length, index, other.bytes, other.length);
             good = kept(page) && (r == 0 ? !spare : refused(r) && kept(other));
             break;
-        default:
+        case 5:
             r = gii_sheet_quote(&s, other.bytes, other.length);
             good = r == 0 ? sized && is.page && other.length == GII_QUOTE_BYTES && fits(&s, is, other.bytes)
                           : kept(other) && (is.page ? r == GII_LIST && other.length != GII_QUOTE_BYTES : r <= GII_CLASH || r == GII_SHORTENING);
             break;
+        default:
+            r = write_many(&s, is, listed, &good);
+            break;
         }
         /* 14 comes before all but 1 to 4, which the quote of full sub-words has too. */
         good = good && (r == GII_SHORTENING) == (most(&s) >= 0 && is.page == 0);
-        good = good && sized && has_text(r) && !(r == GII_PAGE && page.length == is.page) && !(r == GII_BLOCKS && other.length == is.data);
+        good = good && sized && has_text(r);
+        good = good && (call == 6 || (!(r == GII_PAGE && page.length == is.page) && !(r == GII_BLOCKS && other.length == is.data)));
         if (!good) {
             printf("call %lu of seed %llu: %d answers %u (%s) for q %u m %u v %u t %u %u %u %u s %u, sizes %u %u %u\n", k, (unsigned long long)seed, call, r,
                    gii_answer_text(r), s.q, s.m, s.v, s.t[0], s.t[1], s.t[2], s.t[3], s.s, is.page, is.data, is.distance);
@@ -317,6 +394,10 @@ int main(int argc, char **argv)
     for (int i = 0; i < 128; i++)
         if (answers[i])
             printf(" %d: %lu", i, answers[i]);
+    printf("; of many pages listed");
+    for (int i = 0; i <= GII_BLANK_BLOCKS; i++)
+        if (listed[i])
+            printf(" %d: %lu", i, listed[i]);
     printf("\n");
     return 0;
 }

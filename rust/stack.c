@@ -1,6 +1,6 @@
 /*
  * How much stack each call takes, on the largest sheet and on shortened ones: a thread on a painted stack. Prints the most of
- * all sheets. Fails above 32 KiB.
+ * all sheets. Fails above 192 KiB for write of many pages, and above 32 KiB for every other call.
  */
 #define _GNU_SOURCE
 #include "gii_bch.h"
@@ -13,6 +13,7 @@
 
 #define STACK ((size_t)1 << 20)
 #define LIMIT ((size_t)32 * 1024)
+#define MANY_LIMIT ((size_t)192 * 1024)
 #define PAINT 0xA5
 
 /* Full sub-words; half of them; a whole number of bytes; the least that is accepted. */
@@ -27,28 +28,31 @@ static const struct gii_sheet sheets[] = {
 static struct gii_sheet sheet;
 static uint8_t blocks[GII_BLOCKS_MAX], page[GII_PAGE_MAX], erased[GII_PAGE_MAX], back[GII_BLOCKS_MAX], list[GII_LIST_MAX];
 static uint8_t quote[GII_QUOTE_BYTES];
+static uint8_t many_blocks[GII_COUNT_MAX * GII_BLOCKS_MAX], pages[GII_COUNT_MAX * GII_PAGE_MAX], listed[GII_COUNT_MAX];
 static size_t blocks_len, page_len;
-/* Each call, the answer that is expected of it, and the most stack that it took. */
+/* Each call, the answer that is expected of it, the stack that it may take, and the most that it took. */
 static struct {
     const char *name;
     uint32_t expected;
-    size_t most;
+    size_t limit, most;
 } calls[] = {
-    {"nothing", 0, 0},
-    {"write, L = 64", GII_DONE, 0},
-    {"write, L = 1", GII_DONE, 0},
-    {"judge", GII_MEMBER, 0},
-    {"read out", GII_MEMBER, 0},
-    {"syndromes", GII_DONE, 0},
-    {"nested syndromes", GII_DONE, 0},
-    {"quote", GII_DONE, 0},
-    {"page bytes", 0, 0},
-    {"data bytes", 0, 0},
-    {"distance", 0, 0},
-    {"judge, a blank page", GII_BLANK, 0},
-    {"read out, a blank page", GII_BLANK, 0},
+    {"nothing", 0, LIMIT, 0},
+    {"write, L = 64", GII_DONE, LIMIT, 0},
+    {"write, L = 1", GII_DONE, LIMIT, 0},
+    {"judge", GII_MEMBER, LIMIT, 0},
+    {"read out", GII_MEMBER, LIMIT, 0},
+    {"syndromes", GII_DONE, LIMIT, 0},
+    {"nested syndromes", GII_DONE, LIMIT, 0},
+    {"quote", GII_DONE, LIMIT, 0},
+    {"page bytes", 0, LIMIT, 0},
+    {"data bytes", 0, LIMIT, 0},
+    {"distance", 0, LIMIT, 0},
+    {"judge, a blank page", GII_BLANK, LIMIT, 0},
+    {"read out, a blank page", GII_BLANK, LIMIT, 0},
     /* Written where s is above 0. */
-    {"write, its blocks", GII_BLANK_BLOCKS, 0},
+    {"write, its blocks", GII_BLANK_BLOCKS, LIMIT, 0},
+    {"write of 16 pages, L = 64", GII_DONE, MANY_LIMIT, 0},
+    {"write of 16 pages, L = 1", GII_DONE, MANY_LIMIT, 0},
 };
 static size_t call;
 static uint32_t answer;
@@ -72,6 +76,11 @@ static void *run(void *unused)
     case 11: answer = gii_sheet_judge(&sheet, erased, page_len); break;
     case 12: answer = gii_sheet_read_out(&sheet, erased, page_len, back, blocks_len); break;
     case 13: answer = gii_sheet_write(&sheet, 64, back, blocks_len, page, page_len); break;
+    case 14:
+    case 15:
+        answer = gii_sheet_write_many(&sheet, call == 14 ? 64 : 1, GII_COUNT_MAX, many_blocks, GII_COUNT_MAX * blocks_len, pages,
+                                      GII_COUNT_MAX * page_len, listed, GII_COUNT_MAX);
+        break;
     }
     return NULL;
 }
@@ -116,7 +125,7 @@ int main(void)
         }
     }
     for (call = 1; call < sizeof calls / sizeof *calls; call++) {
-        int above = calls[call].most > LIMIT;
+        int above = calls[call].most > calls[call].limit;
         printf("stack of %s: %zu bytes%s\n", calls[call].name, calls[call].most, above ? ", above the limit" : "");
         over = over || above;
     }

@@ -1,7 +1,8 @@
 /*
  * The C functions at work: a sheet is quoted, a page is written, judged, damaged, judged and read out, scratched and judged,
- * an erased page is known as blank, all that with full and with shortened sub-words, and every refusal is shown to leave its
- * buffers. Every length comes from the calls. Prints what it does; the first surprise ends it with status 1.
+ * an erased page is known as blank, many pages are written in one call, all that with full and with shortened sub-words, and
+ * every refusal is shown to leave its buffers. Every length comes from the calls. Prints what it does; the first surprise
+ * ends it with status 1.
  *
  *   rt staticlib gii_bch
  *   cc -O2 -Iinclude examples/c/demo.c target/staticlib/libgii_bch.a -o target/demo && target/demo
@@ -67,10 +68,10 @@ static void quoted(const struct gii_sheet *s, uint8_t *quote)
     must(fits, "the places past the last level and past the last block are 0");
 }
 
-/* Any data, unused bits 0. */
-static void fill_blocks(const struct gii_sheet *s, const uint8_t *quote, uint8_t *blocks)
+/* Any data, by a number to begin with, unused bits 0. */
+static void fill_blocks(const struct gii_sheet *s, const uint8_t *quote, uint32_t number, uint8_t *blocks)
 {
-    uint32_t number = 1, i, bits;
+    uint32_t i, bits;
     size_t k = 0, end = 0;
 
     for (i = 0; i < s->m; i++) {
@@ -126,7 +127,7 @@ static void round_trip(const struct gii_sheet *s)
     printf("q %u, m %u, v %u, t %u, %u, %u, %u, s %u\n", (unsigned)s->q, (unsigned)s->m, (unsigned)s->v,
            (unsigned)s->t[0], (unsigned)s->t[1], (unsigned)s->t[2], (unsigned)s->t[3], (unsigned)s->s);
     quoted(s, quote);
-    fill_blocks(s, quote, blocks);
+    fill_blocks(s, quote, 1, blocks);
     print_bytes("blocks", blocks, blocks_len);
     memset(page, 0xA5, sizeof page);
     must(gii_sheet_write(s, 64, blocks, blocks_len, page, page_len) == GII_DONE, "written, 64 coefficients a step");
@@ -223,6 +224,58 @@ static void erased_page(const struct gii_sheet *s)
     must(memcmp(out, ones, blocks_len) == 0, "the blocks come back");
 }
 
+/*
+ * Many pages in one call: a page of drawn data, one whose blocks have a stray bit, if they can, one of ones, and so on, as
+ * many as there may be. Each is listed by what it gives alone, and is the page that it gives alone or as it was.
+ */
+static void many_pages(const struct gii_sheet *s)
+{
+    static uint8_t blocks[GII_COUNT_MAX * GII_BLOCKS_MAX], pages[GII_COUNT_MAX * GII_PAGE_MAX], page[GII_PAGE_MAX];
+    size_t blocks_len = gii_sheet_data_bytes(s), page_len = gii_sheet_page_bytes(s), k;
+    uint8_t list[GII_COUNT_MAX], quote[GII_QUOTE_BYTES];
+    uint32_t bits, number, written = 0;
+    int equal = 1, same = 1;
+
+    printf("  %u pages in one call\n", (unsigned)GII_COUNT_MAX);
+    must(gii_sheet_quote(s, quote, sizeof quote) == GII_DONE, "quoted");
+    bits = gii_number(quote, GII_QUOTE_DATA_BITS(0));
+    memset(page, 0xFF, page_len);
+    for (k = 0; k < GII_COUNT_MAX; k++) {
+        uint8_t *own = blocks + k * blocks_len;
+
+        if (k % 3 == 2)
+            must(gii_sheet_read_out(s, page, page_len, own, blocks_len) == GII_BLANK, "blocks of ones, those of an erased page");
+        else
+            fill_blocks(s, quote, (uint32_t)k + 1, own);
+        if (k % 3 == 1 && bits % 8)
+            own[bits / 8] |= 0x80;
+    }
+    memset(pages, 0xA5, sizeof pages);
+    memset(list, 0xA5, sizeof list);
+    must(gii_sheet_write_many(s, 64, GII_COUNT_MAX, blocks, GII_COUNT_MAX * blocks_len, pages, GII_COUNT_MAX * page_len, list,
+                              GII_COUNT_MAX) == GII_DONE,
+         "done, whatever is listed");
+    print_bytes("list", list, GII_COUNT_MAX);
+    for (k = 0; k < GII_COUNT_MAX; k++) {
+        number = k % 3 == 1 && bits % 8 ? GII_STRAY : k % 3 == 2 && s->s == 0 ? GII_BLANK_BLOCKS : GII_DONE;
+        written += number == GII_DONE;
+        memset(page, 0xA5, page_len);
+        equal = equal && list[k] == number && gii_sheet_write(s, 64, blocks + k * blocks_len, blocks_len, page, page_len) == number;
+        same = same && memcmp(pages + k * page_len, page, page_len) == 0;
+    }
+    must(equal, "each is listed by what it gives alone: done, stray or blank");
+    must(same, "each is the page that it gives alone; the refused ones are as they were");
+    printf("  %u pages written\n", (unsigned)written);
+
+    must(gii_sheet_write_many(s, 1, 2, blocks, 2 * blocks_len, page, page_len, list, 2) == GII_PAGE,
+         "two pages into the room of one: refused");
+    memset(pages, 0xA5, 2 * page_len);
+    must(gii_sheet_write_many(s, 1, 1, blocks, blocks_len, pages, page_len, list, 1) == GII_DONE, "one page in one call");
+    must(gii_sheet_write(s, 64, blocks, blocks_len, page, page_len) == GII_DONE && list[0] == GII_DONE &&
+             memcmp(pages, page, page_len) == 0 && pages[page_len] == 0xA5,
+         "it is the same page");
+}
+
 /* A quote that is known number for number, with data bits less s, and known sizes. */
 static void known_quote(void)
 {
@@ -270,11 +323,18 @@ static void known_pages(void)
     static const uint8_t mixed[4] = {0xFF, 0x03, 0xFF, 0xA7};
     static const uint8_t one[4] = {0x01}, multiple[4] = {0x13}, second[4] = {0x02}, syndromes[8] = {2, 0, 4, 0, 8, 0, 3, 0};
     static const uint8_t erased[4] = {0xFF, 0xFF, 0xFF, 0xFF}, clear[4] = {0xFF, 0x7F, 0xFF, 0x7F}, ones[3] = {0x7F, 0xFF, 0x07};
-    uint8_t out[4], list[8];
+    static const uint8_t many[12] = {0x01, 0x01, 0x00, 0x81, 0x01, 0x00, 0x7F, 0xFF, 0x07, 0x00, 0x01, 0x00};
+    static const uint8_t all[16] = {0xC2, 0x01, 0x13, 0x00, 0xA5, 0xA5, 0xA5, 0xA5, 0xA5, 0xA5, 0xA5, 0xA5, 0x13, 0x00, 0x13, 0x00};
+    uint8_t out[4], list[8], pages[16];
 
     printf("known pages of q 4, m 2, v 1, t 1, 2\n");
     must(gii_sheet_write(&a, 8, blocks, sizeof blocks, out, sizeof out) == GII_DONE, "blocks 01 / 01 00 written");
     must(memcmp(out, page, sizeof page) == 0, "page C2 01 13 00");
+    memset(pages, 0xA5, sizeof pages);
+    must(gii_sheet_write_many(&a, 8, 4, many, sizeof many, pages, sizeof pages, list, 4) == GII_DONE,
+         "01 / 01 00, 81 / 01 00, 7F / FF 07, 00 / 01 00 in one call");
+    must(list[0] == GII_DONE && list[1] == GII_STRAY && list[2] == GII_BLANK_BLOCKS && list[3] == GII_DONE, "listed 0, 8, 13, 0");
+    must(memcmp(pages, all, sizeof all) == 0, "pages C2 01 13 00 and 13 00 13 00, and two as they were");
     must(gii_sheet_judge(&a, erased, sizeof erased) == GII_BLANK, "FF FF FF FF is blank");
     must(gii_sheet_judge(&a, clear, sizeof clear) == GII_BLANK, "FF 7F FF 7F is blank");
     must(gii_sheet_read_out(&a, erased, sizeof erased, out, sizeof ones) == GII_BLANK, "FF FF FF FF read out");
@@ -297,17 +357,20 @@ static void known_pages(void)
     must(memcmp(list, syndromes, sizeof list) == 0, "2, 4, 8, 3");
 }
 
-/* One call of each function, with buffers of the given lengths and contents; a refusal must leave both. */
+/* One call of each function, with buffers of the given lengths and contents; a refusal must leave all of them. */
 struct lent {
-    uint8_t blocks[8], page[8], list[2 * GII_QUOTE_BYTES];
+    uint8_t blocks[GII_COUNT_MAX * 8], page[GII_COUNT_MAX * 8], list[2 * GII_QUOTE_BYTES];
 };
 
-enum call { WRITE, READ_OUT, JUDGE, SYNDROMES, NESTED_SYNDROMES, QUOTE };
+enum call { WRITE, READ_OUT, JUDGE, SYNDROMES, NESTED_SYNDROMES, QUOTE, WRITE_MANY };
+
+/* The pages that WRITE_MANY is told. */
+static uint32_t count = 1;
 
 static void refused(enum call call, const struct gii_sheet *s, uint32_t number, size_t blocks_len, size_t page_len,
                     size_t list_len, const struct lent *holds, uint32_t expected, const char *what)
 {
-    static const char *const names[] = {"write", "read out", "judge", "syndromes", "nested syndromes", "quote"};
+    static const char *const names[] = {"write", "read out", "judge", "syndromes", "nested syndromes", "quote", "write many"};
     struct lent lent = *holds;
     char line[160];
     uint32_t answer = 0;
@@ -330,6 +393,9 @@ static void refused(enum call call, const struct gii_sheet *s, uint32_t number, 
         break;
     case QUOTE:
         answer = gii_sheet_quote(s, lent.list, list_len);
+        break;
+    case WRITE_MANY:
+        answer = gii_sheet_write_many(s, number, count, lent.blocks, blocks_len, lent.page, page_len, lent.list, list_len);
         break;
     }
     sprintf(line, "%s, %s: refused by %u (%s), every byte stays", names[call], what, (unsigned)expected,
@@ -374,10 +440,10 @@ static void refusals(void)
     memset(&erased, 0xFF, sizeof erased);
 
     printf("refusals\n");
-    for (call = WRITE; call <= QUOTE; call++) {
+    for (call = WRITE; call <= WRITE_MANY; call++) {
         enum call c = (enum call)call;
-        uint32_t number = c == WRITE ? 8 : 0;
-        size_t list = c == QUOTE ? GII_QUOTE_BYTES : GII_LIST_BYTES(c == SYNDROMES ? a.t[0] : a.t[1]);
+        uint32_t number = c == WRITE || c == WRITE_MANY ? 8 : 0;
+        size_t list = c == WRITE_MANY ? 1 : c == QUOTE ? GII_QUOTE_BYTES : GII_LIST_BYTES(c == SYNDROMES ? a.t[0] : a.t[1]);
 
         refused(c, &field, number, data, page, list, &fits, GII_FIELD, "q 5");
         refused(c, &shape, number, data, page, list, &fits, GII_SHAPE, "m 1");
@@ -388,14 +454,16 @@ static void refusals(void)
         refused(c, &shortest, number, data, page, list, &erased, GII_SHORTENING, "s 4294967295");
         refused(c, &shortening, UINT32_MAX, 0, 0, 0, &stray, GII_SHORTENING, "s 7 and all but the sheet wrong");
         refused(c, &short_clash, number, data, page, list, &fits, GII_CLASH, "clash and s 4294967295");
-        if (c == WRITE) {
+        if (c == WRITE || c == WRITE_MANY) {
             refused(c, &a, 0, data, page, list, &fits, GII_WIDTH, "width 0");
             refused(c, &a, 65, data, page, list, &fits, GII_WIDTH, "width 65");
+        }
+        if (c == WRITE) {
             refused(c, &a, number, data, page, list, &ones, GII_BLANK_BLOCKS, "every data bit 1");
             refused(c, &a, number, data, page - 1, list, &ones, GII_PAGE, "page and every data bit 1");
             refused(c, &a, number, data, page, list, &ones_stray, GII_STRAY, "stray and every data bit 1");
         }
-        if (c == WRITE || c == READ_OUT) {
+        if (c == WRITE || c == READ_OUT || c == WRITE_MANY) {
             refused(c, &a, number, data - 1, page, list, &fits, GII_BLOCKS, "a byte of blocks less");
             refused(c, &a, number, data + 1, page, list, &fits, GII_BLOCKS, "a byte of blocks more");
             refused(c, &a, number, 0, page, list, &fits, GII_BLOCKS, "no blocks");
@@ -407,9 +475,10 @@ static void refusals(void)
             refused(c, &a, number, data, page + 1, list, &fits, GII_PAGE, "a byte of page more");
             refused(c, &a, number, data, 0, list, &fits, GII_PAGE, "no page");
             refused(c, &a, number, data, page - 1, list, &erased, GII_PAGE, "erased, a byte of page less");
-            refused(c, &a, number, data, page, list, &stray, GII_STRAY, "a stray bit");
             refused(c, &a, number, data, 0, 0, &stray, GII_PAGE, "page, stray and list");
         }
+        if (c != QUOTE && c != WRITE_MANY)
+            refused(c, &a, number, data, page, list, &stray, GII_STRAY, "a stray bit");
         if (c == SYNDROMES || c == NESTED_SYNDROMES) {
             refused(c, &a, c == SYNDROMES ? a.m : a.v, data, page, list, &fits, GII_INDEX, "no such word");
             refused(c, &a, UINT32_MAX, data, page, 0, &stray, GII_STRAY, "stray, index and list");
@@ -423,6 +492,23 @@ static void refusals(void)
             refused(c, &clash, 0, data, page, list - 1, &fits, GII_CLASH, "clash and list");
         }
     }
+
+    count = 0;
+    refused(WRITE_MANY, &a, 8, 0, 0, 0, &fits, GII_INDEX, "no page");
+    refused(WRITE_MANY, &a, 0, 0, 0, 0, &fits, GII_WIDTH, "no page and width 0");
+    count = GII_COUNT_MAX + 1;
+    refused(WRITE_MANY, &a, 8, count * data, count * page, count, &fits, GII_INDEX, "17 pages");
+    refused(WRITE_MANY, &a, 8, 0, 0, 0, &stray, GII_INDEX, "17 pages and every length");
+    count = UINT32_MAX;
+    refused(WRITE_MANY, &a, 8, data, page, 1, &fits, GII_INDEX, "4294967295 pages");
+    refused(WRITE_MANY, &shortening, 8, data, page, 1, &fits, GII_SHORTENING, "s 7 and 4294967295 pages");
+    count = 3;
+    refused(WRITE_MANY, &a, 8, 2 * data, 3 * page, 3, &fits, GII_BLOCKS, "3 pages, blocks for 2");
+    refused(WRITE_MANY, &a, 8, 4 * data, 0, 0, &fits, GII_BLOCKS, "3 pages, blocks for 4, page and list");
+    refused(WRITE_MANY, &a, 8, 3 * data, page, 1, &fits, GII_PAGE, "3 pages, room for 1");
+    refused(WRITE_MANY, &a, 8, 3 * data, 4 * page, 3, &fits, GII_PAGE, "3 pages, room for 4");
+    refused(WRITE_MANY, &a, 8, 3 * data, 3 * page, 2, &ones, GII_LIST, "3 pages, a list of 2");
+    refused(WRITE_MANY, &a, 8, 3 * data, 3 * page, 4, &stray, GII_LIST, "3 pages, a list of 4");
 
     without_sizes(&field, "q 5");
     without_sizes(&shape, "m 1");
@@ -444,6 +530,7 @@ static void header(void)
     must(strcmp(version, GII_BCH_VERSION) == 0, "version " GII_BCH_VERSION);
     must(gii_sheet_page_bytes(&most) == GII_PAGE_MAX && gii_sheet_data_bytes(&most) == GII_BLOCKS_MAX, "the most bytes");
     must(GII_LIST_BYTES(64) == GII_LIST_MAX, "the longest list");
+    must(GII_COUNT_MAX == 16, "the most pages of one call");
     must(GII_IS_REFUSAL(GII_FIELD) && GII_IS_REFUSAL(GII_SHORTENING), "refusals");
     must(!GII_IS_REFUSAL(GII_DONE) && !GII_IS_REFUSAL(GII_SUB_WORD) && !GII_IS_REFUSAL(GII_BLANK) && !GII_IS_REFUSAL(UINT32_MAX),
          "no refusals");
@@ -468,6 +555,7 @@ int main(void)
     for (k = 0; k < sizeof sheets / sizeof *sheets; k++) {
         round_trip(&sheets[k]);
         erased_page(&sheets[k]);
+        many_pages(&sheets[k]);
     }
     refusals();
     printf("all as expected\n");

@@ -6,6 +6,7 @@ use reference::{Parameters, calls};
 #[derive(Clone, Copy, Debug, PartialEq, Eq, PartialOrd, Ord)]
 pub enum Name {
     Write,
+    WriteMany,
     ReadOut,
     Judge,
     Syndromes,
@@ -16,8 +17,9 @@ pub enum Name {
     Distance,
 }
 
-pub const NAMES: [Name; 9] = [
+pub const NAMES: [Name; 10] = [
     Name::Write,
+    Name::WriteMany,
     Name::ReadOut,
     Name::Judge,
     Name::Syndromes,
@@ -59,20 +61,30 @@ impl Name {
 pub struct Call {
     pub name: Name,
     pub p: Parameters,
-    /// The width of write, the index of syndromes; of no meaning to the others.
+    /// The width of write and of write many, the index of syndromes; of no meaning to the others.
     pub number: u32,
-    /// The bytes that are read: the blocks of write, else the page; none for the quote and the sizes.
+    /// The pages of write many; of no meaning to the others.
+    pub count: u32,
+    /// The bytes that are read: the blocks of write and of write many, else the page; none for the quote and the sizes.
     pub read: Vec<u8>,
-    /// The bytes lent to be written: page, blocks or list; none for judge and the sizes.
+    /// The bytes lent to be written: page or pages, blocks or list; none for judge and the sizes.
     pub lent: Vec<u8>,
+    /// The list of write many, lent beside the pages; none for the others.
+    pub list: Vec<u8>,
 }
 
 impl Call {
+    /// A call with one lent buffer at most: any but write many.
+    pub fn new(name: Name, p: &Parameters, number: u32, read: Vec<u8>, lent: Vec<u8>) -> Call {
+        Call { name, p: *p, number, count: 0, read, lent, list: Vec::new() }
+    }
+
     /// The call made to the reference, on buffers in place of the call's own.
-    pub fn by_reference(&self, read: &[u8], lent: &mut [u8]) -> u32 {
-        let Call { name, p, number, .. } = self;
+    pub fn by_reference(&self, read: &[u8], lent: &mut [u8], list: &mut [u8]) -> u32 {
+        let Call { name, p, number, count, .. } = self;
         match name {
             Name::Write => calls::write(p, *number, read, lent),
+            Name::WriteMany => calls::write_many(p, *number, *count, read, lent, list),
             Name::ReadOut => calls::read_out(p, read, lent),
             Name::Judge => calls::judge(p, read),
             Name::Syndromes => calls::syndromes(p, read, *number, lent),
@@ -85,14 +97,15 @@ impl Call {
     }
 
     /// The call made to the archive, likewise.
-    pub fn by_archive(&self, read: &[u8], lent: &mut [u8]) -> u32 {
-        let Call { name, p, number, .. } = self;
+    pub fn by_archive(&self, read: &[u8], lent: &mut [u8], list: &mut [u8]) -> u32 {
+        let Call { name, p, number, count, .. } = self;
         let sheet = sheet(p);
         let done = |()| Verdict::Member;
         let answer = |answer: Result<Verdict, Refusal>| answer.map_or_else(Refusal::number, Verdict::number);
         let size = |size: Result<usize, Refusal>| size.map_or(0, |size| size as u32);
         match name {
             Name::Write => answer(sheet.write(*number, read, lent).map(done)),
+            Name::WriteMany => answer(sheet.write_many(*number, *count, read, lent, list).map(done)),
             Name::ReadOut => answer(sheet.read_out(read, lent)),
             Name::Judge => answer(sheet.judge(read)),
             Name::Syndromes => answer(sheet.syndromes(read, *number, lent).map(done)),
@@ -104,35 +117,43 @@ impl Call {
         }
     }
 
-    /// The number and the lent bytes on which both sides agree, or how they part. `shift` moves the buffers in memory.
-    pub fn compare(&self, shift: usize) -> Result<(u32, Vec<u8>), String> {
-        let mut expected = self.lent.clone();
-        let number = self.by_reference(&self.read, &mut expected);
+    /// The number, the lent bytes and the list on which both sides agree, or how they part. `shift` moves the buffers in
+    /// memory.
+    pub fn compare(&self, shift: usize) -> Result<(u32, Vec<u8>, Vec<u8>), String> {
+        let (mut expected, mut listed) = (self.lent.clone(), self.list.clone());
+        let number = self.by_reference(&self.read, &mut expected, &mut listed);
 
         let mut read = Guarded::new(&self.read, shift % 16);
         let mut lent = Guarded::new(&self.lent, shift / 16 % 16);
-        let answer = self.by_archive(read.inner(), lent.inner());
+        let mut list = Guarded::new(&self.list, (shift / 16 + shift) % 16);
+        let answer = self.by_archive(read.inner(), lent.inner(), list.inner());
 
-        let found = if !read.whole() || !lent.whole() {
+        let found = if !read.whole() || !lent.whole() || !list.whole() {
             "writes beside its buffer".to_string()
         } else if read.inner() != self.read {
             "alters the bytes that it reads".to_string()
         } else if answer != number {
             format!("gives {answer}, the reference {number}")
-        } else if let Some(k) = (0..expected.len()).find(|&k| lent.inner()[k] != expected[k]) {
-            let was = self.lent[k];
-            format!(
-                "answers {answer}, byte {k} is {:02X}, was {was:02X}, is to be {:02X}",
-                lent.inner()[k],
-                expected[k]
-            )
+        } else if let Some(k) = differ(lent.inner(), &expected) {
+            let (is, was, to_be) = (lent.inner()[k], self.lent[k], expected[k]);
+            format!("answers {answer}, byte {k} is {is:02X}, was {was:02X}, is to be {to_be:02X}")
+        } else if let Some(k) = differ(list.inner(), &listed) {
+            let (is, was, to_be) = (list.inner()[k], self.list[k], listed[k]);
+            format!("answers {answer}, page {k} is listed by {is}, where {was} was, and is to be by {to_be}")
         } else {
-            return Ok((number, expected));
+            return Ok((number, expected, listed));
         };
-        let Call { name, p, number, .. } = self;
-        let (read, lent) = (shown(&self.read), shown(&self.lent));
-        Err(format!("{name:?} {found}\n{p:?}, width or index {number}\nread {read}\nlent {lent}"))
+        let Call { name, p, number, count, .. } = self;
+        let (read, lent, list) = (shown(&self.read), shown(&self.lent), shown(&self.list));
+        Err(format!(
+            "{name:?} {found}\n{p:?}, width or index {number}, {count} pages\nread {read}\nlent {lent}\nlist {list}"
+        ))
     }
+}
+
+/// The first byte that is not the expected one.
+fn differ(bytes: &[u8], expected: &[u8]) -> Option<usize> {
+    (0..expected.len()).find(|&k| bytes[k] != expected[k])
 }
 
 /// The reference's parameters as the archive's.

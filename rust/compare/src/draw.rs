@@ -2,7 +2,7 @@
 
 use crate::call::{Call, NAMES, Name};
 use reference::Parameters;
-use reference::calls::{BLANK, QUOTE_BYTES};
+use reference::calls::{BLANK, MOST_PAGES, QUOTE_BYTES};
 use reference::layout::{bit, flip, set};
 use reference::parameters::Sheet;
 use reference::sample::Random;
@@ -86,9 +86,49 @@ pub fn break_nested(random: &mut Random, sheet: &Sheet, page: &mut [u8]) {
 }
 
 /// Blocks that fit and, where s is 0, are not all ones, which write refuses.
-fn writable(random: &mut Random, sheet: &Sheet) -> Vec<u8> {
+pub fn writable(random: &mut Random, sheet: &Sheet) -> Vec<u8> {
     let ones = sheet.ones();
     repeat_with(|| random.blocks(sheet)).find(|blocks| sheet.s > 0 || *blocks != ones).unwrap()
+}
+
+/// The blocks of one of many pages: mostly drawn ones that fit; all ones, with a stray bit, or both.
+fn one_of_many(random: &mut Random, sheet: &Sheet) -> Vec<u8> {
+    let kind = random.from_to(0, 8);
+    let mut blocks = if kind < 2 { sheet.ones() } else { random.blocks(sheet) };
+    if (1..4).contains(&kind) {
+        make_stray(random, sheet, &mut blocks);
+    }
+    blocks
+}
+
+/// Sets an unused bit of some blocks; false if they have none.
+pub fn make_stray(random: &mut Random, sheet: &Sheet, blocks: &mut [u8]) -> bool {
+    let places = stray_places(sheet, Name::Write);
+    if places.is_empty() {
+        return false;
+    }
+    set(blocks, places[random.from_to(0, places.len() - 1)]);
+    true
+}
+
+/// A call of write many on these sets of blocks, with buffers that fit them, whether or not so many pages are accepted.
+pub fn many(random: &mut Random, p: &Parameters, blocks: &[Vec<u8>]) -> Call {
+    let (number, count) = (random.from_to(1, 64) as u32, blocks.len() as u32);
+    let (lent, list) = (random.bytes(blocks.len() * Sheet::of(p).page_bytes()), random.bytes(blocks.len()));
+    Call { name: Name::WriteMany, p: *p, number, count, read: blocks.concat(), lent, list }
+}
+
+/// The same on so many drawn sets of blocks.
+pub fn many_drawn(random: &mut Random, p: &Parameters, count: usize) -> Call {
+    let sheet = Sheet::of(p);
+    let blocks: Vec<Vec<u8>> = (0..count).map(|_| one_of_many(random, &sheet)).collect();
+    many(random, p, &blocks)
+}
+
+/// A number of pages that is accepted; mostly few of q = 12, which take longest.
+fn accepted_count(random: &mut Random, p: &Parameters) -> usize {
+    let most = if p.q < 12 || random.once_in(20) { MOST_PAGES } else { 3 };
+    random.from_to(1, most as usize)
 }
 
 /// A call that is not refused.
@@ -96,6 +136,10 @@ pub fn exact(random: &mut Random, name: Name, p: &Parameters) -> Call {
     let sheet = Sheet::of(p);
     let (number, read, lent) = match name {
         Name::Write => (random.from_to(1, 64), writable(random, &sheet), sheet.page_bytes()),
+        Name::WriteMany => {
+            let count = accepted_count(random, p);
+            return many_drawn(random, p, count);
+        }
         Name::ReadOut => (0, page(random, p), sheet.blocks_bytes()),
         Name::Judge => (0, page(random, p), 0),
         Name::Syndromes => (random.from_to(0, sheet.m - 1), page(random, p), 0),
@@ -108,13 +152,14 @@ pub fn exact(random: &mut Random, name: Name, p: &Parameters) -> Call {
         Name::Syndromes | Name::NestedSyndromes => list_bytes(p, name, number),
         _ => lent,
     };
-    Call { name, p: *p, number, read, lent: random.bytes(lent) }
+    Call::new(name, p, number, read, random.bytes(lent))
 }
 
 /// The conditions that a call can meet, in the order in which they are tested. That a page is blank is no refusal.
 pub fn conditions(name: Name) -> &'static [u32] {
     match name {
         Name::Write => &[1, 2, 3, 4, 14, 5, 6, 7, 8, 13],
+        Name::WriteMany => &[1, 2, 3, 4, 14, 5, 9, 6, 7, 10],
         Name::ReadOut => &[1, 2, 3, 4, 14, 6, 7, BLANK, 8],
         Name::Judge => &[1, 2, 3, 4, 14, 7, BLANK, 8],
         Name::Syndromes | Name::NestedSyndromes => &[1, 2, 3, 4, 14, 7, 8, 9, 10],
@@ -158,12 +203,12 @@ pub fn spoil(random: &mut Random, call: &mut Call, condition: u32) -> bool {
         },
         5 => call.number = any_of(random, &[0, 65, 66, 128, 256, 257, 1 << 31, GREATEST]),
         6 => match call.name {
-            Name::Write => cut(random, &mut call.read),
-            _ => cut(random, &mut call.lent),
+            Name::Write | Name::WriteMany => cut(random, &mut call.read, call.count),
+            _ => cut(random, &mut call.lent, 1),
         },
         7 => match call.name {
-            Name::Write => cut(random, &mut call.lent),
-            _ => cut(random, &mut call.read),
+            Name::Write | Name::WriteMany => cut(random, &mut call.lent, call.count),
+            _ => cut(random, &mut call.read, 1),
         },
         8 => {
             let sheet = sheet.unwrap();
@@ -176,11 +221,16 @@ pub fn spoil(random: &mut Random, call: &mut Call, condition: u32) -> bool {
                 flip(&mut call.read, random.place(&sheet));
             }
         }
+        9 if call.name == Name::WriteMany => {
+            let turn = any_of(random, &[1 << 8, 1 << 16, 1 << 31]);
+            call.count = any_of(random, &[0, 17, 18, 32, 255, 256, 1 << 31, GREATEST, call.count + turn]);
+        }
         9 => {
             let end = if call.name == Name::Syndromes { p.m } else { p.v };
             call.number = any_of(random, &[end, end + 1, end.max(8), 255, 256, 1 << 31, GREATEST]);
         }
-        10 => cut(random, &mut call.lent),
+        10 if call.name == Name::WriteMany => cut(random, &mut call.list, call.count),
+        10 => cut(random, &mut call.lent, 1),
         13 => {
             let sheet = sheet.unwrap();
             if sheet.s > 0 {
@@ -217,11 +267,13 @@ fn any_of(random: &mut Random, numbers: &[u32]) -> u32 {
     numbers[random.from_to(0, numbers.len() - 1)]
 }
 
-/// Another length: none, one less, one more, half, double, any.
-fn cut(random: &mut Random, bytes: &mut Vec<u8>) {
+/// Another length: none, one less, one more, half, double, any; of bytes for so many pages also those of a page less or more.
+fn cut(random: &mut Random, bytes: &mut Vec<u8>, pages: u32) {
     let exact = bytes.len();
+    let one = exact / pages.max(1) as usize;
     let any = random.from_to(0, 5000);
-    let lengths = [0, exact - 1, exact + 1, exact / 2, 2 * exact, any, exact + 256];
+    let less = exact.saturating_sub(1);
+    let lengths = [0, less, exact + 1, exact / 2, 2 * exact, any, exact + 256, exact - one, exact + one];
     let mut length = lengths[random.from_to(0, lengths.len() - 1)];
     if length == exact {
         length += 1;
@@ -255,7 +307,14 @@ pub fn any(random: &mut Random) -> Call {
     if random.once_in(2) {
         p = random.shortened(&p);
     }
-    let mut call = exact(random, name, &p);
+    let mut call = match name {
+        // Numbers of pages that are not accepted, with buffers that fit.
+        Name::WriteMany if random.once_in(16) => {
+            let count = [0, 17, 18, 32][random.from_to(0, 3)];
+            many_drawn(random, &p, count)
+        }
+        _ => exact(random, name, &p),
+    };
     if random.once_in(2) {
         for &condition in conditions(name).iter().rev() {
             if random.once_in(6) {
@@ -265,12 +324,13 @@ pub fn any(random: &mut Random) -> Call {
     }
     if random.once_in(4) {
         let number = wild_number(random);
-        match random.from_to(0, 8) {
+        match random.from_to(0, if name == Name::WriteMany { 9 } else { 8 }) {
             0 => call.p.q = number,
             1 => call.p.m = number,
             2 => call.p.v = number,
             3 => call.number = number,
             4 => call.p.s = number,
+            9 => call.count = number,
             place => call.p.t[place - 5] = number,
         }
     }
@@ -293,7 +353,7 @@ fn wild(random: &mut Random, name: Name) -> Call {
     let mut number = || wild_number(random);
     let t = [number(), number(), number(), number()];
     let p = Parameters { q: number(), m: number(), v: number(), t, s: number() };
-    let number = number();
+    let (number, count) = (number(), number());
     let length = |random: &mut Random| match random.from_to(0, 3) {
         0 => 0,
         1 => 4096,
@@ -302,5 +362,10 @@ fn wild(random: &mut Random, name: Name) -> Call {
     };
     let (read, lent) = (length(random), length(random));
     let (read, lent) = (if name.reads() { read } else { 0 }, if name.writes() { lent } else { 0 });
-    Call { name, p, number, read: random.bytes(read), lent: random.bytes(lent) }
+    let call = Call::new(name, &p, number, random.bytes(read), random.bytes(lent));
+    if name != Name::WriteMany {
+        return call;
+    }
+    let list = length(random);
+    Call { count, list: random.bytes(list), ..call }
 }

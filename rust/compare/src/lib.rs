@@ -1,5 +1,5 @@
 //! The archive, through the crate gii-bch, and the reference: calls made to both, calls drawn from a seed, and the time that
-//! shortened sub-words save.
+//! shortened sub-words and many pages in one call save.
 
 pub mod call;
 pub mod draw;

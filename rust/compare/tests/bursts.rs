@@ -14,7 +14,7 @@ use reference::sample::{Random, all_parameters, all_shortened};
 fn member(random: &mut Random, p: &Parameters) -> Vec<u8> {
     let write = exact(random, Name::Write, p);
     let mut page = vec![0; Sheet::of(p).page_bytes()];
-    assert_eq!(write.by_reference(&write.read, &mut page), 0, "{p:?}");
+    assert_eq!(write.by_reference(&write.read, &mut page, &mut []), 0, "{p:?}");
     page
 }
 
@@ -173,7 +173,7 @@ fn drawn(q: u32, sheets: usize, each: usize) {
         let made = Sheet::of(&p);
         let page = member(&mut random, &p);
         let said = |random: &mut Random, damaged: &[u8]| {
-            let judge = Call { name: Name::Judge, p, number: 0, read: damaged.to_vec(), lent: Vec::new() };
+            let judge = Call::new(Name::Judge, &p, 0, damaged.to_vec(), Vec::new());
             let lent = random.bytes(made.blocks_bytes());
             let read_out = Call { name: Name::ReadOut, lent, ..judge.clone() };
             let [judged, read] = [judge, read_out].map(|call| {

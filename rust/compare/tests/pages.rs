@@ -34,25 +34,26 @@ impl Run {
         }
     }
 
-    /// The number and the lent bytes of a call, on which both sides agree.
-    fn both(&mut self, call: &Call) -> (u32, Vec<u8>) {
+    /// The number, the lent bytes and the list of a call, on which both sides agree.
+    fn both(&mut self, call: &Call) -> (u32, Vec<u8>, Vec<u8>) {
         self.calls += 1;
         let shift = self.random.from_to(0, 255);
         call.compare(shift).unwrap_or_else(|found| panic!("seed {}, call {}: {found}", seed(), self.calls))
     }
 
-    /// The same of a call that is not refused.
+    /// The number and the lent bytes of a call that is not refused.
     fn compare(&mut self, call: &Call) -> (u32, Vec<u8>) {
-        let (number, lent) = self.both(call);
+        let (number, lent, _) = self.both(call);
         assert!(!call.name.refuses(number), "{:?} of {:?} is refused by {number}", call.name, call.p);
         (number, lent)
     }
 
-    /// The same of a call that is refused by this number, and leaves every byte.
+    /// Asks that a call is refused by this number, and leaves every byte.
     fn refused(&mut self, call: &Call, number: u32) {
-        let (answer, lent) = self.both(call);
+        let (answer, lent, list) = self.both(call);
         assert_eq!(answer, number, "{:?} of {:?}", call.name, call.p);
         assert_eq!(lent, call.lent, "{:?} of {:?}", call.name, call.p);
+        assert_eq!(list, call.list, "{:?} of {:?}", call.name, call.p);
     }
 
     /// Write at some widths, then judge, read out and syndromes of the page and of pages damaged in many ways. Where no
@@ -123,7 +124,7 @@ impl Run {
             Name::Judge => 0,
             _ => list_bytes(p, name, index),
         };
-        Call { name, p: *p, number: index, read: page.to_vec(), lent: self.random.bytes(lent) }
+        Call::new(name, p, index, page.to_vec(), self.random.bytes(lent))
     }
 
     /// Judge and read out on a blank page.
@@ -325,9 +326,9 @@ fn shortened_sheets_of_q_8() {
         run.sheet(&p, &[1, 8, 63, 64], 4);
         run.blank(&p, &[1, 8, 63, 64]);
     }
-    // Every s.
+    // Every s; or one in an odd number of them, so that every number of spare bits has its turn.
     let p = Parameters::full(8, 3, 2, [2, 3, 5, 0]);
-    for (k, p) in all_shortened(&p).skip(1).step_by(one_in()).enumerate() {
+    for (k, p) in all_shortened(&p).skip(1).step_by(one_in() | 1).enumerate() {
         run.sheet(&p, &Run::widths_of(k, 2), 2);
     }
     run.drawn(|random| random.shortened_parameters(8), count(3000), 4, 150);
@@ -352,10 +353,10 @@ fn shortened_sheets_of_q_12() {
         run.sheet(&p, &[1, 7, 8, 32, 63, 64], 4);
         run.blank(&p, &[1, 7, 8, 32, 63, 64]);
     }
-    // Every s near the greatest, and one in many below.
+    // Every s near the greatest, and one in many below; or one in an odd number of these.
     let p = Parameters::full(12, 2, 1, [1, 2, 0, 0]);
     let some = all_shortened(&p).skip(1).filter(|p| p.s % 97 == 0 || p.s + 80 > p.most());
-    for (k, p) in some.step_by(one_in()).enumerate() {
+    for (k, p) in some.step_by(one_in() | 1).enumerate() {
         run.sheet(&p, &Run::widths_of(k, 1), 1);
     }
     run.drawn(|random| random.shortened_parameters(12), count(1000), 2, 200);

@@ -2,7 +2,7 @@
 //! stays. A blank page, which is no refusal, has its place among them. Full sub-words and shortened ones.
 
 use compare::call::{Call, NAMES, Name};
-use compare::draw::{conditions, exact, one_in, say, seed, spoil};
+use compare::draw::{conditions, exact, many_drawn, one_in, say, seed, spoil};
 use reference::Parameters;
 use reference::calls::{BLANK, QUOTE_BYTES};
 use reference::parameters::Sheet;
@@ -25,13 +25,13 @@ fn refuse(random: &mut Random, p: &Parameters, met: &mut BTreeSet<(Name, u32)>) 
                 continue;
             }
             calls += 1;
-            let (number, lent) = call
+            let (number, lent, list) = call
                 .compare(random.from_to(0, 255))
                 .unwrap_or_else(|found| panic!("seed {}, conditions {chosen:?}: {found}", seed()));
             assert_eq!(number, name.refused_by(chosen[0]), "{name:?} {p:?}, conditions {chosen:?}");
             match (name, number) {
                 (Name::ReadOut, BLANK) => assert_eq!(lent, Sheet::of(p).ones(), "{p:?}, conditions {chosen:?}"),
-                _ => assert_eq!(lent, call.lent),
+                _ => assert_eq!((lent, list), (call.lent, call.list)),
             }
             met.insert((name, chosen[0]));
         }
@@ -63,6 +63,19 @@ fn first_number_and_untouched_bytes() {
     }
 }
 
+/// Sheets on which a number is gone through.
+const BASES: [Parameters; 3] = [
+    Parameters::full(4, 3, 2, [1, 2, 3, 0]),
+    Parameters::full(8, 4, 3, [4, 8, 16, 42]),
+    Parameters::full(12, 4, 1, [1, 2, 0, 0]),
+];
+
+/// Small numbers, some round powers of 2, the greatest.
+fn wide() -> impl Iterator<Item = u32> {
+    let small = (0..=140).step_by(one_in());
+    small.chain([254, 255, 256, 257, 260, 264, 268, 4094, 4095, 1 << 16, 1 << 31, u32::MAX - 1, u32::MAX])
+}
+
 /// Each number of the parameters over a range, the others right: the edges of every rule.
 #[test]
 fn every_parameter_over_a_range() {
@@ -79,14 +92,8 @@ fn every_parameter_over_a_range() {
             }
         }
     };
-    let small = (0..=140).step_by(one_in());
-    let wide = small.chain([254, 255, 256, 257, 260, 264, 268, 4094, 4095, 1 << 16, 1 << 31, u32::MAX - 1, u32::MAX]);
-    for base in [
-        Parameters::full(4, 3, 2, [1, 2, 3, 0]),
-        Parameters::full(8, 4, 3, [4, 8, 16, 42]),
-        Parameters::full(12, 4, 1, [1, 2, 0, 0]),
-    ] {
-        for number in wide.clone() {
+    for base in BASES {
+        for number in wide() {
             compare(&mut random, Parameters { q: number, ..base });
             compare(&mut random, Parameters { m: number, ..base });
             compare(&mut random, Parameters { v: number, ..base });
@@ -117,6 +124,34 @@ fn every_parameter_over_a_range() {
     say(&format!("parameters: {calls} calls, seed {}", seed()));
 }
 
+/// Each width and each count of pages over a range, with buffers that fit: 5 and 9, but for 1 to 64 and 1 to 16.
+#[test]
+fn every_width_and_count_over_a_range() {
+    let mut random = Random::new(seed() + 5);
+    for base in BASES {
+        for p in [base, random.shortened(&base)] {
+            for number in wide() {
+                let answer = |call: &Call| {
+                    let found = call.compare(0).unwrap_or_else(|found| panic!("seed {}: {found}", seed()));
+                    let left = (&found.1, &found.2) == (&call.lent, &call.list);
+                    assert!(found.0 == 0 || left, "{:?} {p:?}, {number}: bytes are altered", call.name);
+                    found.0
+                };
+                for name in [Name::Write, Name::WriteMany] {
+                    let expected = if (1..=64).contains(&number) { 0 } else { 5 };
+                    let call = Call { number, ..exact(&mut random, name, &p) };
+                    assert_eq!(answer(&call), expected, "{name:?} {p:?}, width {number}");
+                }
+                // For great counts those of one page.
+                let pages = if number <= 40 { number } else { 1 };
+                let call = Call { count: number, ..many_drawn(&mut random, &p, pages as usize) };
+                let expected = if (1..=16).contains(&number) { 0 } else { 9 };
+                assert_eq!(answer(&call), expected, "{p:?}, {number} pages");
+            }
+        }
+    }
+}
+
 #[test]
 fn every_length_near_the_exact_one() {
     let mut random = Random::new(seed() + 2);
@@ -125,11 +160,16 @@ fn every_length_near_the_exact_one() {
     for p in full.into_iter().chain(shortened) {
         for name in NAMES.into_iter().filter(|name| name.reads()) {
             let call = exact(&mut random, name, &p);
+            // None, one less, the length, one more; only none where the call has no such buffer.
+            let near = |exact: usize| BTreeSet::from([0, exact.saturating_sub(1), exact, exact + 1]);
+            let lents = if name.writes() { near(call.lent.len()) } else { BTreeSet::from([0]) };
+            let lists = if name == Name::WriteMany { near(call.list.len()) } else { BTreeSet::from([0]) };
             for read in (0..call.read.len() + 40).filter(|&length| p.q == 4 || length + 40 > call.read.len()) {
-                for lent in [0, call.lent.len().saturating_sub(1), call.lent.len(), call.lent.len() + 1] {
+                for (&lent, &list) in lents.iter().flat_map(|lent| lists.iter().map(move |list| (lent, list))) {
                     let mut call = call.clone();
                     call.read.resize(read, 0);
-                    call.lent.resize(if name.writes() { lent } else { 0 }, 0xA5);
+                    call.lent.resize(lent, 0xA5);
+                    call.list.resize(list, 0xA5);
                     if let Err(found) = call.compare(0) {
                         panic!("seed {}: {found}", seed());
                     }
@@ -155,8 +195,15 @@ fn lengths_of_another_shortening() {
             let blocks_differ = sheet.blocks_bytes() != other.blocks_bytes();
             let pages_differ = sheet.page_bytes() != other.page_bytes();
             for name in NAMES.into_iter().filter(|name| name.reads()) {
-                let (right, wrong) = (exact(&mut random, name, &p), exact(&mut random, name, &of));
-                let has_blocks = matches!(name, Name::Write | Name::ReadOut);
+                let (right, wrong) = match name {
+                    // As many pages, so that a length is another by s alone.
+                    Name::WriteMany => {
+                        let count = random.from_to(1, 16);
+                        (many_drawn(&mut random, &p, count), many_drawn(&mut random, &of, count))
+                    }
+                    _ => (exact(&mut random, name, &p), exact(&mut random, name, &of)),
+                };
+                let has_blocks = matches!(name, Name::Write | Name::WriteMany | Name::ReadOut);
                 for (blocks, page) in [(true, false), (false, true), (true, true)] {
                     let number = match name {
                         _ if blocks && blocks_differ && has_blocks => 6,
@@ -164,7 +211,7 @@ fn lengths_of_another_shortening() {
                         _ => continue,
                     };
                     let (read, lent) = match name {
-                        Name::Write => (blocks, page),
+                        Name::Write | Name::WriteMany => (blocks, page),
                         _ => (page, blocks && has_blocks),
                     };
                     let mut call = right.clone();
@@ -175,13 +222,13 @@ fn lengths_of_another_shortening() {
                         call.lent = wrong.lent.clone();
                     }
                     let found = call.compare(0).unwrap_or_else(|found| panic!("seed {}: {found}", seed()));
-                    assert_eq!(found, (number, call.lent), "{name:?} {p:?} with buffers of s = {}", of.s);
+                    assert_eq!(found, (number, call.lent, call.list), "{name:?} {p:?} with buffers of s = {}", of.s);
                     met.insert((name, number));
                 }
             }
         }
     }
-    let with_blocks = [Name::Write, Name::ReadOut].map(|name| (name, 6));
+    let with_blocks = [Name::Write, Name::WriteMany, Name::ReadOut].map(|name| (name, 6));
     let with_page = NAMES.into_iter().filter(|name| name.reads()).map(|name| (name, 7));
     assert_eq!(met, with_page.chain(with_blocks).collect());
 }
@@ -206,8 +253,8 @@ fn every_length_of_a_quote() {
     for p in refused.into_iter().chain([A]).chain(drawn).chain(shortened) {
         // Small ones, and ones that are the exact length modulo 2^8 or 2^16.
         for length in (0..=4 * QUOTE_BYTES).chain([QUOTE_BYTES + (1 << 8), QUOTE_BYTES + (1 << 16)]) {
-            let call = Call { name: Name::Quote, p, number: 0, read: Vec::new(), lent: random.bytes(length) };
-            let (number, lent) = call.compare(length).unwrap_or_else(|found| panic!("seed {}: {found}", seed()));
+            let call = Call::new(Name::Quote, &p, 0, Vec::new(), random.bytes(length));
+            let (number, lent, _) = call.compare(length).unwrap_or_else(|found| panic!("seed {}: {found}", seed()));
             let expected = match p.refusal() {
                 0 if length == QUOTE_BYTES => 0,
                 0 => 10,

@@ -41,7 +41,8 @@
 //!
 //! `build.rs` links the archive that the variable `GII_ARCHIVE` names (a path from `rust/`), or
 //! `target/staticlib/libgii_bch.a` of the repository, which `rt staticlib gii_bch` makes. It is for x86-64 and takes at
-//! most 32 KiB of stack a call. Calls may run at once in several threads.
+//! most 192 KiB of stack for [`Sheet::write_many`] and at most 32 KiB for every other call. Calls may run at once in several
+//! threads.
 
 #![no_std]
 #![deny(missing_docs)]
@@ -64,6 +65,10 @@ macro_rules! c_functions {
 
 c_functions! {
     fn gii_write(width: u32, blocks: *const u8, blocks_len: usize, page: *mut u8, page_len: usize);
+    fn gii_write_many(
+        width: u32, count: u32, blocks: *const u8, blocks_len: usize, pages: *mut u8, pages_len: usize, list: *mut u8,
+        list_len: usize
+    );
     fn gii_read_out(page: *const u8, page_len: usize, blocks: *mut u8, blocks_len: usize);
     fn gii_judge(page: *const u8, page_len: usize);
     fn gii_syndromes(page: *const u8, page_len: usize, index: u32, list: *mut u8, list_len: usize);
@@ -112,6 +117,9 @@ pub struct Quote {
 /// Bytes of a quote: twelve numbers of two bytes.
 pub const QUOTE_BYTES: usize = 24;
 
+/// The most pages that [`Sheet::write_many`] writes in one call.
+pub const COUNT_MAX: u32 = 16;
+
 /// What a page was found to be.
 #[derive(Clone, Copy, Debug, PartialEq, Eq, PartialOrd, Ord, Hash)]
 pub enum Verdict {
@@ -126,7 +134,8 @@ pub enum Verdict {
 }
 
 /// Why a call was refused: the first of the conditions that it met, in the order in which they stand here, but that the
-/// shortening comes after the clash and before the width. Every byte lent to it is as it was.
+/// shortening comes after the clash and before the width, and a count of pages before the blocks. Every byte lent to it is
+/// as it was.
 #[derive(Clone, Copy, Debug, PartialEq, Eq, PartialOrd, Ord, Hash)]
 #[non_exhaustive]
 pub enum Refusal {
@@ -142,11 +151,11 @@ pub enum Refusal {
     Width = 5,
     /// The blocks' length is not exact.
     Blocks = 6,
-    /// The page's length is not exact.
+    /// The page's length, or that of many pages, is not exact.
     Page = 7,
     /// A spare bit of the page, or an unused bit of the blocks, that is read is 1.
     Stray = 8,
-    /// There is no such sub-word or nested word.
+    /// There is no such sub-word or nested word; or the count of pages is not 1 to 16.
     Index = 9,
     /// The list's length is not exact.
     List = 10,
@@ -235,7 +244,7 @@ impl fmt::Display for Refusal {
             Refusal::Blocks => "the blocks' length is not exact",
             Refusal::Page => "the page's length is not exact",
             Refusal::Stray => "a spare or unused bit is 1",
-            Refusal::Index => "no such sub-word or nested word",
+            Refusal::Index => "no such sub-word or nested word, or not 1 to 16 pages",
             Refusal::List => "the list's length is not exact",
             Refusal::Blank => "the page would be blank",
             Refusal::Shortening => "s leaves a block without data",
@@ -414,6 +423,58 @@ impl Sheet {
     /// ```
     pub fn write(&self, width: u32, blocks: &[u8], page: &mut [u8]) -> Result<(), Refusal> {
         done(call!(gii_write, self, width, blocks.as_ptr(), blocks.len(), page.as_mut_ptr(), page.len()))
+    }
+
+    /// The pages of `count` sets of blocks, 1 to [`COUNT_MAX`] of them: what as many calls of [`Sheet::write`] do, but what
+    /// each of them would work out of the sheet is worked out once. The sets of blocks stand one behind another, and so do the
+    /// pages. `list` has one byte for each page, the number that [`Sheet::write`] of it alone gives: 0, or 8
+    /// ([`Refusal::Stray`]: an unused bit of its blocks), or 13 ([`Refusal::Blank`]: it would be blank). A page that is listed
+    /// as 8 or 13 keeps its bytes, and the others are written.
+    ///
+    /// The call is done whatever is listed. It refuses the parameters, the width, the count (by [`Refusal::Index`]), and then
+    /// the lengths: those of the blocks and of the pages are `count` times a single one, that of the list is `count`.
+    ///
+    /// ```
+    /// # use gii_bch::{Refusal, Sheet};
+    /// let sheet = Sheet::new(4, 2, 1, [1, 2, 0, 0]);
+    /// let blocks = [
+    ///     [0x01, 0x01, 0x00],
+    ///     [0x81, 0x01, 0x00], // the top bit of a block of seven data bits
+    ///     [0x7F, 0xFF, 0x07], // every data bit
+    ///     [0x00, 0x01, 0x00],
+    /// ];
+    /// let (mut pages, mut list) = ([[0xA5; 4]; 4], [0xA5; 4]);
+    /// sheet.write_many(64, 4, blocks.as_flattened(), pages.as_flattened_mut(), &mut list)?;
+    /// assert_eq!(list, [0, 8, 13, 0]);
+    /// assert_eq!(pages, [[0xC2, 0x01, 0x13, 0x00], [0xA5; 4], [0xA5; 4], [0x13, 0x00, 0x13, 0x00]]);
+    ///
+    /// // The count is a number of its own, and is looked at before the lengths.
+    /// let refused = sheet.write_many(64, 17, blocks.as_flattened(), pages.as_flattened_mut(), &mut list);
+    /// assert_eq!(refused, Err(Refusal::Index));
+    /// let refused = sheet.write_many(64, 3, blocks.as_flattened(), pages.as_flattened_mut(), &mut list);
+    /// assert_eq!(refused, Err(Refusal::Blocks));
+    /// # Ok::<(), gii_bch::Refusal>(())
+    /// ```
+    pub fn write_many(
+        &self,
+        width: u32,
+        count: u32,
+        blocks: &[u8],
+        pages: &mut [u8],
+        list: &mut [u8],
+    ) -> Result<(), Refusal> {
+        done(call!(
+            gii_write_many,
+            self,
+            width,
+            count,
+            blocks.as_ptr(),
+            blocks.len(),
+            pages.as_mut_ptr(),
+            pages.len(),
+            list.as_mut_ptr(),
+            list.len()
+        ))
     }
 
     /// The data bits of the page, member or not, blank or not, and what [`Sheet::judge`] gives for it. Nothing is corrected.

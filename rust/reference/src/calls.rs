@@ -1,4 +1,4 @@
-//! The nine C calls, on slices. Each gives the requirement's number; a refusal leaves every byte.
+//! The ten C calls, on slices. Each gives the requirement's number; a refusal leaves every byte.
 
 use crate::parameters::{Condition, Parameters, Sheet, first};
 
@@ -34,6 +34,35 @@ pub fn write(p: &Parameters, width: u32, blocks: &[u8], page: &mut [u8]) -> u32 
         return 13;
     }
     page.copy_from_slice(&made);
+    0
+}
+
+/// The most pages of one call.
+pub const MOST_PAGES: u32 = 16;
+
+/// Page by page: each is what a call of its own makes of it, and its number is listed.
+pub fn write_many(p: &Parameters, width: u32, count: u32, blocks: &[u8], pages: &mut [u8], list: &mut [u8]) -> u32 {
+    let sheet = || Sheet::of(p);
+    // As 128-bit numbers, in which no product wraps.
+    let is_many = |length: usize, one: usize| length as u128 == u128::from(count) * one as u128;
+    let refused = refusal(
+        p,
+        &[
+            (5, &|| !(1..=64).contains(&width)),
+            (9, &|| !(1..=MOST_PAGES).contains(&count)),
+            (6, &|| !is_many(blocks.len(), sheet().blocks_bytes())),
+            (7, &|| !is_many(pages.len(), sheet().page_bytes())),
+            (10, &|| !is_many(list.len(), 1)),
+        ],
+    );
+    if refused != 0 {
+        return refused;
+    }
+    let blocks = blocks.chunks_exact(sheet().blocks_bytes());
+    let pages = pages.chunks_exact_mut(sheet().page_bytes());
+    for ((blocks, page), listed) in blocks.zip(pages).zip(list) {
+        *listed = write(p, width, blocks, page) as u8;
+    }
     0
 }
 

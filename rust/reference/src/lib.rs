@@ -11,7 +11,7 @@
 //! - a shortened sub-word is a full one, of n coefficients, of which a page has the lower n − s;
 //! - that blocks are refused because their page would be blank is seen from the page, which is made first.
 //!
-//! `calls` has the nine C calls by these means; a degree is a generator's length less one. `sample` draws inputs from a seed.
+//! `calls` has the ten C calls by these means; a degree is a generator's length less one. `sample` draws inputs from a seed.
 
 pub mod calls;
 pub mod elimination;

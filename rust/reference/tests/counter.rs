@@ -3,6 +3,7 @@
 
 use reference::calls::{
     BLANK, QUOTE_BYTES, data_bytes, distance, judge, nested_syndromes, page_bytes, quote, read_out, syndromes, write,
+    write_many,
 };
 use reference::field::Field;
 use reference::generator::Level;
@@ -228,6 +229,38 @@ fn widths_and_lengths() {
     for length in [3, 5] {
         assert_eq!(write(&A, 8, &blocks, &mut vec![0; length]), 7);
         assert_eq!(judge(&A, &vec![0; length]), 7);
+    }
+}
+
+/// Each page as it is alone: written, refused by a stray bit, by both, or since it would be blank; and the order of what
+/// refuses the call: the width, the count, the lengths of blocks, pages and list.
+#[test]
+fn many_pages() {
+    let sets = [[0x01, 0x01, 0x00], [0x81, 0x01, 0x00], [0xFF, 0xFF, 0x07], [0x7F, 0xFF, 0x07], [0x00, 0x01, 0x00]];
+    let (mut pages, mut list) = ([[0xA5; 4]; 5], [0xA5; 5]);
+    assert_eq!(write_many(&A, 8, 5, sets.as_flattened(), pages.as_flattened_mut(), &mut list), 0);
+    assert_eq!(list, [0, 8, 8, 13, 0]);
+    assert_eq!(pages, [[0xC2, 0x01, 0x13, 0x00], [0xA5; 4], [0xA5; 4], [0xA5; 4], [0x13, 0x00, 0x13, 0x00]]);
+
+    for (width, count, blocks, room, listed, expected) in [
+        (0, 0, 0, 0, 0, 5),
+        (8, 0, 0, 0, 0, 9),
+        (8, 17, 51, 68, 17, 9),
+        (8, u32::MAX, 3, 4, 1, 9),
+        (8, (1 << 30) + 1, 3, 4, 1, 9),
+        (8, 2, 3, 4, 1, 6),
+        (8, 2, 7, 8, 2, 6),
+        (8, 2, 6, 9, 1, 7),
+        (8, 2, 6, 8, 1, 10),
+        (8, 2, 6, 8, 3, 10),
+        (8, 1, 3, 4, 1, 0),
+        (8, 16, 48, 64, 16, 0),
+    ] {
+        let (mut pages, mut list) = (vec![0xA5; room], vec![0xA5; listed]);
+        let number = write_many(&A, width, count, &vec![0; blocks], &mut pages, &mut list);
+        assert_eq!(number, expected, "{count} pages, lengths {blocks}, {room}, {listed}");
+        let holds = if expected == 0 { 0 } else { 0xA5 };
+        assert_eq!((pages, list), (vec![holds; room], vec![holds; listed]), "{count} pages");
     }
 }
 

@@ -294,6 +294,163 @@ fn write(p: &Parameters, width: u32, blocks: &[u8], page: &mut [u8]) -> u32 {
     number
 }
 
+/// The blocks with their unused bits 0.
+fn without_stray(sheet: &Sheet, blocks: &[u8]) -> Vec<u8> {
+    blocks.iter().zip(sheet.ones()).map(|(byte, used)| byte & used).collect()
+}
+
+/// The refusal of write many, by its tests in the order that the fault gives them.
+fn many_refusal(p: &Parameters, width: u32, count: u32, lengths: [usize; 3]) -> u32 {
+    match p.refusal() {
+        14 if fault("many-shortening-after-width") && !(1..=64).contains(&width) => return 5,
+        0 => {}
+        number => return number,
+    }
+    let sheet = Sheet::of(p);
+    let most = match () {
+        _ if fault("many-count-17") => 17,
+        _ if fault("many-count-15") => 15,
+        _ => calls::MOST_PAGES,
+    };
+    let ones = [sheet.blocks_bytes(), sheet.page_bytes(), 1];
+    let exact = |k: usize| {
+        let (length, product) = (lengths[k] as u64, u64::from(count) * ones[k] as u64);
+        let bits = match () {
+            _ if fault("many-lengths-modulo-2-8") => 8,
+            _ if fault("many-lengths-modulo-2-16") => 16,
+            _ => 64,
+        };
+        // A longer buffer, never a shorter one.
+        length >= product && (length - product) << (64 - bits) == 0
+    };
+    // Whether the length is a product that wraps in 32 bits.
+    let wraps = |k: usize| {
+        let (product, wrapped) = count.overflowing_mul(ones[k] as u32);
+        wrapped && lengths[k] as u32 == product
+    };
+    let met = |condition: &u32| match condition {
+        5 => !(1..=64).contains(&width),
+        9 if fault("many-count-wraps") && wraps(0) && wraps(1) => false,
+        9 => count > most || count == 0 && !fault("many-count-0"),
+        6 => !exact(0),
+        7 => !exact(1),
+        _ => !exact(2),
+    };
+    let order: &[u32] = match () {
+        _ if fault("many-count-before-width") => &[9, 5, 6, 7, 10],
+        _ if fault("many-count-after-blocks") => &[5, 6, 9, 7, 10],
+        _ if fault("many-count-after-pages") => &[5, 6, 7, 9, 10],
+        _ if fault("many-count-after-list") => &[5, 6, 7, 10, 9],
+        _ if fault("many-pages-before-blocks") => &[5, 9, 7, 6, 10],
+        _ if fault("many-list-before-count") => &[5, 10, 9, 6, 7],
+        _ if fault("many-list-before-blocks") => &[5, 9, 10, 6, 7],
+        _ if fault("many-list-before-pages") => &[5, 9, 6, 10, 7],
+        _ if fault("many-list-any-length") => &[5, 9, 6, 7],
+        _ => &[5, 9, 6, 7, 10],
+    };
+    order.iter().copied().find(met).unwrap_or(0)
+}
+
+fn write_many(p: &Parameters, width: u32, count: u32, blocks: &[u8], pages: &mut [u8], list: &mut [u8]) -> u32 {
+    let count = match () {
+        _ if fault("many-count-modulo-2-8") => count % (1 << 8),
+        _ if fault("many-count-modulo-2-16") => count % (1 << 16),
+        _ => count,
+    };
+    let number = many_refusal(p, width, count, [blocks.len(), pages.len(), list.len()]);
+    if number != 0 {
+        if fault("many-list-cleared") {
+            list.fill(0);
+        }
+        if fault("many-half-written") && !pages.is_empty() {
+            pages[0] = 0;
+        }
+        leave(number, list);
+        return leave(number, pages);
+    }
+    let sheet = Sheet::of(p);
+    let (data, length, count) = (sheet.blocks_bytes(), sheet.page_bytes(), count as usize);
+    let set_of = |k: usize| &blocks[k * data..][..data];
+    let mut listed = vec![0; count];
+    for k in 0..count {
+        let from = if fault("many-blocks-before") { k.saturating_sub(1) } else { k };
+        let fits = without_stray(&sheet, set_of(from));
+        let ones = fits == sheet.ones();
+        let page = &mut pages[k * length..][..length];
+        let old = page.to_vec();
+        let taken = if fault("many-stray-of-first-page") && k > 0 { &fits } else { set_of(from) };
+        let number = match calls::write(p, width, taken, page) {
+            8 if fault("many-13-before-8") && ones && p.s == 0 => 13,
+            0 if fault("many-ones-refused-shortened") && ones => 13,
+            0 if fault("many-stray-carried") && k > 0 && listed[k - 1] == 8 => 8,
+            number => number,
+        };
+        if number != 0 {
+            page.copy_from_slice(&old);
+        }
+        if number != 0 && fault("many-refused-cleared") {
+            page.fill(0);
+        }
+        if number == 8 && fault("many-stray-written") {
+            calls::write(p, width, &fits, page);
+        }
+        if number == 13 && fault("many-blank-written") {
+            page.copy_from_slice(&sheet.erased(0));
+        }
+        if number == 0 {
+            if fault("many-level-0-only") && k > 0 {
+                level_0_only(p, taken, page);
+            }
+            if fault("many-refused-carried") && k > 0 && listed[k - 1] != 0 {
+                page[0] ^= 1;
+            }
+            if fault("many-width-37") && width == 37
+                || fault("many-page-16") && k == 15
+                || fault("many-one-strength") && p.t[p.v as usize] == 64
+            {
+                page[length - 1] ^= 1;
+            }
+            if fault("many-last-left") && k + 1 == count {
+                page.copy_from_slice(&old);
+            }
+        }
+        listed[k] = number as u8;
+        if fault("many-stray-stops") && number == 8 || fault("many-blank-stops") && number == 13 {
+            break;
+        }
+    }
+    let refused = listed.iter().copied().find(|&number| number != 0);
+    if fault("many-list-reversed") {
+        listed.reverse();
+    }
+    for (place, number) in list.iter_mut().zip(listed.clone()) {
+        *place = match number {
+            0 if fault("many-done-not-listed") => *place,
+            8 | 13 if fault("many-refused-not-listed") => 0,
+            8 | 13 if fault("many-listed-by-1") => 1,
+            13 if fault("many-13-as-8") => 8,
+            number => number,
+        };
+    }
+    if fault("many-overrun") {
+        unsafe { *black_box(pages.as_mut_ptr()).add(pages.len()) = 0 };
+    }
+    if fault("many-list-overrun") {
+        unsafe { *black_box(list.as_mut_ptr()).add(list.len()) = 0 };
+    }
+    if fault("many-clears-stray") && listed.contains(&8) {
+        for k in 0..count {
+            let fits = without_stray(&sheet, set_of(k));
+            unsafe { black_box(blocks.as_ptr().cast_mut()).add(k * data).copy_from(fits.as_ptr(), data) };
+        }
+    }
+    match refused {
+        Some(_) if fault("many-answers-8") => 8,
+        Some(number) if fault("many-all-refused") && !listed.contains(&0) => number.into(),
+        _ => 0,
+    }
+}
+
 fn read_out(p: &Parameters, page: &[u8], blocks: &mut [u8]) -> u32 {
     let erased = sheet_of(p, page).filter(|sheet| sheet.blank(page));
     let cut = erased.as_ref().is_some_and(|sheet| blocks.len() != sheet.blocks_bytes());
@@ -489,6 +646,10 @@ macro_rules! exported {
 exported! {
     gii_write(width: u32, blocks: *const u8, blocks_len: usize, page: *mut u8, page_len: usize)
         = write(width, from_raw_parts(blocks, blocks_len), from_raw_parts_mut(page, page_len));
+    gii_write_many(width: u32, count: u32, blocks: *const u8, blocks_len: usize, pages: *mut u8, pages_len: usize,
+        list: *mut u8, list_len: usize)
+        = write_many(width, count, from_raw_parts(blocks, blocks_len), from_raw_parts_mut(pages, pages_len),
+            from_raw_parts_mut(list, list_len));
     gii_read_out(page: *const u8, page_len: usize, blocks: *mut u8, blocks_len: usize)
         = read_out(from_raw_parts(page, page_len), from_raw_parts_mut(blocks, blocks_len));
     gii_judge(page: *const u8, page_len: usize)

@@ -6,10 +6,13 @@
 //! sample the mean of as many calls as fill about a millisecond; beside it stand the tenth and the ninetieth percentile.
 //! Samples of all rows take turns, so that a disturbance of the machine falls on all. Buffers are not cleared between
 //! calls, and the data are drawn once. The reference keeps its generators and tables between calls, the archive nothing.
-//! Last, write on shortened sub-words in times of write on full ones; ends with status 1 where it is above the limit.
+//! The time of a write of 16 pages is that of each: a sixteenth of the call's.
+//! Last, write on shortened sub-words in times of write on full ones, and 16 pages in one call in times of single calls; ends
+//! with status 1 where one is above its limit.
 
 use compare::call::{Call, Name};
-use compare::work::{LIMIT, WIDTHS, stated};
+use compare::draw::many;
+use compare::work::{LIMIT, MANY_LIMIT, PAGES, WIDTHS, many_stated, stated};
 use reference::Parameters;
 use reference::calls::QUOTE_BYTES;
 use reference::parameters::Sheet;
@@ -31,12 +34,14 @@ const SHEETS: [Parameters; 5] = [
 struct Timed {
     run: Box<dyn FnMut()>,
     calls_in_sample: usize,
+    /// The pages of a call, by which its time is divided.
+    pages: usize,
     nanoseconds: Vec<f64>,
 }
 
 impl Timed {
-    fn new(run: impl FnMut() + 'static) -> Timed {
-        let mut timed = Timed { run: Box::new(run), calls_in_sample: 1, nanoseconds: Vec::new() };
+    fn new(pages: usize, run: impl FnMut() + 'static) -> Timed {
+        let mut timed = Timed { run: Box::new(run), calls_in_sample: 1, pages, nanoseconds: Vec::new() };
         timed.sample();
         while timed.sample() * (timed.calls_in_sample as f64) < SAMPLE_NANOSECONDS {
             timed.calls_in_sample *= 2;
@@ -53,9 +58,10 @@ impl Timed {
         start.elapsed().as_nanos() as f64 / self.calls_in_sample as f64
     }
 
-    /// The 10th, 50th and 90th percentile of the sorted samples.
+    /// The 10th, 50th and 90th percentile of the sorted samples, for one page.
     fn percentiles(&self) -> [f64; 3] {
-        [10, 50, 90].map(|percent| self.nanoseconds[(self.nanoseconds.len() - 1) * percent / 100])
+        let samples = &self.nanoseconds;
+        [10, 50, 90].map(|percent| samples[(samples.len() - 1) * percent / 100] / self.pages as f64)
     }
 }
 
@@ -89,10 +95,10 @@ fn rows() -> Vec<Row> {
     };
 
     let (from, mut to) = (random.bytes(4096), vec![0; 4096]);
-    let memcpy = Timed::new(move || black_box(&mut to[..]).copy_from_slice(black_box(&from)));
+    let memcpy = Timed::new(1, move || black_box(&mut to[..]).copy_from_slice(black_box(&from)));
     let (table, bytes) = (crc_table(), random.bytes(4096));
     assert_eq!(crc(&table, b"123456789"), 0xCBF4_3926);
-    let crc = Timed::new(move || {
+    let crc = Timed::new(1, move || {
         black_box(crc(black_box(&table), black_box(&bytes)));
     });
 
@@ -101,23 +107,32 @@ fn rows() -> Vec<Row> {
     rows
 }
 
+/// Drawn blocks, unused bits 0.
+fn drawn_blocks(random: &mut Random, sheet: &Sheet) -> Vec<u8> {
+    let mut blocks = vec![0; sheet.blocks_bytes()];
+    sheet.put_blocks(&sheet.words_of_blocks(&random.bytes(sheet.blocks_bytes())), &mut blocks);
+    blocks
+}
+
 /// Every call on a member of drawn data.
 fn sheet_rows(random: &mut Random, p: Parameters) -> Vec<Row> {
     let sheet = Sheet::of(&p);
     let t: Vec<String> = p.t[..=p.v as usize].iter().map(u32::to_string).collect();
     let shortened = if p.s == 0 { String::new() } else { format!(" s {}", p.s) };
     let title = format!("q {} m {} v {} t {}{shortened}", p.q, p.m, p.v, t.join(" "));
-    let mut blocks = vec![0; sheet.blocks_bytes()];
-    sheet.put_blocks(&sheet.words_of_blocks(&random.bytes(sheet.blocks_bytes())), &mut blocks);
+    let blocks = drawn_blocks(random, &sheet);
     let mut page = vec![0; sheet.page_bytes()];
-    let write = |number| Call { name: Name::Write, p, number, read: blocks.clone(), lent: vec![0; sheet.page_bytes()] };
-    assert_eq!(write(64).by_reference(&blocks, &mut page), 0);
-    let read = |name, lent| Call { name, p, number: 0, read: page.clone(), lent: vec![0; lent] };
-    let without_page = |name, lent| Call { name, p, number: 0, read: Vec::new(), lent: vec![0; lent] };
+    let write = |number| Call::new(Name::Write, &p, number, blocks.clone(), vec![0; sheet.page_bytes()]);
+    assert_eq!(write(64).by_reference(&blocks, &mut page, &mut []), 0);
+    let read = |name, lent| Call::new(name, &p, 0, page.clone(), vec![0; lent]);
+    let without_page = |name, lent| Call::new(name, &p, 0, Vec::new(), vec![0; lent]);
+    let sets: Vec<Vec<u8>> = (0..PAGES).map(|_| drawn_blocks(random, &sheet)).collect();
+    let write_many = many(random, &p, &sets);
 
     let row = |call: Call| {
         let (name, width) = match call.name {
             Name::Write => ("write", call.number.to_string()),
+            Name::WriteMany => ("write of 16 pages (each)", call.number.to_string()),
             Name::ReadOut => ("read out", String::new()),
             Name::Judge => ("judge", String::new()),
             Name::Syndromes => ("syndromes", String::new()),
@@ -128,16 +143,23 @@ fn sheet_rows(random: &mut Random, p: Parameters) -> Vec<Row> {
             Name::Distance => ("distance", String::new()),
         };
         let bytes = if call.name.reads() { sheet.page_bytes() } else { 0 };
-        let answer = call.by_reference(&call.read, &mut call.lent.clone());
+        let mut list = call.list.clone();
+        let answer = call.by_reference(&call.read, &mut call.lent.clone(), &mut list);
         assert!(!call.name.refuses(answer), "{name} is refused by {answer}");
-        let timed = |made: fn(&Call, &[u8], &mut [u8]) -> u32| {
-            let (call, mut lent) = (call.clone(), call.lent.clone());
-            Timed::new(move || assert_eq!(made(black_box(&call), black_box(&call.read), black_box(&mut lent)), answer))
+        assert!(list.iter().all(|&listed| listed == 0), "{name} lists {list:?}");
+        let pages = if call.name == Name::WriteMany { PAGES } else { 1 };
+        let timed = |made: fn(&Call, &[u8], &mut [u8], &mut [u8]) -> u32| {
+            let (call, mut lent, mut list) = (call.clone(), call.lent.clone(), call.list.clone());
+            Timed::new(pages, move || {
+                let number = made(black_box(&call), black_box(&call.read), black_box(&mut lent), black_box(&mut list));
+                assert_eq!(number, answer);
+            })
         };
         let sides = vec![("archive", timed(Call::by_archive)), ("reference", timed(Call::by_reference))];
         Row { sheet: title.clone(), call: name, width, bytes, sides }
     };
     let mut rows: Vec<Row> = WIDTHS.into_iter().map(|width| row(write(width))).collect();
+    rows.extend(WIDTHS.into_iter().map(|width| row(Call { number: width, ..write_many.clone() })));
     rows.push(row(read(Name::ReadOut, blocks.len())));
     rows.push(row(read(Name::Judge, 0)));
     rows.push(row(read(Name::Syndromes, 4 * p.t[0] as usize)));
@@ -230,9 +252,9 @@ fn main() {
         std::fs::write(&file, csv).expect("the file can be written");
     }
 
-    let (line, most) = stated();
-    println!("\n{line}.");
-    if most > LIMIT {
+    let ((line, most), (many_line, ratio)) = (stated(), many_stated());
+    println!("\n{line}.\n\n{many_line}.");
+    if most > LIMIT || ratio > MANY_LIMIT {
         std::process::exit(1);
     }
 }

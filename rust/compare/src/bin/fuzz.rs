@@ -1,6 +1,6 @@
 //! Any calls, archive and reference alike: fuzz CALLS, 100,000 if none is given. The seed is GII_SEED, or 1.
 
-use compare::call::NAMES;
+use compare::call::{NAMES, Name};
 use compare::draw;
 use reference::sample::Random;
 use std::collections::BTreeMap;
@@ -11,13 +11,17 @@ fn main() {
     println!("fuzz: {calls} calls, seed {seed}");
     let mut random = Random::new(seed);
     let mut answers = BTreeMap::new();
+    let mut pages = BTreeMap::new();
     for count in 1..=calls {
         let call = draw::any(&mut random);
         match call.compare(random.from_to(0, 255)) {
-            Ok((number, _)) => {
+            Ok((number, _, list)) => {
                 // Sizes are counted together.
                 let number = if call.name.is_size() { number.min(1) } else { number };
                 *answers.entry((call.name, number)).or_insert(0) += 1;
+                if call.name == Name::WriteMany && number == 0 {
+                    list.iter().for_each(|listed| *pages.entry(*listed).or_insert(0) += 1);
+                }
             }
             Err(found) => {
                 println!("seed {seed}, call {count}: {found}");
@@ -39,5 +43,7 @@ fn main() {
             .collect();
         println!("{name:?}  {}", of_name.join(", "));
     }
+    let listed: Vec<String> = pages.iter().map(|(listed, times)| format!("{listed}: {times}")).collect();
+    println!("of many pages listed  {}", listed.join(", "));
     println!("{calls} calls alike");
 }
