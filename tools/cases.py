@@ -7,8 +7,8 @@
 
 The first writes the tables of Own.antt, in rt fmt's layout; the second says nothing where they stand there already, else
 it names the file and ends with 1. A row has what a definition gives, as a term, and what this program works out, as
-numbers; the rows are of definitions that no compiled call gives back, and of the calls on erased pages and on shortened
-sheets. What the calls give is compared by programs: tools/trial.py, tools/counter.py and tools/writer.py take their
+numbers; the rows are of definitions that no compiled call gives back, and of the calls on erased pages, on shortened
+sheets and on many pages. What the calls give is compared by programs: tools/trial.py, tools/counter.py and tools/writer.py take their
 answers from here.
 
 It shares no method with the definitions: generators by trying every polynomial, pages by elimination on the code's
@@ -422,13 +422,14 @@ def broken(sheet):
     return not (1 <= used[0] < used[1] and rises and used[v] <= 64 and 2 * used[v] <= length(sheet) - 1 and not any(past))
 
 
-def refusal(sheet, width=None, blocks=None, page=None, fed=None, sub_word=None, nested_word=None, opening=None, room=None, register=None):
+def refusal(sheet, width=None, blocks=None, page=None, fed=None, sub_word=None, nested_word=None, opening=None, room=None, register=None, count=None):
     """The first number whose condition holds among a call's parts, 0 for none.
 
     blocks and page are lists where they are read, and lengths where they are to be written; room is the length of
-    the buffer for another result, and the exact one.
+    the buffer for another result, and the exact one. With a count, blocks and page are the lengths of so many.
     """
     q, m, v, *t, s = sheet
+    times = 1 if count is None else count
     size = lambda buffer: buffer if isinstance(buffer, int) else len(buffer)
     read = lambda buffer: isinstance(buffer, list)
     stray = lambda pieces, used: any(any(p[u:]) for p, u in zip(pieces, used))
@@ -439,8 +440,9 @@ def refusal(sheet, width=None, blocks=None, page=None, fed=None, sub_word=None, 
         (4, lambda: any(d * j % length(sheet) == 0 for d in range(1, m) for j in range(1, 2 * t[v] + 1))),
         (14, lambda: s > largest(sheet)),
         (5, lambda: width is not None and not 1 <= width <= 64),
-        (6, lambda: blocks is not None and size(blocks) != data_bytes(sheet)),
-        (7, lambda: page is not None and size(page) != page_bytes(sheet)),
+        (9, lambda: count is not None and not 1 <= count <= 16),
+        (6, lambda: blocks is not None and size(blocks) != times * data_bytes(sheet)),
+        (7, lambda: page is not None and size(page) != times * page_bytes(sheet)),
         (8, lambda: read(blocks) and stray(blocks_with_unused(sheet, blocks), block_bits(sheet))
             or read(page) and stray(words_with_spare(sheet, page), [stored(sheet)] * m)
             or fed is not None and len(bits(fed)) > width),
@@ -456,6 +458,21 @@ def refusal(sheet, width=None, blocks=None, page=None, fed=None, sub_word=None, 
 def write(sheet, width, blocks, old):
     code = refusal(sheet, width=width, blocks=blocks, page=len(old))
     return [code] + (old if code else page_of_blocks(sheet, blocks))
+
+
+def pieces(data, count):
+    """A list in `count` pieces of one length."""
+    size = len(data) // count
+    return [data[size * k:size * k + size] for k in range(count)]
+
+
+def write_many(sheet, width, count, blocks, pages, old):
+    """The call's number, the pages and the list of each page's own number: what single calls give."""
+    code = refusal(sheet, width=width, count=count, blocks=len(blocks), page=len(pages), room=(len(old), lambda: count))
+    if code:
+        return code, pages, old
+    made = [write(sheet, width, data, page) for data, page in zip(pieces(blocks, count), pieces(pages, count))]
+    return 0, [x for answer in made for x in answer[1:]], [answer[0] for answer in made]
 
 
 def verdict(sheet, page, **lent):
@@ -970,8 +987,72 @@ def short_registers():
     feedings(PAIR24, [(24, 0, 0, 0), (25, 0, 0, 0), (64, 0, 191, 0)])
 
 
-HEAD = '''-- Cases of our own, of definitions that no compiled call gives back, and of the calls on erased pages and on shortened sheets:
--- each row has what a definition gives and what an independent program says.
+def many_refused():
+    table('manyRefused', 'Many pages in one call, refused whole: the numbers in their order, counts, and lengths that are one off or of a page more or fewer.',
+          'manyRefusal')
+    exact = lambda s, count: [count * data_bytes(s), count * page_bytes(s), count]
+
+    def whole(*given):
+        in_turn([call('manyRefusal', *g) for g in given],
+                [refusal(s, width=width, count=count, blocks=blocks, page=pages, room=(room, lambda: count)) for s, width, count, blocks, pages, room in given])
+
+    def with_lengths(s, count):
+        """Each of the three lengths wrong, the others exact."""
+        right, units = exact(s, count), (data_bytes(s), page_bytes(s), 1)
+        wrong = [(at, right[at] + d) for at in range(3) for d in sorted({-units[at], -1, 1, units[at]})] + [(at, U64) for at in range(3)]
+        whole(*[(s, 8, count, *right[:at], x, *right[at + 1:]) for at, x in wrong])
+
+    sheets = [(5, 2, 1, 1, 2, 0, 0, U32), (4, 1, 1, 1, 2, 0, 0, U32), (4, 2, 1, 2, 2, 0, 0, U32), shortened(CLASH, U32), shortened(A, 7)]
+    whole(*[(s, 0, 17, 1, 1, 1) for s in sheets])
+    # one condition less with each; then one or two alone
+    whole(*[(A, *g) for g in ((0, 17, 1, 1, 1), (8, 17, 1, 1, 1), (8, 2, 1, 1, 1), (8, 2, 6, 1, 1), (8, 2, 6, 8, 1), (8, 2, 6, 8, 2))])
+    whole(*[(A, *g) for g in ((65, 2, 6, 8, 2), (0, 2, 6, 8, 1), (8, 0, 3, 4, 1), (8, 17, 6, 8, 2), (8, 2, 5, 8, 1), (8, 2, 6, 9, 1), (8, 2, 5, 9, 2))])
+    for counts in ((0, 1, 2, 15, 16, 17, 18), (256, 257, 2 ** 16 + 1, U32, 2 ** 32 + 1, U64, 2 ** 64 + 1)):
+        whole(*[(A, 8, count, *exact(A, count)) for count in counts])
+    whole(*[(A, width, 3, *exact(A, 3)) for width in (0, 1, 64, 65, U32)])
+    # lengths of other counts, all three
+    whole(*[(A, 8, count, *exact(A, other)) for count, other in ((1, 2), (2, 1), (16, 15), (16, 17), (1, 0), (0, 1), (17, 16), (U32, 1))])
+    for s, count in [(A, 1), (A, 3), (A, 16), (B4, 2)]:
+        with_lengths(s, count)
+    whole(*[(s, 8, count, *exact(s, k)) for s in (EIGHT, PAIR24) for count, k in ((16, 16), (16, 15))])
+
+
+def many_pages():
+    table('manyListed', 'Many pages in one call: the list, then the pages. Stray blocks (8) and blocks of ones (13; written where s is above 0), in every place, and alone.',
+          'statuses pagesBy pow')
+
+    def made(s, width, *sets):
+        count, blocks, pages = len(sets), [x for data in sets for x in data], some_bytes(len(sets) * page_bytes(s))
+        code, after, said = write_many(s, width, count, blocks, pages, [0xA5] * count)
+        assert code == 0 and len(after) == len(pages) and len(said) == count
+        row(call('many', s, width, count, blocks, pages), listed(said + hexed(after)))
+        return said
+
+    def stray(s, i):
+        """Blocks with the highest unused bit of block i set."""
+        blocks, end = some_blocks(s), sum(block_bytes(s)[:i + 1])
+        assert block_bits(s)[i] % 8
+        return blocks[:end - 1] + [blocks[end - 1] | 128] + blocks[end:]
+
+    full = [0xFF, 0xFF, 0x07]              # of ones, and stray
+    assert made(A, 8, some_blocks(A)) == [0] and made(A, 8, stray(A, 1)) == [8] and made(A, 8, all_ones(A)) == [13]
+    assert made(A, 1, some_blocks(A), stray(A, 0), all_ones(A)) == [0, 8, 13]
+    assert made(A, 64, all_ones(A), some_blocks(A), stray(A, 1), some_blocks(A)) == [13, 0, 8, 0]
+    assert made(A, 8, stray(A, 0), all_ones(A), some_blocks(A)) == [8, 13, 0]
+    assert made(A, 7, stray(A, 1), all_ones(A), full) == [8, 13, 8]
+    x = some_blocks(A)
+    assert made(A, 8, x, x, all_but_one(A, 0, 6)) == [0, 0, 0]
+    sets = [some_blocks(A), stray(A, 0), all_ones(A), some_blocks(A)]
+    assert made(A, 8, *[sets[k * 7 % 4] for k in range(16)]) == [0, 0, 13, 8] * 4
+    assert made(B, 8, all_ones(B), stray(B, 2), some_blocks(B), stray(B, 1)) == [13, 8, 0, 8]
+    assert made(SMALL, 63, all_but_one(SMALL, 1, 0), all_ones(SMALL), stray(SMALL, 2)) == [0, 13, 8]
+    assert made(A3, 8, all_ones(A3), stray(A3, 0), some_blocks(A3)) == [0, 8, 0]
+    assert made(A6, 8, stray(A6, 1), stray(A6, 0)) == [8, 8]
+    assert made(B4, 33, some_blocks(B4), all_ones(B4), stray(B4, 1)) == [0, 0, 8]
+
+
+HEAD = '''-- Cases of our own, of definitions that no compiled call gives back, and of the calls on erased pages, on shortened sheets and
+-- on many pages: each row has what a definition gives and what an independent program says.
 -- Written by tools/cases.py, which works every number out by other means; see there. The calls' own cases are run: tools/trial.py.
 use mathlib.Core.Path.{_≡_, refl}
 use mathlib.Core.List.{List, [], _∷_, map}
@@ -987,12 +1068,13 @@ use Rattle.code.specs.Parameters.{sheet, sheetRefusal}
 use Rattle.code.specs.Code.{carried, combine, distance, divisor, N, newton}
 use Rattle.code.specs.Layout.{blockOffset, wordsOf, pageOf, pageBytes, dataBytes, coefficientOf, blockBit, differences}
 use Rattle.code.specs.Refusals.{writeRefusal, wordRefusal, remainderRefusal, nestedRefusal, syndromesRefusal}
-use Rattle.code.specs.Refusals.{openRefusal, feedRefusal, quoteRefusal}
+use Rattle.code.specs.Refusals.{manyRefusal, openRefusal, feedRefusal, quoteRefusal}
 use Rattle.code.specs.Calls.{asBytes, empty, fed, judgeNumber, judgeValues, readNumber, readLeaves, writeLeaves, quote}
+use Rattle.code.specs.Calls.{statuses, pagesBy}
 use Rattle.code.specs.Calls.{remainderBytes, shortBytes, nestedWordBytes, syndromeList, nestedSyndromeList}
 use Rattle.code.specs.Registers.{cut, feedings}
 use Rattle.code.specs.Writer.{writer}
-use Rattle.cases.specs.Sheets.{Row, A, B, held}
+use Rattle.cases.specs.Sheets.{Row, A, B, held, many}
 '''
 
 
@@ -1007,7 +1089,7 @@ def printed():
 def main(words):
     self_test()
     for part in (layouts, equal_form, divisors, page_differences, parts, field_sums, bytes_for_c, writings, huge_numbers, erased_pages,
-                 short_sheets, short_sizes, short_pages, short_words, short_registers):
+                 short_sheets, short_sizes, short_pages, short_words, short_registers, many_refused, many_pages):
         part()
     if words == ['--check']:
         if (Path(__file__).resolve().parent.parent / OWN).read_text(encoding='utf-8') != printed():

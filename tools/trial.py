@@ -10,13 +10,14 @@ random but from its fixed sequence.
 """
 import sys
 from functools import lru_cache
+from itertools import cycle, product as tuples
 from pathlib import Path
 
 import cases
 from cases import A, A3, ALIKE, B, B4, CLASH, DEEP, DEEP4, EIGHT, FIELD, LARGE, PAIR, PAIR24, SMALL, TIGHT, TWELVE, U32, WIDE
 from cases import below, exponents, largest, nesting, number, refusal, shortened, some_bytes, strength
 
-TEST, NESTING, GENERATORS, ELEMENTS, OPEN, FEED, REMAINDER, SHORT, NESTED, SYNDROMES, NESTED_SYNDROMES, JUDGE, READ_OUT, WRITE, QUOTE = range(15)
+TEST, NESTING, GENERATORS, ELEMENTS, OPEN, FEED, REMAINDER, SHORT, NESTED, SYNDROMES, NESTED_SYNDROMES, JUDGE, READ_OUT, WRITE, QUOTE, WRITE_MANY = range(16)
 WIDTHS = (1, 7, 8, 63, 64)
 
 BYTE = (8, 4, 2, 3, 5, 9, 0, 0)
@@ -138,7 +139,7 @@ assert ones() == other
 # ---- records
 
 given, expected = bytearray(), bytearray()
-seen = [set() for _ in range(15)]
+seen = [set() for _ in range(16)]
 
 
 def le(x, size=8):
@@ -431,6 +432,75 @@ def shortened_pages():
             judge_and_read(s, x, len(ones))
 
 
+def many_pages():
+    """Many pages in one call: blocks that fit, stray ones and blocks of ones in every place, and what refuses the call whole."""
+    widths, listed = cycle(WIDTHS), set()
+
+    def many(s, width, count, blocks, size, room):
+        code, pages, said = cases.write_many(s, width, count, blocks, [165] * size, [165] * room)
+        record(WRITE_MANY, s, bytes([code, *pages, *said]), width=width, page=blocks, size=size, u=room, count=count)
+        listed.update(said if code == 0 else ())
+
+    def made(s, sets):
+        many(s, next(widths), len(sets), [x for data in sets for x in data], len(sets) * cases.page_bytes(s), len(sets))
+
+    def stray(s):
+        """Blocks with an unused bit set, the lowest and the highest of each block in turn."""
+        out, end = [], 0
+        for b, size in zip(cases.block_bits(s), cases.block_bytes(s)):
+            end += size
+            for k in sorted({b % 8, 7}) if b % 8 else ():
+                data = cases.some_blocks(s)
+                data[end - 1] |= 1 << k
+                out.append(data)
+        return out
+
+    # every order of the three kinds among three pages
+    for s in (A, B, SMALL, A3, DEEP4, PAIR, PAIR24, shortened(BYTE, 6)):
+        good, bad, ones = [cases.some_blocks(s) for _ in range(3)], stray(s), cases.all_ones(s)
+        turns = cycle(bad)
+        for kinds in tuples((0, 8, 13) if bad else (0, 13), repeat=3):
+            made(s, [next(turns) if kind == 8 else ones if kind == 13 else good[k] for k, kind in enumerate(kinds)])
+    # one page, two, and sixteen: all written, all refused, and both in turn
+    for s in (A, B, WIDE, DEEP, TIGHT, A3, B4, EIGHT):
+        good, bad, ones = [cases.some_blocks(s) for _ in range(16)], stray(s), cases.all_ones(s)
+        for count in (1, 2, 16):
+            made(s, good[:count])
+            made(s, (bad + [ones] * 16)[:count])
+        made(s, [(good[k], bad[k % len(bad)], ones)[k % 3] for k in range(16)])
+    good, bad = [cases.some_blocks(A) for _ in range(16)], cycle(stray(A))
+    for k in range(16):
+        for x in (next(bad), cases.all_ones(A)):
+            made(A, good[:k] + [x] + good[k + 1:])
+    # the large field: three pages, and two that fill the room
+    for s in (TWELVE, shortened(TWELVE, 1903)):
+        made(s, [cases.some_blocks(s), stray(s)[-1], cases.some_blocks(s)])
+        made(s, [stray(s)[0], cases.all_ones(s)])
+    made(LARGE, [cases.some_blocks(LARGE), cases.all_but_one(LARGE, 7, 0)])
+    # the call refused whole: all wrong, then one condition less with each; one alone; the lengths of a page more and of one fewer
+    for s in (A, B, B4, PAIR):
+        size, room = cases.data_bytes(s), cases.page_bytes(s)
+        for width, count, k, to, length in ((0, 17, 1, 1, 1), (65, 0, 0, 0, 0), (8, 17, 1, 1, 1), (8, 2, 1, 1, 1), (8, 2, 2 * size, 1, 1), (8, 2, 2 * size, 2 * room, 1)):
+            many(s, width, count, [255] * k, to, length)
+        for count in (1, 2, 3, 16):
+            right = [count * size, count * room, count]
+            for at, unit in enumerate((size, room, 1)):
+                for d in sorted({-unit, -1, 1, unit}):
+                    k, to, length = [x + d * (at == j) for j, x in enumerate(right)]
+                    many(s, 64, count, [0] * k, to, length)
+            for other in (count - 1, count + 1):
+                many(s, 1, count, [0] * (other * size), other * room, other)
+            for width in (0, 65, 255):
+                many(s, width, count, [0] * right[0], right[1], count)
+        for count in (0, 17, 18, 32, 256, 257, 65536 + 2, 2 ** 31, U32):
+            given = count if count <= 32 else count % 16
+            many(s, 8, count, [0] * (given * size), given * room, given)
+    for s in REFUSED:
+        many(s, 0, 17, [255], 5, 3)
+        many(s, 8, 1, [0, 0, 0], 4, 1)
+    assert listed == {0, 8, 13} and seen[WRITE_MANY] == {*range(8), 9, 10, 14}
+
+
 if __name__ == '__main__':
     tests()
     quotes()
@@ -441,6 +511,7 @@ if __name__ == '__main__':
     pages()
     blanks()
     shortened_pages()
+    many_pages()
     assert seen[JUDGE] == {0, 1, 2, 3, 4, 7, 8, 14, 32, 64, 96} and seen[READ_OUT] == seen[JUDGE] | {6} and seen[WRITE] == {*range(9), 13, 14}
     room = Path(sys.argv[1])
     (room / 'stdin').write_bytes(given)

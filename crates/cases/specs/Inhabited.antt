@@ -6,17 +6,19 @@ use mathlib.Core.List.{List, [], _∷_}
 use Prim.Native.Nat.{ℕ, zero, suc, _+_, _-_, _≤_, _<_, zero-le}
 use native.Mathlib.Nat.{le-of-suc-le-suc, not-suc-le-zero, lt-irrefl, zero-add}
 use native.Mathlib.Omega.{arith}
-use lib.Dec.{T, eqb, eqb→eq, lit<, ltb, ltb→lt}
-use lib.ListN.{getD}
+use lib.Dec.{T, eqb, eqb→eq, lit<, lit≤, ltb, ltb→lt}
+use lib.ListN.{getD, replicate}
 use Rattle.polynomial.specs.Clmul.{clmul}
 use Rattle.polynomial.specs.Division.{rem}
 use Rattle.polynomial.specs.Multiple.{Multiple}
 use Rattle.polynomial.specs.Xor.{xor}
 use Rattle.field.specs.Field.{pow}
 use Rattle.field.specs.Irreducible.{both}
+use Rattle.code.specs.declared.Outcome.{Outcome}
 use Rattle.code.specs.declared.Parameters.{Parameters}
 use Rattle.code.specs.declared.Verdict.{Verdict}
 use Rattle.code.specs.Accepted.{accepted, any-none}
+use Rattle.code.specs.Answers.{made-done, made-refused}
 use Rattle.code.specs.Blank.{blank-iff}
 use Rattle.code.specs.Chains.{either}
 use Rattle.code.specs.Demands.{Burst}
@@ -25,8 +27,8 @@ use Rattle.code.specs.Parameters.{Accepted, sheetRefusal, sheet, stored}
 use Rattle.code.specs.Code.{gen, degree, remainder, nested, combine, N, newton, IsMember, distance, verdict}
 use Rattle.code.specs.Layout.{dataBytes, pageBytes, blocksClear, blocksFull, pageClear, pageOf, blank, wordsOf, Fits, IsBlank, IsPage, Bytes}
 use Rattle.code.specs.Layout.{coefficientOf, differences}
-use Rattle.code.specs.Calls.{judgeAnswer, verdictNumber}
-use Rattle.code.specs.Refusals.{writeRefusal}
+use Rattle.code.specs.Calls.{WrittenMany, judgeAnswer, pagesBy, statuses, verdictNumber}
+use Rattle.code.specs.Refusals.{manyRefusal, writeRefusal}
 use Rattle.cases.specs.Sheets.{A, B}
 
 -- ---- accepted sheets
@@ -281,6 +283,27 @@ not-around-short h =
     around zero b t = inr (lit< tt)
     around (suc zero) b t = absurd t
     around (suc (suc k)) b t = inl (omega arith, omega arith)
+
+-- ---- many pages in one call, over bytes A5
+-- blocks that fit, stray ones, and ones: done, the first page is written and the others are left
+pub many-mixed :
+    WrittenMany A 8 3 (0x01 ∷ 0x01 ∷ 0x00 ∷ 0x80 ∷ 0x01 ∷ 0x00 ∷ 0x7F ∷ 0xFF ∷ 0x07 ∷ []) (replicate 12 0xA5)
+    (0xC2 ∷ 0x01 ∷ 0x13 ∷ 0x00 ∷ replicate 8 0xA5) (replicate 3 0xFF) (0 ∷ 8 ∷ 13 ∷ []) Outcome.Done
+unfolding manyRefusal statuses pagesBy pow
+many-mixed = (made-done _ _ _ _ refl refl, made-done _ _ _ _ refl refl)
+
+-- every page refused, and still done
+pub many-left :
+    WrittenMany A 64 2 (0x7F ∷ 0xFF ∷ 0x07 ∷ 0x00 ∷ 0x00 ∷ 0x08 ∷ []) (replicate 8 0xA5) (replicate 8 0xA5) (replicate 2 0xFF)
+    (13 ∷ 8 ∷ []) Outcome.Done
+unfolding manyRefusal statuses pagesBy pow
+many-left = (made-done _ _ _ _ refl refl, made-done _ _ _ _ refl refl)
+
+-- a call refused whole: its list has a byte too few
+pub many-refused :
+    WrittenMany A 8 2 (replicate 6 0x00) (replicate 8 0xA5) (replicate 8 0xA5) (0xFF ∷ []) (0xFF ∷ []) (Outcome.Refused 10)
+unfolding manyRefusal
+many-refused = (made-refused _ 10 _ _ refl (lit< tt) (lit≤ tt), made-refused _ 10 _ _ refl (lit< tt) (lit≤ tt))
 
 -- ---- the equal form holds as a whole only: sheet B, page 13 00 00 00 00 00
 abbrev words-13 : List ℕ

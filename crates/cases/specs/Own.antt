@@ -1,5 +1,5 @@
--- Cases of our own, of definitions that no compiled call gives back, and of the calls on erased pages and on shortened sheets:
--- each row has what a definition gives and what an independent program says.
+-- Cases of our own, of definitions that no compiled call gives back, and of the calls on erased pages, on shortened sheets and
+-- on many pages: each row has what a definition gives and what an independent program says.
 -- Written by tools/cases.py, which works every number out by other means; see there. The calls' own cases are run: tools/trial.py.
 use mathlib.Core.Path.{_≡_, refl}
 use mathlib.Core.List.{List, [], _∷_, map}
@@ -15,12 +15,13 @@ use Rattle.code.specs.Parameters.{sheet, sheetRefusal}
 use Rattle.code.specs.Code.{carried, combine, distance, divisor, N, newton}
 use Rattle.code.specs.Layout.{blockOffset, wordsOf, pageOf, pageBytes, dataBytes, coefficientOf, blockBit, differences}
 use Rattle.code.specs.Refusals.{writeRefusal, wordRefusal, remainderRefusal, nestedRefusal, syndromesRefusal}
-use Rattle.code.specs.Refusals.{openRefusal, feedRefusal, quoteRefusal}
+use Rattle.code.specs.Refusals.{manyRefusal, openRefusal, feedRefusal, quoteRefusal}
 use Rattle.code.specs.Calls.{asBytes, empty, fed, judgeNumber, judgeValues, readNumber, readLeaves, writeLeaves, quote}
+use Rattle.code.specs.Calls.{statuses, pagesBy}
 use Rattle.code.specs.Calls.{remainderBytes, shortBytes, nestedWordBytes, syndromeList, nestedSyndromeList}
 use Rattle.code.specs.Registers.{cut, feedings}
 use Rattle.code.specs.Writer.{writer}
-use Rattle.cases.specs.Sheets.{Row, A, B, held}
+use Rattle.cases.specs.Sheets.{Row, A, B, held, many}
 
 -- Where each block begins.
 pub offsets : List Row
@@ -674,3 +675,165 @@ shortFed =
 pub shortFed-hold : map (λ r. r .0) shortFed ≡ map (λ r. r .1) shortFed
 unfolding shortFed fed feedRefusal sum pow
 shortFed-hold = refl
+
+-- Many pages in one call, refused whole: the numbers in their order, counts, and lengths that are one off or of a page more or fewer.
+pub manyRefused : List Row
+manyRefused = (
+  manyRefusal (sheet 5 2 1 1 2 0 0 4294967295) 0 17 1 1 1 ∷ manyRefusal (sheet 4 1 1 1 2 0 0 4294967295) 0 17 1 1 1
+      ∷ manyRefusal (sheet 4 2 1 2 2 0 0 4294967295) 0 17 1 1 1 ∷ manyRefusal (sheet 4 4 2 1 2 3 0 4294967295) 0 17 1 1 1
+      ∷ manyRefusal (sheet 4 2 1 1 2 0 0 7) 0 17 1 1 1 ∷ [],
+  1 ∷ 2 ∷ 3 ∷ 4 ∷ 14 ∷ [],
+)
+    ∷ (
+      manyRefusal A 0 17 1 1 1 ∷ manyRefusal A 8 17 1 1 1 ∷ manyRefusal A 8 2 1 1 1 ∷ manyRefusal A 8 2 6 1 1 ∷ manyRefusal A 8 2 6 8 1
+          ∷ manyRefusal A 8 2 6 8 2 ∷ [],
+      5 ∷ 9 ∷ 6 ∷ 7 ∷ 10 ∷ 0 ∷ [],
+    )
+    ∷ (
+      manyRefusal A 65 2 6 8 2 ∷ manyRefusal A 0 2 6 8 1 ∷ manyRefusal A 8 0 3 4 1 ∷ manyRefusal A 8 17 6 8 2 ∷ manyRefusal A 8 2 5 8 1
+          ∷ manyRefusal A 8 2 6 9 1 ∷ manyRefusal A 8 2 5 9 2 ∷ [],
+      5 ∷ 5 ∷ 9 ∷ 9 ∷ 6 ∷ 7 ∷ 6 ∷ [],
+    )
+    ∷ (
+      manyRefusal A 8 0 0 0 0 ∷ manyRefusal A 8 1 3 4 1 ∷ manyRefusal A 8 2 6 8 2 ∷ manyRefusal A 8 15 45 60 15
+          ∷ manyRefusal A 8 16 48 64 16 ∷ manyRefusal A 8 17 51 68 17 ∷ manyRefusal A 8 18 54 72 18 ∷ [],
+      9 ∷ 0 ∷ 0 ∷ 0 ∷ 0 ∷ 9 ∷ 9 ∷ [],
+    )
+    ∷ (
+      manyRefusal A 8 256 768 1024 256 ∷ manyRefusal A 8 257 771 1028 257 ∷ manyRefusal A 8 65537 196611 262148 65537
+          ∷ manyRefusal A 8 4294967295 12884901885 17179869180 4294967295 ∷ manyRefusal A 8 4294967297 12884901891 17179869188 4294967297
+          ∷ manyRefusal A 8 18446744073709551615 55340232221128654845 73786976294838206460 18446744073709551615
+          ∷ manyRefusal A 8 18446744073709551617 55340232221128654851 73786976294838206468 18446744073709551617 ∷ [],
+      replicate 7 9,
+    )
+    ∷ (
+      manyRefusal A 0 3 9 12 3 ∷ manyRefusal A 1 3 9 12 3 ∷ manyRefusal A 64 3 9 12 3 ∷ manyRefusal A 65 3 9 12 3
+          ∷ manyRefusal A 4294967295 3 9 12 3 ∷ [],
+      5 ∷ 0 ∷ 0 ∷ 5 ∷ 5 ∷ [],
+    )
+    ∷ (
+      manyRefusal A 8 1 6 8 2 ∷ manyRefusal A 8 2 3 4 1 ∷ manyRefusal A 8 16 45 60 15 ∷ manyRefusal A 8 16 51 68 17
+          ∷ manyRefusal A 8 1 0 0 0 ∷ manyRefusal A 8 0 3 4 1 ∷ manyRefusal A 8 17 48 64 16 ∷ manyRefusal A 8 4294967295 3 4 1 ∷ [],
+      6 ∷ 6 ∷ 6 ∷ 6 ∷ 6 ∷ 9 ∷ 9 ∷ 9 ∷ [],
+    )
+    ∷ (
+      manyRefusal A 8 1 0 4 1 ∷ manyRefusal A 8 1 2 4 1 ∷ manyRefusal A 8 1 4 4 1 ∷ manyRefusal A 8 1 6 4 1 ∷ manyRefusal A 8 1 3 0 1
+          ∷ manyRefusal A 8 1 3 3 1 ∷ manyRefusal A 8 1 3 5 1 ∷ manyRefusal A 8 1 3 8 1 ∷ manyRefusal A 8 1 3 4 0 ∷ manyRefusal A 8 1 3 4 2
+          ∷ manyRefusal A 8 1 18446744073709551615 4 1 ∷ manyRefusal A 8 1 3 18446744073709551615 1
+          ∷ manyRefusal A 8 1 3 4 18446744073709551615 ∷ [],
+      6 ∷ 6 ∷ 6 ∷ 6 ∷ 7 ∷ 7 ∷ 7 ∷ 7 ∷ 10 ∷ 10 ∷ 6 ∷ 7 ∷ 10 ∷ [],
+    )
+    ∷ (
+      manyRefusal A 8 3 6 12 3 ∷ manyRefusal A 8 3 8 12 3 ∷ manyRefusal A 8 3 10 12 3 ∷ manyRefusal A 8 3 12 12 3 ∷ manyRefusal A 8 3 9 8 3
+          ∷ manyRefusal A 8 3 9 11 3 ∷ manyRefusal A 8 3 9 13 3 ∷ manyRefusal A 8 3 9 16 3 ∷ manyRefusal A 8 3 9 12 2
+          ∷ manyRefusal A 8 3 9 12 4 ∷ manyRefusal A 8 3 18446744073709551615 12 3 ∷ manyRefusal A 8 3 9 18446744073709551615 3
+          ∷ manyRefusal A 8 3 9 12 18446744073709551615 ∷ [],
+      6 ∷ 6 ∷ 6 ∷ 6 ∷ 7 ∷ 7 ∷ 7 ∷ 7 ∷ 10 ∷ 10 ∷ 6 ∷ 7 ∷ 10 ∷ [],
+    )
+    ∷ (
+      manyRefusal A 8 16 45 64 16 ∷ manyRefusal A 8 16 47 64 16 ∷ manyRefusal A 8 16 49 64 16 ∷ manyRefusal A 8 16 51 64 16
+          ∷ manyRefusal A 8 16 48 60 16 ∷ manyRefusal A 8 16 48 63 16 ∷ manyRefusal A 8 16 48 65 16 ∷ manyRefusal A 8 16 48 68 16
+          ∷ manyRefusal A 8 16 48 64 15 ∷ manyRefusal A 8 16 48 64 17 ∷ manyRefusal A 8 16 18446744073709551615 64 16
+          ∷ manyRefusal A 8 16 48 18446744073709551615 16 ∷ manyRefusal A 8 16 48 64 18446744073709551615 ∷ [],
+      6 ∷ 6 ∷ 6 ∷ 6 ∷ 7 ∷ 7 ∷ 7 ∷ 7 ∷ 10 ∷ 10 ∷ 6 ∷ 7 ∷ 10 ∷ [],
+    )
+    ∷ (
+      manyRefusal (sheet 4 3 2 1 2 3 0 4) 8 2 3 12 2 ∷ manyRefusal (sheet 4 3 2 1 2 3 0 4) 8 2 5 12 2
+          ∷ manyRefusal (sheet 4 3 2 1 2 3 0 4) 8 2 7 12 2 ∷ manyRefusal (sheet 4 3 2 1 2 3 0 4) 8 2 9 12 2
+          ∷ manyRefusal (sheet 4 3 2 1 2 3 0 4) 8 2 6 6 2 ∷ manyRefusal (sheet 4 3 2 1 2 3 0 4) 8 2 6 11 2
+          ∷ manyRefusal (sheet 4 3 2 1 2 3 0 4) 8 2 6 13 2 ∷ manyRefusal (sheet 4 3 2 1 2 3 0 4) 8 2 6 18 2
+          ∷ manyRefusal (sheet 4 3 2 1 2 3 0 4) 8 2 6 12 1 ∷ manyRefusal (sheet 4 3 2 1 2 3 0 4) 8 2 6 12 3
+          ∷ manyRefusal (sheet 4 3 2 1 2 3 0 4) 8 2 18446744073709551615 12 2
+          ∷ manyRefusal (sheet 4 3 2 1 2 3 0 4) 8 2 6 18446744073709551615 2
+          ∷ manyRefusal (sheet 4 3 2 1 2 3 0 4) 8 2 6 12 18446744073709551615 ∷ [],
+      6 ∷ 6 ∷ 6 ∷ 6 ∷ 7 ∷ 7 ∷ 7 ∷ 7 ∷ 10 ∷ 10 ∷ 6 ∷ 7 ∷ 10 ∷ [],
+    )
+    ∷ (
+      manyRefusal (sheet 8 8 3 1 2 2 2 0) 8 16 3920 4096 16 ∷ manyRefusal (sheet 8 8 3 1 2 2 2 0) 8 16 3675 3840 15
+          ∷ manyRefusal (sheet 8 2 1 1 2 0 0 231) 8 16 48 96 16 ∷ manyRefusal (sheet 8 2 1 1 2 0 0 231) 8 16 45 90 15 ∷ [],
+      0 ∷ 6 ∷ 0 ∷ 6 ∷ [],
+    )
+    ∷ []
+
+pub manyRefused-hold : map (λ r. r .0) manyRefused ≡ map (λ r. r .1) manyRefused
+unfolding manyRefused manyRefusal
+manyRefused-hold = refl
+
+-- Many pages in one call: the list, then the pages. Stray blocks (8) and blocks of ones (13; written where s is above 0), in every place, and alone.
+pub manyListed : List Row
+manyListed =
+    (many A 8 1 (0x02 ∷ 0xBE ∷ 0x02 ∷ []) (0x91 ∷ 0xAC ∷ 0x2D ∷ 0x66 ∷ []), 0 ∷ 0x55 ∷ 0x02 ∷ 0xED ∷ 0x2B ∷ [])
+    ∷ (many A 8 1 (0x57 ∷ 0x11 ∷ 0x83 ∷ []) (0x78 ∷ 0x7A ∷ 0xC9 ∷ 0x54 ∷ []), 8 ∷ 0x78 ∷ 0x7A ∷ 0xC9 ∷ 0x54 ∷ [])
+    ∷ (many A 8 1 (0x7F ∷ 0xFF ∷ 0x07 ∷ []) (0xA1 ∷ 0x08 ∷ 0x80 ∷ 0x36 ∷ []), 13 ∷ 0xA1 ∷ 0x08 ∷ 0x80 ∷ 0x36 ∷ [])
+    ∷ (
+      many A 1 3 (0x2C ∷ 0x26 ∷ 0x02 ∷ 0xFB ∷ 0x05 ∷ 0x06 ∷ 0x7F ∷ 0xFF ∷ 0x07 ∷ []) (0x4C ∷ 0x90 ∷ 0x54 ∷ 0xF0 ∷ 0x39 ∷ 0x00 ∷ 0x91 ∷ 0x83
+          ∷ 0x6B ∷ 0x82 ∷ 0x6E ∷ 0xEA ∷ []),
+      0 ∷ 8 ∷ 13 ∷ 0xE5 ∷ 0x2C ∷ 0x6D ∷ 0x22 ∷ 0x39 ∷ 0x00 ∷ 0x91 ∷ 0x83 ∷ 0x6B ∷ 0x82 ∷ 0x6E ∷ 0xEA ∷ [],
+    )
+    ∷ (
+      many A 64 4 (0x7F ∷ 0xFF ∷ 0x07 ∷ 0x2E ∷ 0x1B ∷ 0x06 ∷ 0x3E ∷ 0x39 ∷ 0x87 ∷ 0x3A ∷ 0xFE ∷ 0x07 ∷ []) (0x6B ∷ 0xEF ∷ 0x4D ∷ 0x75
+          ∷ 0xFD ∷ 0x39 ∷ 0xB3 ∷ 0xAC ∷ 0x57 ∷ 0x1A ∷ 0xF5 ∷ 0xF3 ∷ 0x85 ∷ 0x35 ∷ 0xC1 ∷ 0x72 ∷ []),
+      13 ∷ 0 ∷ 8 ∷ 0 ∷ 0x6B ∷ 0xEF ∷ 0x4D ∷ 0x75 ∷ 0x0E ∷ 0x2E ∷ 0xBF ∷ 0x61 ∷ 0x57 ∷ 0x1A ∷ 0xF5 ∷ 0xF3 ∷ 0x33 ∷ 0x3A ∷ 0xEC ∷ 0x7F ∷ [],
+    )
+    ∷ (
+      many A 8 3 (0xE7 ∷ 0x18 ∷ 0x04 ∷ 0x7F ∷ 0xFF ∷ 0x07 ∷ 0x78 ∷ 0xB5 ∷ 0x01 ∷ []) (0x00 ∷ 0x09 ∷ 0xC4 ∷ 0x80 ∷ 0x80 ∷ 0x9F ∷ 0x38 ∷ 0xF2
+          ∷ 0xA1 ∷ 0x4E ∷ 0x24 ∷ 0x62 ∷ []),
+      8 ∷ 13 ∷ 0 ∷ 0x00 ∷ 0x09 ∷ 0xC4 ∷ 0x80 ∷ 0x80 ∷ 0x9F ∷ 0x38 ∷ 0xF2 ∷ 0x6F ∷ 0x78 ∷ 0x51 ∷ 0x1B ∷ [],
+    )
+    ∷ (
+      many A 7 3 (0x40 ∷ 0xA9 ∷ 0x80 ∷ 0x7F ∷ 0xFF ∷ 0x07 ∷ 0xFF ∷ 0xFF ∷ 0x07 ∷ []) (0xAC ∷ 0xF1 ∷ 0x95 ∷ 0xB5 ∷ 0x62 ∷ 0x68 ∷ 0x2E ∷ 0x5E
+          ∷ 0x2E ∷ 0x8D ∷ 0x96 ∷ 0x6F ∷ []),
+      8 ∷ 13 ∷ 8 ∷ 0xAC ∷ 0xF1 ∷ 0x95 ∷ 0xB5 ∷ 0x62 ∷ 0x68 ∷ 0x2E ∷ 0x5E ∷ 0x2E ∷ 0x8D ∷ 0x96 ∷ 0x6F ∷ [],
+    )
+    ∷ (
+      many A 8 3 (0x61 ∷ 0x6D ∷ 0x07 ∷ 0x61 ∷ 0x6D ∷ 0x07 ∷ 0x3F ∷ 0xFF ∷ 0x07 ∷ []) (0x05 ∷ 0xCA ∷ 0x07 ∷ 0x3A ∷ 0x79 ∷ 0x02 ∷ 0x2B ∷ 0x25
+          ∷ 0xC4 ∷ 0x78 ∷ 0x13 ∷ 0x8B ∷ []),
+      0 ∷ 0 ∷ 0 ∷ 0xAC ∷ 0x61 ∷ 0xD2 ∷ 0x76 ∷ 0xAC ∷ 0x61 ∷ 0xD2 ∷ 0x76 ∷ 0x17 ∷ 0x3F ∷ 0xFF ∷ 0x7F ∷ [],
+    )
+    ∷ (
+      many A 8 16 (0x1B ∷ 0x9A ∷ 0x00 ∷ 0x57 ∷ 0x4A ∷ 0x02 ∷ 0x7F ∷ 0xFF ∷ 0x07 ∷ 0xE3 ∷ 0xDD ∷ 0x00 ∷ 0x1B ∷ 0x9A ∷ 0x00 ∷ 0x57 ∷ 0x4A
+          ∷ 0x02 ∷ 0x7F ∷ 0xFF ∷ 0x07 ∷ 0xE3 ∷ 0xDD ∷ 0x00 ∷ 0x1B ∷ 0x9A ∷ 0x00 ∷ 0x57 ∷ 0x4A ∷ 0x02 ∷ 0x7F ∷ 0xFF ∷ 0x07 ∷ 0xE3 ∷ 0xDD
+          ∷ 0x00 ∷ 0x1B ∷ 0x9A ∷ 0x00 ∷ 0x57 ∷ 0x4A ∷ 0x02 ∷ 0x7F ∷ 0xFF ∷ 0x07 ∷ 0xE3 ∷ 0xDD ∷ 0x00 ∷ []) (0x40 ∷ 0x77 ∷ 0x4D ∷ 0x93
+          ∷ 0xB5 ∷ 0xF3 ∷ 0x34 ∷ 0xE2 ∷ 0xC0 ∷ 0x19 ∷ 0x88 ∷ 0x21 ∷ 0x75 ∷ 0x18 ∷ 0x98 ∷ 0xDD ∷ 0x70 ∷ 0x5A ∷ 0x0C ∷ 0x93 ∷ 0x33 ∷ 0x78
+          ∷ 0xB2 ∷ 0xBF ∷ 0x50 ∷ 0x8F ∷ 0x85 ∷ 0x06 ∷ 0x85 ∷ 0x30 ∷ 0x10 ∷ 0xD3 ∷ 0x42 ∷ 0xAD ∷ 0xAE ∷ 0x86 ∷ 0x2A ∷ 0x00 ∷ 0x68 ∷ 0x39
+          ∷ 0xDD ∷ 0xCF ∷ 0x1E ∷ 0x1A ∷ 0xD3 ∷ 0x6F ∷ 0x8C ∷ 0xEA ∷ 0xD1 ∷ 0x6F ∷ 0xB4 ∷ 0x3C ∷ 0x02 ∷ 0x29 ∷ 0x2B ∷ 0x7E ∷ 0xC2 ∷ 0x0E
+          ∷ 0x44 ∷ 0x7E ∷ 0x51 ∷ 0x7B ∷ 0xD7 ∷ 0x1A ∷ []),
+      0 ∷ 0 ∷ 13 ∷ 8 ∷ 0 ∷ 0 ∷ 13 ∷ 8 ∷ 0 ∷ 0 ∷ 13 ∷ 8 ∷ 0 ∷ 0 ∷ 13 ∷ 8 ∷ 0xEF ∷ 0x1B ∷ 0xA6 ∷ 0x09 ∷ 0xA3 ∷ 0x57 ∷ 0xA7 ∷ 0x24 ∷ 0xC0
+          ∷ 0x19 ∷ 0x88 ∷ 0x21 ∷ 0x75 ∷ 0x18 ∷ 0x98 ∷ 0xDD ∷ 0xEF ∷ 0x1B ∷ 0xA6 ∷ 0x09 ∷ 0xA3 ∷ 0x57 ∷ 0xA7 ∷ 0x24 ∷ 0x50 ∷ 0x8F ∷ 0x85
+          ∷ 0x06 ∷ 0x85 ∷ 0x30 ∷ 0x10 ∷ 0xD3 ∷ 0xEF ∷ 0x1B ∷ 0xA6 ∷ 0x09 ∷ 0xA3 ∷ 0x57 ∷ 0xA7 ∷ 0x24 ∷ 0xDD ∷ 0xCF ∷ 0x1E ∷ 0x1A ∷ 0xD3
+          ∷ 0x6F ∷ 0x8C ∷ 0xEA ∷ 0xEF ∷ 0x1B ∷ 0xA6 ∷ 0x09 ∷ 0xA3 ∷ 0x57 ∷ 0xA7 ∷ 0x24 ∷ 0xC2 ∷ 0x0E ∷ 0x44 ∷ 0x7E ∷ 0x51 ∷ 0x7B ∷ 0xD7
+          ∷ 0x1A ∷ [],
+    )
+    ∷ (
+      many B 8 4 (0x1F ∷ 0x7F ∷ 0xFF ∷ 0x07 ∷ 0x09 ∷ 0x1E ∷ 0xFC ∷ 0x83 ∷ 0x1C ∷ 0x79 ∷ 0x8A ∷ 0x04 ∷ 0x1C ∷ 0xCC ∷ 0x96 ∷ 0x01 ∷ []) (0x82
+          ∷ 0x20 ∷ 0xC6 ∷ 0x81 ∷ 0x6D ∷ 0x05 ∷ 0x11 ∷ 0xCB ∷ 0xE4 ∷ 0x7D ∷ 0x7F ∷ 0x5D ∷ 0x31 ∷ 0x50 ∷ 0xBB ∷ 0xD6 ∷ 0x74 ∷ 0x75 ∷ 0xEA
+          ∷ 0x66 ∷ 0x23 ∷ 0xF3 ∷ 0xDC ∷ 0xC5 ∷ []),
+      13 ∷ 8 ∷ 0 ∷ 8 ∷ 0x82 ∷ 0x20 ∷ 0xC6 ∷ 0x81 ∷ 0x6D ∷ 0x05 ∷ 0x11 ∷ 0xCB ∷ 0xE4 ∷ 0x7D ∷ 0x7F ∷ 0x5D ∷ 0xBA ∷ 0x73 ∷ 0x8B ∷ 0x79 ∷ 0xAA
+          ∷ 0x48 ∷ 0xEA ∷ 0x66 ∷ 0x23 ∷ 0xF3 ∷ 0xDC ∷ 0xC5 ∷ [],
+    )
+    ∷ (
+      many (sheet 4 3 2 6 7 7 0 0) 63 3 (0x01 ∷ 0x00 ∷ 0x01 ∷ 0x01 ∷ 0x01 ∷ 0x01 ∷ 0x00 ∷ 0x00 ∷ 0x81 ∷ []) (0xF1 ∷ 0x30 ∷ 0x95 ∷ 0xBE
+          ∷ 0x3D ∷ 0x35 ∷ 0x01 ∷ 0x42 ∷ 0x52 ∷ 0x63 ∷ 0xAB ∷ 0xAE ∷ 0x96 ∷ 0x67 ∷ 0x48 ∷ 0x58 ∷ 0x3F ∷ 0xB6 ∷ []),
+      0 ∷ 13 ∷ 8 ∷ 0xFF ∷ 0x7F ∷ 0x00 ∷ 0x00 ∷ 0xFF ∷ 0x7F ∷ 0x01 ∷ 0x42 ∷ 0x52 ∷ 0x63 ∷ 0xAB ∷ 0xAE ∷ 0x96 ∷ 0x67 ∷ 0x48 ∷ 0x58 ∷ 0x3F
+          ∷ 0xB6 ∷ [],
+    )
+    ∷ (
+      many (sheet 4 2 1 1 2 0 0 3) 8 3 (0x0F ∷ 0xFF ∷ 0x8B ∷ 0x83 ∷ 0x04 ∷ 0x5B ∷ []) (0xB8 ∷ 0xB4 ∷ 0x2F ∷ 0x9C ∷ 0x60 ∷ 0x1E ∷ 0xC4
+          ∷ 0x55 ∷ 0x84 ∷ 0xB4 ∷ 0x8E ∷ 0x69 ∷ []),
+      0 ∷ 8 ∷ 0 ∷ 0xF4 ∷ 0x0F ∷ 0xF4 ∷ 0x0F ∷ 0x60 ∷ 0x1E ∷ 0xC4 ∷ 0x55 ∷ 0x6D ∷ 0x04 ∷ 0xBC ∷ 0x05 ∷ [],
+    )
+    ∷ (
+      many (sheet 4 2 1 1 2 0 0 6) 8 2 (0x01 ∷ 0x88 ∷ 0x80 ∷ 0x1E ∷ []) (0x24 ∷ 0xBF ∷ 0x5B ∷ 0x49 ∷ 0xD3 ∷ 0x66 ∷ 0x61 ∷ 0x0F ∷ []),
+      8 ∷ 8 ∷ 0x24 ∷ 0xBF ∷ 0x5B ∷ 0x49 ∷ 0xD3 ∷ 0x66 ∷ 0x61 ∷ 0x0F ∷ [],
+    )
+    ∷ (
+      many (sheet 4 3 2 1 2 3 0 4) 33 3 (0x00 ∷ 0x00 ∷ 0x7B ∷ 0x01 ∷ 0x07 ∷ 0x7F ∷ 0x00 ∷ 0x86 ∷ 0x7E ∷ []) (0x98 ∷ 0x32 ∷ 0xE7 ∷ 0x54
+          ∷ 0xD6 ∷ 0x4E ∷ 0xD0 ∷ 0x93 ∷ 0x42 ∷ 0xC2 ∷ 0x86 ∷ 0x73 ∷ 0xEC ∷ 0x2B ∷ 0x73 ∷ 0xF7 ∷ 0x59 ∷ 0x3D ∷ []),
+      0 ∷ 0 ∷ 8 ∷ 0x46 ∷ 0x02 ∷ 0xC7 ∷ 0x00 ∷ 0xB6 ∷ 0x07 ∷ 0x9A ∷ 0x05 ∷ 0x57 ∷ 0x07 ∷ 0xFA ∷ 0x07 ∷ 0xEC ∷ 0x2B ∷ 0x73 ∷ 0xF7 ∷ 0x59
+          ∷ 0x3D ∷ [],
+    )
+    ∷ []
+
+pub manyListed-hold : map (λ r. r .0) manyListed ≡ map (λ r. r .1) manyListed
+unfolding manyListed statuses pagesBy pow
+manyListed-hold = refl

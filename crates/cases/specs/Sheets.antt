@@ -1,14 +1,15 @@
 -- What the tables share.
---   Row           what a definition gives, and what it should give
---   A, B          the requirement's two sheets
---   page p k b    what write leaves at L = 8 in a zeroed page of k bytes
---   held r        a register's level, count and words
-use mathlib.Core.List.{List, _∷_}
+--   Row               what a definition gives, and what it should give
+--   A, B              the requirement's two sheets
+--   page p k b        what write leaves at L = 8 in a zeroed page of k bytes
+--   held r            a register's level, count and words
+--   many p L c b x    what a write of c pages lists, then what it leaves in the pages x
+use mathlib.Core.List.{List, _∷_, _++_}
 use Prim.Native.Nat.{ℕ}
 use lib.ListN.{replicate}
 use Rattle.code.specs.declared.Parameters.{Parameters}
 use Rattle.code.specs.Register.{Register}
-use Rattle.code.specs.Calls.{writeLeaves}
+use Rattle.code.specs.Calls.{pagesBy, statuses, writeLeaves}
 use Rattle.code.specs.Parameters.{sheet}
 
 abbrev pub Row : Type 0
@@ -25,3 +26,6 @@ page p k blocks = writeLeaves p 8 blocks (replicate k 0)
 
 abbrev pub held : Register → List ℕ
 held r = r .level ∷ r .count ∷ r .remainder
+
+abbrev pub many : Parameters → ℕ → ℕ → List ℕ → List ℕ → List ℕ
+many p L count blocks pages = statuses p L count blocks ++ pagesBy p (statuses p L count blocks) blocks pages

@@ -26,7 +26,7 @@ isBlank (Verdict.SubWord i) = false
 isBlank (Verdict.NestedWord l) = false
 isBlank (Verdict.Refused k) = false
 
-never : false ≡ true → ⊥
+pub never : false ≡ true → ⊥
 never e = let z : _≡_ {A = ℕ} 0 1 = cc in omega arith
 
 pub is-done : (r : Outcome) → isDone r ≡ true → r ≡ Outcome.Done

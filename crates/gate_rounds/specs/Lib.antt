@@ -4,3 +4,4 @@ pub mod Apt
 pub mod Sum
 pub mod Scratched
 pub mod Sheets
+pub mod Singles

@@ -16,7 +16,7 @@ use Rattle.code.specs.declared.Parameters.{Parameters}
 use Rattle.field.specs.Irreducible.{both}
 use Rattle.code.specs.Accepted.{accepted}
 use Rattle.code.specs.Blank.{blank-iff}
-use Rattle.code.specs.Calls.{judgeAnswer}
+use Rattle.code.specs.Calls.{judgeAnswer, statuses}
 use Rattle.code.specs.Layout.{Bytes, Fits, IsBlank, IsPage, blank, blocksClear, dataBytes, pageBytes, pageClear}
 use Rattle.code.specs.Parameters.{Accepted, sheet, sheetRefusal}
 use Rattle.cases.specs.Inhabited.{accepted-A, accepted-B}
@@ -62,6 +62,11 @@ three-A = three A accepted-A (0x02 ∷ 0x01 ∷ 0x00 ∷ []) (0x7E ∷ 0xFF ∷ 
 pub blocks-A : 3 ≡ dataBytes A
 unfolding dataBytes
 blocks-A = refl
+
+-- blocks that are written, stray ones, and ones
+pub listed-A : statuses A 8 3 (0x01 ∷ 0x01 ∷ 0x00 ∷ 0x80 ∷ 0x01 ∷ 0x00 ∷ 0x7F ∷ 0xFF ∷ 0x07 ∷ []) ≡ 0 ∷ 8 ∷ 13 ∷ []
+unfolding statuses pow
+listed-A = refl
 
 pub page-cleared-A : IsPage A (0xFF ∷ 0x7F ∷ 0xFF ∷ 0x7F ∷ [])
 unfolding pageClear
@@ -131,6 +136,15 @@ pub three-8 : Three (long 8) (replicate 61 0x06) (replicate 61 0x62)
 unfolding xor
 three-8 = three (long 8) accepted-8 (replicate 61 0x06) (replicate 61 0x62) fits-8 fits-other-8 refl refl refl
 
+pub blocks-8 : 61 ≡ dataBytes (long 8)
+unfolding dataBytes
+blocks-8 = refl
+
+-- all stray
+pub listed-8 : statuses (long 8) 64 3 (replicate 183 0xFF) ≡ 8 ∷ 8 ∷ 8 ∷ []
+unfolding statuses pow
+listed-8 = refl
+
 pub page-8 : IsPage (long 8) (replicate 64 0x01)
 unfolding pageClear
 page-8 = page (long 8) (replicate 64 0x01) tt refl tt
@@ -193,6 +207,15 @@ fits-other-short = fits short (0x0E ∷ 0xFF ∷ []) tt refl tt
 pub three-short : Three short (0x02 ∷ 0x01 ∷ []) (0x0E ∷ 0xFF ∷ [])
 unfolding xor
 three-short = three short accepted-short (0x02 ∷ 0x01 ∷ []) (0x0E ∷ 0xFF ∷ []) fits-short fits-other-short refl refl refl
+
+pub blocks-short : 2 ≡ dataBytes short
+unfolding dataBytes
+blocks-short = refl
+
+-- ones, others that are written, stray ones
+pub listed-short : statuses short 1 3 (0x0F ∷ 0xFF ∷ 0x02 ∷ 0x01 ∷ 0x10 ∷ 0x00 ∷ []) ≡ 0 ∷ 0 ∷ 8 ∷ []
+unfolding statuses pow
+listed-short = refl
 
 pub page-short : IsPage short (0xE8 ∷ 0x0C ∷ 0x13 ∷ 0x00 ∷ [])
 unfolding pageClear

@@ -1,13 +1,14 @@
 // Pages written at several widths, judged, read out and written again, of shortened sheets too; pages with a byte changed judged; erased
-// pages judged, read out and refused.
+// pages judged, read out and refused; three pages written in one call and one by one.
 // Each equality is expected as the program runs, and proved of every run:
 // from what the calls promise and the theorems on the promises, and nothing of how a page is made.
 ghost use mathlib.Core.Path.{_≡_};
-ghost use mathlib.Core.Bool.{_&&_};
-ghost use Prim.Native.Nat.{_≤_, _<_};
+ghost use mathlib.Core.List.{[], _∷_};
+ghost use mathlib.Core.Bool.{true, _&&_};
+ghost use Prim.Native.Nat.{_*_, _≤_, _<_};
 ghost use lib.ListN.{length, getD};
 ghost use Rattle.polynomial.specs.Sums.{add};
-ghost use Rattle.code.specs.Calls.{Written, judgeAnswer, outcomeNumber};
+ghost use Rattle.code.specs.Calls.{Written, judgeAnswer, outcome, outcomeNumber, statuses};
 ghost use Rattle.code.specs.Demands.{QuotedPage};
 ghost use Rattle.code.specs.Layout.{IsBlank, IsPage, dataBytes, pageBytes};
 ghost use Rattle.code.specs.Parameters.{Accepted};
@@ -16,6 +17,7 @@ ghost use Rattle.code.specs.declared.Outcome.{Outcome};
 ghost use Rattle.code.specs.declared.Verdict.{Verdict};
 ghost use Rattle.gate_rounds.specs.Answers.{isBlank, isDone, isMember};
 ghost use Rattle.gate_rounds.specs.Apt.{Apt};
+ghost use Rattle.gate_rounds.specs.Singles.{Each, Listable, rooms};
 use code::Outcome;
 use code::Parameters;
 use code::Verdict;
@@ -209,6 +211,122 @@ fn scratched(p: Parameters, page: &mut [u8], k: usize, e: u8)
     check::expect(!member(j));
 }
 
+// ---- many pages in one call
+
+// Is it a number that is listed? Of 0, 8 and 13 it is.
+fn listable(n: u8) -> bool
+    ensures { λ b. ⌜ (Listable n → b ≡ true) ⌝ }
+{
+    if n == 0 {
+        return true;
+    }
+    if n == 8 {
+        return true;
+    }
+    n == 13
+}
+
+// A page of such a call and its listed byte, beside a single call over the same bytes: the same number, the same page, and where it is
+// refused the page as it was.
+fn single(p: Parameters, l: u32, blocks: &[u8], page: &[u8], said: u8, one: &mut [u8], old: &[u8])
+    requires { ⌜ Written p l (now blocks) (now one) (now page) (outcome said) × (now old ≡ now one) × Listable said ⌝ }
+{
+    check::expect(listable(said));
+    let r = page::write(p, l, blocks, one);
+    check::expect(number(r) == said);
+    check::expect(check::same(one, page));
+    if done(r) {
+        return;
+    }
+    check::expect(check::same(page, old));
+}
+
+// Page k, with rooms for it; its blocks take b bytes and it has n.
+fn single_rooms(
+    p: Parameters,
+    l: u32,
+    k: usize,
+    blocks: &[u8],
+    pages: &[u8],
+    list: &[u8],
+    b: usize,
+    n: usize,
+)
+    requires { ⌜ Each p l (now blocks) (now pages) (now list) × (k < length (now list)) × (b ≡ dataBytes p) × (n ≡ pageBytes p)
+        × (b ≤ 1024) × (n ≤ 1024) ⌝ }
+{
+    let mut one = [0xa5u8; 1024];
+    let old = [0xa5u8; 1024];
+    let at = k * b;
+    let end = at + b;
+    let start = k * n;
+    let stop = start + n;
+    let said = list[k];
+    single(
+        p,
+        l,
+        &blocks[at..end],
+        &pages[start..stop],
+        said,
+        &mut one[..n],
+        &old[..n],
+    );
+}
+
+// Each page.
+fn singles(p: Parameters, l: u32, blocks: &[u8], pages: &[u8], list: &[u8], b: usize, n: usize)
+    requires { ⌜ Each p l (now blocks) (now pages) (now list) × (b ≡ dataBytes p) × (n ≡ pageBytes p) × (b ≤ 1024) × (n ≤ 1024) ⌝ }
+{
+    let mut k: usize = 0;
+    while k < list.len() {
+        single_rooms(p, l, k, blocks, pages, list, b, n);
+        k += 1;
+    }
+}
+
+// Three pages: the call is done, whatever bytes the blocks are.
+fn three(
+    p: Parameters,
+    l: u32,
+    blocks: &[u8],
+    pages: &mut [u8],
+    list: &mut [u8],
+    b: usize,
+    n: usize,
+)
+    requires { ⌜ Accepted p × Width l × (length (now blocks) ≡ 3 * dataBytes p) × (now pages ≡ rooms (pageBytes p))
+        × (length (now list) ≡ 3) × (b ≡ dataBytes p) × (n ≡ pageBytes p) × (b ≤ 1024) × (n ≤ 1024) ⌝ }
+    ensures { λ x. ⌜ now (list .exit) ≡ statuses p l 3 (now (blocks .entry)) ⌝ }
+{
+    let r = page::write_many(p, l, 3, blocks, pages, list);
+    check::expect(done(r));
+    singles(p, l, blocks, pages, list, b, n);
+}
+
+// With rooms; what is listed.
+fn three_rooms(p: Parameters, l: u32, blocks: &[u8], b: usize, n: usize) -> [u8; 3]
+    requires { ⌜ Accepted p × Width l × (length (now blocks) ≡ 3 * dataBytes p) × (b ≡ dataBytes p) × (n ≡ pageBytes p) × (b ≤ 1024)
+        × (n ≤ 1024) ⌝ }
+    ensures { λ r. ⌜ r ≡ statuses p l 3 (now (blocks .entry)) ⌝ }
+{
+    let mut pages = [0xa5u8; 3072];
+    let mut list = [0xffu8; 3];
+    let size = 3 * n;
+    three(p, l, blocks, &mut pages[..size], &mut list, b, n);
+    list
+}
+
+// And it is x, y and z.
+fn three_listed(p: Parameters, l: u32, blocks: &[u8], b: usize, n: usize, x: u8, y: u8, z: u8)
+    requires { ⌜ Accepted p × Width l × (length (now blocks) ≡ 3 * dataBytes p) × (b ≡ dataBytes p) × (n ≡ pageBytes p) × (b ≤ 1024)
+        × (n ≤ 1024) × (statuses p l 3 (now blocks) ≡ (x ∷ y ∷ z ∷ [])) ⌝ }
+{
+    let said = three_rooms(p, l, blocks, b, n);
+    check::expect(said[0] == x);
+    check::expect(said[1] == y);
+    check::expect(said[2] == z);
+}
+
 // ---- the laws on blocks a and b that fit and make no blank page, nor does their sum, at some widths
 
 // Blocks a and b, and other bytes, refused alike where they do not fit.
@@ -313,7 +431,63 @@ fn holds(p: Parameters, a: &[u8], b: &[u8], x: &[u8]) -> bool
     rewrites_rooms(p, x, a.len())
 }
 
+// Three pages of some sheets.
+fn boards() {
+    // sheet A: blocks that are written, stray ones, and ones
+    let p = Parameters {
+        q: 4,
+        m: 2,
+        v: 1,
+        t0: 1,
+        t1: 2,
+        t2: 0,
+        t3: 0,
+        s: 0,
+    };
+    let blocks = [0x01u8, 0x01, 0x00, 0x80, 0x01, 0x00, 0x7f, 0xff, 0x07];
+    three_listed(p, 8, &blocks, 3, 4, 0, 8, 13);
+    // with s 3 ones are written; the stray ones stand last
+    let p = Parameters {
+        q: 4,
+        m: 2,
+        v: 1,
+        t0: 1,
+        t1: 2,
+        t2: 0,
+        t3: 0,
+        s: 3,
+    };
+    let blocks = [0x0fu8, 0xff, 0x02, 0x01, 0x10, 0x00];
+    three_listed(p, 1, &blocks, 2, 4, 0, 0, 8);
+    // q = 8, all refused, and q = 12
+    let p = Parameters {
+        q: 8,
+        m: 2,
+        v: 1,
+        t0: 1,
+        t1: 2,
+        t2: 0,
+        t3: 0,
+        s: 0,
+    };
+    let blocks = [0xffu8; 183];
+    three_listed(p, 64, &blocks, 61, 64, 8, 8, 8);
+    let p = Parameters {
+        q: 12,
+        m: 2,
+        v: 1,
+        t0: 1,
+        t1: 2,
+        t2: 0,
+        t3: 0,
+        s: 0,
+    };
+    let blocks = [0x06u8; 3060];
+    three_rooms(p, 33, &blocks, 1020, 1024);
+}
+
 fn main() {
+    boards();
     // the requirement's sheet A, with its member C2 01 13 00, its page of a failing nested word and its erased pages
     let p = Parameters {
         q: 4,

@@ -1,7 +1,8 @@
 // Runs the calls on records from standard input and writes what they give.
 //   record   36 bytes: call, q, m, v, t0 to t3, index, second index, width, 0, page length, buffer length (two bytes each, low first), u,
-//            count (eight bytes each), s (four); then the page's bytes, for a writing the blocks', for a feeding the register's 96
-//   answer   the refusal's number or 0, then what the call gives, and the lent buffer whole;
+//            count (eight bytes each), s (four); then the page's bytes, for a writing the blocks', for a feeding the register's 96.
+//            A writing of many pages has their number in count, the length of all in the buffer's length, and the list's in u
+//   answer   the refusal's number or 0, then what the call gives, and the lent buffer whole, of many pages that and the list;
 //            of a verdict 0, 32 or 64, then the word's index; 96 for blank
 use code::Nesting;
 use code::Outcome;
@@ -267,6 +268,20 @@ fn bytes_call(call: u8, p: Parameters, page: &[u8], i: usize, width: u32, out: &
     put_bytes(r, out);
 }
 
+// Many pages, and the list.
+fn many_call(
+    p: Parameters,
+    width: u32,
+    count: u32,
+    blocks: &[u8],
+    pages: &mut [u8],
+    list: &mut [u8],
+) {
+    let r = page::write_many(p, width, count, blocks, pages, list);
+    put_bytes(r, pages);
+    io::write_all(STDOUT_FILENO, list);
+}
+
 // Those that give syndromes, and the quote.
 fn list_call(call: u8, p: Parameters, page: &[u8], i: usize, list: &mut [u16]) {
     if call == 14 {
@@ -287,6 +302,23 @@ fn lend_bytes(call: u8, p: Parameters, page: &[u8], i: usize, width: u32, size: 
     let mut room = [165u8; 8192];
     if size <= 8192 {
         bytes_call(call, p, page, i, width, &mut room[..size]);
+    }
+}
+
+fn lend_many(p: Parameters, width: u32, count: u32, blocks: &[u8], size: usize, length: usize) {
+    let mut room = [165u8; 8192];
+    let mut list = [165u8; 32];
+    if size <= 8192 {
+        if length <= 32 {
+            many_call(
+                p,
+                width,
+                count,
+                blocks,
+                &mut room[..size],
+                &mut list[..length],
+            );
+        }
     }
 }
 
@@ -352,6 +384,16 @@ fn run(h: &[u8], page: &[u8], size: usize) {
     }
     if call == 11 {
         judge(p, page);
+    }
+    if call == 15 {
+        lend_many(
+            p,
+            width,
+            (count % 4294967296) as u32,
+            page,
+            size,
+            (u % 65536) as usize,
+        );
     }
 }
 

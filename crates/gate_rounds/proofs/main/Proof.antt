@@ -7,6 +7,9 @@ use Rattle.gate_rounds.specs.Sheets.{accepted-8, accepted-12, accepted-s
 use Rattle.gate_rounds.proofs.main.Statement.{statement}
 use Rattle.gate_rounds.proofs.main.Tie as tie
 
+boards-requires : tie.Need-boards-requires
+boards-requires c κs = search needs
+
 slice-aggregate-holds : tie.Need-slice-aggregate-holds
 slice-aggregate-holds c = search needs
 
@@ -167,6 +170,7 @@ pub main-spec : {M : Type 1} → statement M
 main-spec =
     tie.close
     (tie.spec
+    boards-requires
     slice-aggregate-holds
     slice-aggregate-holds-2
     slice-aggregate-holds-3
