@@ -38,7 +38,17 @@ fn write_page(
     let end = at + size;
     let start = k * bytes;
     let stop = start + bytes;
-    encode::write_span(p, w, &blocks[at..end], &mut pages[start..stop], from, to, width, t, acc);
+    encode::write_span(
+        p,
+        w,
+        &blocks[at..end],
+        &mut pages[start..stop],
+        from,
+        to,
+        width,
+        t,
+        acc,
+    );
 }
 
 // The same of every page.
