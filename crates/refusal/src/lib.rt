@@ -152,10 +152,10 @@ pub fn many_refusal(
     if pages != c * layout::page_bytes(p) {
         return 7;
     }
-    if list != c {
-        return 10;
+    if list == c {
+        return 0;
     }
-    0
+    10
 }
 
 // ---- calls on one word

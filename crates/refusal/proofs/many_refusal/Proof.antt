@@ -91,7 +91,7 @@ returns-5 c =
     let e = f .before .before in
     let s = e .before .before .before in
     let a = s .args in
-    many-list (a .p) (a .width) (a .count) (a .blocks) (a .pages) (a .list) (s .pre .0) (wide e) (few f) (blocks-fit g) (pages-fit h) (c .if5 .taken)
+    many-else (a .p) (a .width) (a .count) (a .blocks) (a .pages) (a .list) (s .pre .0) (wide e) (few f) (blocks-fit g) (pages-fit h) (c .if5 .taken)
 
 returns-6 : tie.Need-returns-6
 returns-6 c =
@@ -101,7 +101,7 @@ returns-6 c =
     let e = f .before .before in
     let s = e .before .before .before in
     let a = s .args in
-    many-else (a .p) (a .width) (a .count) (a .blocks) (a .pages) (a .list) (s .pre .0) (wide e) (few f) (blocks-fit g) (pages-fit h) (c .if5 .left)
+    many-list (a .p) (a .width) (a .count) (a .blocks) (a .pages) (a .list) (s .pre .0) (wide e) (few f) (blocks-fit g) (pages-fit h) (c .if5 .left)
 
 pub many-refusal-spec : {M : Type 1} → statement M
 many-refusal-spec =
