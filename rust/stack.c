@@ -1,6 +1,6 @@
 /*
  * How much stack each call takes, on the largest sheet and on shortened ones: a thread on a painted stack. Prints the most of
- * all sheets. Fails above 192 KiB for write of many pages, and above 32 KiB for every other call.
+ * all sheets. Fails above 128 KiB for write of many pages, and above 32 KiB for every other call.
  */
 #define _GNU_SOURCE
 #include "gii_bch.h"
@@ -13,7 +13,7 @@
 
 #define STACK ((size_t)1 << 20)
 #define LIMIT ((size_t)32 * 1024)
-#define MANY_LIMIT ((size_t)192 * 1024)
+#define MANY_LIMIT ((size_t)128 * 1024)
 #define PAINT 0xA5
 
 /* Full sub-words; half of them; a whole number of bytes; the least that is accepted. */

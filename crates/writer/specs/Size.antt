@@ -7,27 +7,12 @@ use native.Mathlib.Nat as Nat
 use native.Mathlib.Omega.{arith}
 use lib.Dec.{lit≤}
 use lib.ListN.{length, replicate, take, length-append, length-replicate, length-take}
-use Rattle.code.specs.Placement.{offset-replicate}
-use Rattle.code.specs.declared.Parameters.{Parameters}
-use Rattle.code.specs.Bytes.{length-join}
-use Rattle.code.specs.Code.{encode}
-use Rattle.code.specs.Encode.{encode-length}
-use Rattle.code.specs.Layout.{blocksOf, pageBytes, pageOf, wordSizes}
-use Rattle.code.specs.Pages.{blocks-many, length-sizes, pageOf-eq}
-use Rattle.code.specs.Parameters.{subWordBytes}
+use Rattle.code.specs.Layout.{pageBytes}
+use Rattle.code.specs.Pages.{page-length}
 use Rattle.code.specs.Writer.{Wrote, blocksGiven, lead, sheetGiven, writer}
-use Rattle.layout.specs.Runs.{sum-all}
 use Rattle.layout.specs.Sizes.{page-high}
 use Rattle.writer.specs.Output.{refusalOf, writer-done, writer-refused}
 use Rattle.writer.specs.Sheet.{write-accepted}
-
--- a page has its length whatever the blocks are
-page-length : (p : Parameters) (x : List ℕ) → length (pageOf p x) ≡ pageBytes p
-page-length p x =
-    let many : length (encode p (blocksOf p x)) ≡ length (wordSizes p) =
-    encode-length p (blocksOf p x) ∙ blocks-many p x ∙ sym (length-sizes p) in
-    ap length (pageOf-eq p x) ∙ length-join (wordSizes p) (encode p (blocksOf p x)) many
-    ∙ sym (sum-all (wordSizes p) (p .m) (length-sizes p)) ∙ offset-replicate (p .m) (subWordBytes p) (p .m) (Nat.le-refl (p .m))
 
 module _ (input : List ℕ) where
   pub writer-most : length (writer input) ≤ 4097

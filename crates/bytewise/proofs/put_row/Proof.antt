@@ -5,7 +5,7 @@ use Prim.Native.Nat.{_+_, _-_, _≤_}
 use native.Mathlib.Omega.{arith}
 use lib.ListN.{length, length-set}
 use Rattle.polynomial.specs.Xor.{xors}
-use Rattle.kernels.specs.Build.{Putting, put-start}
+use Rattle.kernels.specs.Build.{Putting}
 use Rattle.kernels.specs.Value.{value-nil}
 use Rattle.bytewise.specs.Bytes.{six-done, six-turn, sums}
 use Rattle.bytewise.proofs.put_row.Statement.{statement}

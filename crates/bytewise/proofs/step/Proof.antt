@@ -1,9 +1,7 @@
 use borrow.Author.Needs.{needs}
-use mathlib.Core.Path.{_≡_, refl, _∙_}
-use Prim.Native.Nat.{_*_, _%_, _^_}
+use mathlib.Core.Path.{refl, _∙_}
 use native.Mathlib.Omega.{arith}
 use lib.ListN.{replicate}
-use Rattle.polynomial.specs.Digits.{value}
 use Rattle.kernels.specs.Above.{kept-clear, next-start, one-less, step-law, word-parts}
 use Rattle.bytewise.specs.Bytes.{half-is}
 use Rattle.bytewise.proofs.step.Statement.{statement}

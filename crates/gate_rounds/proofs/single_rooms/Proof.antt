@@ -3,7 +3,7 @@ use mathlib.Core.Path.{refl, sym, _∙_}
 use native.Mathlib.Nat as Nat
 use native.Mathlib.Omega.{arith}
 use Prim.Native.Nat.{_+_, _*_, _≤_}
-use lib.ListN.{length, length-take}
+use lib.ListN.{length-take}
 use Rattle.gate_rounds.specs.Singles.{blocks-room, blocks-small, page-room, page-small, single-of}
 use Rattle.gate_rounds.proofs.single_rooms.Statement.{statement}
 use Rattle.gate_rounds.proofs.single_rooms.Tie as tie
