@@ -441,6 +441,12 @@ pub record QuotedC (p : Parameters) : Type 0 where
       → PageBuffer p old → (¬ IsBlank p (pageOf p blocks)) → WrittenC p L blocks old after r → QuotedPage p number blocks after
 
 -- ---- many pages in C
+-- the same number and, when that is 0, the same list, and the same pages where the list has 0
+pub record AlikeManyC (p : Parameters) (after after′ listed listed′ : List ℕ) (r r′ : ℕ) : Type 0 where
+  pub answers : r ≡ r′
+  pub lists : r ≡ 0 → listed ≡ listed′
+  pub pages : r ≡ 0 → (k : ℕ) → k < length listed → getD listed k 0 ≡ 0 → part (pageBytes p) k after ≡ part (pageBytes p) k after′
+
 pub record ManyC (p : Parameters) : Type 0 where
   pub done : (L count : ℕ) (blocks pages after list listed : List ℕ) (r : ℕ) → WrittenManyC p L count blocks pages after list listed r
       → (r ≡ 0) ↔ Lent p L count (length blocks) (length pages) (length list)
@@ -453,6 +459,9 @@ pub record ManyC (p : Parameters) : Type 0 where
       → (after ≡ runs (λ k. part (pageBytes p) k after) 0 count) × (length after ≡ length pages) × (length listed ≡ count)
   pub says : (L count : ℕ) (blocks pages after list listed : List ℕ) → WrittenManyC p L count blocks pages after list listed 0
       → (k : ℕ) → k < count → (getD listed k 0 ≡ 0) ⊎ ((getD listed k 0 ≡ 8) ⊎ (getD listed k 0 ≡ 13))
+  pub alike : (L M count : ℕ) (blocks pages pages′ after after′ list list′ listed listed′ : List ℕ) (r r′ : ℕ) → Width L → Width M
+      → length pages ≡ length pages′ → length list ≡ length list′ → WrittenManyC p L count blocks pages after list listed r
+      → WrittenManyC p M count blocks pages′ after′ list′ listed′ r′ → AlikeManyC p after after′ listed listed′ r r′
 
 -- ---- 14: of the sheets that keep every other rule, those are refused, and with 14, whose s is above n - w_v - 1
 abbrev pub Shortening : Type 0

@@ -14,7 +14,7 @@ use Rattle.code.specs.Answers.{judged, judged-blanks, judged-zero, leave
 use Rattle.code.specs.Buffers.{bytes-at}
 use Rattle.code.specs.Calls.{Judged, JudgedC, QuoteMadeC, ReadOut, ReadOutC, Written, WrittenC, WrittenMany, WrittenManyC, asBytes, judgeAnswer}
 use Rattle.code.specs.Calls.{leaves, outcome, outcomeNumber, quote, readAnswer, verdictNumber}
-use Rattle.code.specs.Demands.{AlikeC, BlankC, BlankWriteLaws, BurstC, Demand3C, DemandsC, ManyC, QuoteLaws, QuotedC, RewritesC, SumsC, numberAt}
+use Rattle.code.specs.Demands.{AlikeC, AlikeManyC, BlankC, BlankWriteLaws, BurstC, Demand3C, DemandsC, ManyC, QuoteLaws, QuotedC, RewritesC, SumsC, numberAt}
 use Rattle.code.specs.Layout.{Bytes, Fits, IsBlank, IsPage, pageOf}
 use Rattle.code.specs.Parameters.{Accepted}
 use Rattle.code.specs.Quote.{quote-length, quote-none, quote-small}
@@ -194,6 +194,21 @@ module _ (p : Parameters) (A : Accepted p) where
   many-done L count blocks pages after list listed W =
       rw (ap outcome (sym (W .0 .answers))) at (written-many L count blocks pages after list listed 0 W)
 
+  many-alike-c : (L M count : ℕ) (blocks pages pages′ after after′ list list′ listed listed′ : List ℕ) (r r′ : ℕ) → Width L → Width M
+      → length pages ≡ length pages′ → length list ≡ length list′ → WrittenManyC p L count blocks pages after list listed r
+      → WrittenManyC p M count blocks pages′ after′ list′ listed′ r′ → AlikeManyC p after after′ listed listed′ r r′
+  many-alike-c L M count blocks pages pages′ after after′ list list′ listed listed′ r r′ w w′ e f W W′ =
+      let k = manyRefused L count blocks pages list in
+      let k′ = manyRefused M count blocks pages′ list′ in
+      let s = many p A .alike L M count blocks pages pages′ after after′ list list′ listed listed′ (outcome k) (outcome k′) w w′ e f
+      (written-many L count blocks pages after list listed r W) (written-many M count blocks pages′ after′ list′ listed′ r′ W′) in
+      let d : r ≡ 0 → outcome k ≡ Outcome.Done = λ z. ap outcome (sym (W .0 .answers) ∙ z) in
+      record {
+        answers = W .0 .answers ∙ sym (outcome-number k) ∙ ap outcomeNumber (s .answers) ∙ outcome-number k′ ∙ sym (W′ .0 .answers);
+        lists = λ z. s .lists (d z);
+        pages = λ z. s .pages (d z);
+      }
+
   pub many-c : ManyC p
   many-c = record {
     done = λ L count blocks pages after list listed r W.
@@ -213,6 +228,7 @@ module _ (p : Parameters) (A : Accepted p) where
         many p A .whole L count blocks pages after list listed (many-done L count blocks pages after list listed W);
     says = λ L count blocks pages after list listed W.
         many p A .says L count blocks pages after list listed (many-done L count blocks pages after list listed W);
+    alike = many-alike-c;
   }
 
 pub demands-c : DemandsC
