@@ -1,6 +1,6 @@
 -- Bursts: pages that differ in one sub-word alone, within w_v neighbouring places. Nested word 0 of their sum is the difference of
 -- that sub-word, so they do not both pass. One place more is too many: g_v in one sub-word and zeros elsewhere pass.
---   single p i c    m words, word i of them c, the others zero; singlePage p i c their page
+--   singlePage p i c    the page of m words, word i of them c, the others zero
 use mathlib.Core.Path.{_≡_, sym, ap, ap₂, _∙_}
 use mathlib.Core.Logic.{_≢_, _⊎_, inl, inr}
 use mathlib.Core.List.{List, [], _∷_}
@@ -8,9 +8,9 @@ use Prim.Native.Nat.{ℕ, zero, suc, _+_, _-_, _*_, _/_, _%_, _^_, _≤_, _<_, z
 use native.Mathlib.Nat as Nat
 use native.Mathlib.Decide.{decLe, ℕ-discrete}
 use native.Mathlib.Omega.{arith}
-use lib.ListN.{length, getD, replicate, set, length-replicate, length-set, getD-replicate}
+use lib.ListN.{length, getD}
 use lib.Pow.{low, pow-mono, pow-pos, shl-lt}
-use lib.Seq.{ext-getD, getD-set-same, getD-set-other}
+use lib.Seq.{ext-getD}
 use Rattle.polynomial.specs.Bits.{coefficient}
 use Rattle.polynomial.specs.Burst.{Window, burst-zero}
 use Rattle.polynomial.specs.Clmul.{clmul, clmul-one-l, clmul-pow, clmul-zero-r}
@@ -18,7 +18,7 @@ use Rattle.polynomial.specs.Coefficients.{beyond, coefficient-xor, same-bits}
 use Rattle.polynomial.specs.Digits.{low-coefficient}
 use Rattle.polynomial.specs.Division.{Deg, lt-of-deg, rem, rem-clmul-r, rem-multiple, rem-small, rem-xor, rem-zero, unity-deg, xor-lt}
 use Rattle.polynomial.specs.Multiple.{deg-pos, rem-reduced}
-use Rattle.polynomial.specs.Sums.{All, add, add-at, at-all, length-add}
+use Rattle.polynomial.specs.Sums.{add, add-at, length-add}
 use Rattle.polynomial.specs.Xor.{xor, xor-eq-zero, xor-self, xor-zero-l, xor-zero-r}
 use Rattle.field.specs.Fields.{fieldOf}
 use Rattle.generator.specs.Generator.{generator-cyclic}
@@ -27,15 +27,15 @@ use Rattle.code.specs.Accepted.{Rules, degree-of, lawful, n-is, rising, 
 use Rattle.code.specs.Code.{combine, degree, gen, nested}
 use Rattle.code.specs.Demands.{Burst, InBurst}
 use Rattle.code.specs.Distance.{Passing, nested-add}
-use Rattle.code.specs.Layout.{IsBlank, IsPage, coefficientOf, wordSizes, wordsOf}
+use Rattle.code.specs.Layout.{IsBlank, IsPage, coefficientOf, single, wordSizes, wordsOf}
 use Rattle.code.specs.Lists.{join}
 use Rattle.code.specs.Pages.{IsWords, join-words, word-lt, words-join, words-many, words-page}
 use Rattle.code.specs.Parameters.{len, stored, strength, subWordBytes}
-use Rattle.code.specs.Placement.{sub-word-bit}
+use Rattle.code.specs.Placement.{single-all, single-at, single-else, single-long, sub-word-bit}
 use Rattle.code.specs.Steps.{Divides, combine-cons, combine-nil, degree-eq, gen-eq, nested-eq}
 
 -- ---- words that are zero but for one
-combine-none : (f : ℕ → ℕ) (i : ℕ) (cs : List ℕ) → ((j : ℕ) → j < length cs → getD cs j 0 ≡ 0) → combine f i cs ≡ 0
+pub combine-none : (f : ℕ → ℕ) (i : ℕ) (cs : List ℕ) → ((j : ℕ) → j < length cs → getD cs j 0 ≡ 0) → combine f i cs ≡ 0
 combine-none f i [] h = combine-nil f i
 combine-none f i (c ∷ cs) h =
     combine-cons f i c cs
@@ -60,9 +60,6 @@ nested-one : (C : Parameters) (l o : ℕ) (cs : List ℕ) → o < length cs → 
 nested-one C l o cs h z =
     nested-eq C l cs
     ∙ ap (rem (2 ^ len C + 1) (len C)) (combine-one (λ i. 2 ^ (l * i)) 0 o cs h z ∙ ap (λ (k : ℕ). clmul (2 ^ (l * k)) (getD cs o 0)) (Nat.zero-add o))
-
-abbrev pub single : Parameters → ℕ → ℕ → List ℕ
-single p i c = set (replicate (p .m) 0) i c
 
 abbrev pub singlePage : Parameters → ℕ → ℕ → List ℕ
 singlePage p i c = join (wordSizes p) (single p i c)
@@ -206,27 +203,11 @@ module _ (p : Parameters) (R : Rules p) where
 
   -- ---- a multiple of g_v in sub-word i, and zeros elsewhere
   module _ (i c : ℕ) (l : i < p .m) where
-    single-long : length (single p i c) ≡ p .m
-    single-long = length-set (replicate (p .m) 0) i c ∙ length-replicate (p .m) 0
-
-    single-at : getD (single p i c) i 0 ≡ c
-    single-at = getD-set-same (replicate (p .m) 0) i c 0 (rw (length-replicate {A = ℕ} (p .m) 0) l)
-
-    single-else : (j : ℕ) → j < p .m → j ≢ i → getD (single p i c) j 0 ≡ 0
-    single-else j h o = getD-set-other (replicate (p .m) 0) i j c 0 o ∙ getD-replicate (p .m) j 0 0 h
-
-    single-all : (P : ℕ → Type 0) → P 0 → P c → All P (single p i c)
-    single-all P z h = at-all P (single p i c) (λ j b. go j (rw single-long at b) (ℕ-discrete j i))
-      where
-        go : (j : ℕ) → j < p .m → Dec (j ≡ i) → P (getD (single p i c) j 0)
-        go j b (yes s) = rw (s, single-at) h
-        go j b (no s) = rw (single-else j b s) z
-
     -- the members' rules: the other levels' generators divide g_v, and moves and reductions keep multiples
     pub single-passing : Divides p (p .v) c → Passing p (single p i c)
     single-passing d = record {
-      words = single-all (λ f. Divides p 0 f) (rem-zero (gen p 0) (degree p 0)) (lower 0 zero-le);
-      nesteds = λ k h. rw (nested-one p k i (single p i c) (rw single-long l) (λ j b. single-else j (rw single-long at b)), single-at)
+      words = single-all p i c l (λ f. Divides p 0 f) (rem-zero (gen p 0) (degree p 0)) (lower 0 zero-le);
+      nesteds = λ k h. rw (nested-one p k i (single p i c) (rw (single-long p i c) l) (λ j b. single-else p i c j (rw (single-long p i c) at b)), single-at p i c l)
           (moved (p .v - k) (Nat.sub-le (p .v) k) (2 ^ (k * i)));
     }
       where
@@ -243,7 +224,7 @@ module _ (p : Parameters) (R : Rules p) where
     -- their page
     module _ (b : c < 2 ^ stored p) where
       single-words : IsWords p (single p i c)
-      single-words = record { many = single-long; below = single-all (λ f. f < 2 ^ stored p) (pow-pos (stored p)) b }
+      single-words = record { many = single-long p i c; below = single-all p i c l (λ f. f < 2 ^ stored p) (pow-pos (stored p)) b }
 
       pub single-is : IsPage p (singlePage p i c)
       single-is = words-page p R (single p i c) single-words
@@ -266,7 +247,7 @@ module _ (p : Parameters) (R : Rules p) where
           clash : (j : ℕ) → j < p .m → j ≢ i → ⊥
           clash j h s =
               let r : 0 < stored p = omega (arith, stored-room p R 0 zero-le) in
-              let z : _≡_ {A = ℕ} 0 1 = sym (single-bit j 0 h r ∙ ap (λ (f : ℕ). coefficient f 0) (single-else j h s)) ∙ o j 0 h r in
+              let z : _≡_ {A = ℕ} 0 1 = sym (single-bit j 0 h r ∙ ap (λ (f : ℕ). coefficient f 0) (single-else p i c j h s)) ∙ o j 0 h r in
               Nat.suc-ne-zero 0 (sym z)
 
           go : Dec (i ≡ 0) → ⊥
@@ -315,7 +296,7 @@ module _ (p : Parameters) (R : Rules p) where
     some = singlePage p i moved
 
     pub apart-pages : none ≢ some
-    apart-pages e = Nat.lt-irrefl 0 (rw (← (sym (single-at i 0 l) ∙ ap (λ (cs : List ℕ). getD cs i 0) words ∙ single-at i moved l)) at moved-pos)
+    apart-pages e = Nat.lt-irrefl 0 (rw (← (sym (single-at p i 0 l) ∙ ap (λ (cs : List ℕ). getD cs i 0) words ∙ single-at p i moved l)) at moved-pos)
       where
         words : single p i 0 ≡ single p i moved
         words = sym (single-has i 0 l (pow-pos (stored p))) ∙ ap (wordsOf p) e ∙ single-has i moved l moved-lt
@@ -329,7 +310,7 @@ module _ (p : Parameters) (R : Rules p) where
 
         go : Dec (j ≡ i) → (j ≡ i) × (a ≤ k) × (k < a + (degree p (p .v) + 1))
         go (yes s) =
-            let q = moved-places k (λ z. rw s at unequal (ap (λ (f : ℕ). coefficient f k) (single-at i 0 l) ∙ beyond 0 0 k (pow-pos 0) zero-le
-            ∙ sym (ap (λ (f : ℕ). coefficient f k) (single-at i moved l) ∙ z))) in
+            let q = moved-places k (λ z. rw s at unequal (ap (λ (f : ℕ). coefficient f k) (single-at p i 0 l) ∙ beyond 0 0 k (pow-pos 0) zero-le
+            ∙ sym (ap (λ (f : ℕ). coefficient f k) (single-at p i moved l) ∙ z))) in
             (s, q .0, q .1)
-        go (no s) = absurd (unequal (ap (λ (f : ℕ). coefficient f k) (single-else i 0 l j h s ∙ sym (single-else i moved l j h s))))
+        go (no s) = absurd (unequal (ap (λ (f : ℕ). coefficient f k) (single-else p i 0 j h s ∙ sym (single-else p i moved j h s))))

@@ -2,11 +2,11 @@
 --   Small ks xs    one number for each size, each of at most that many bytes
 use mathlib.Core.Path.{_≡_, refl, sym, ap, ap₂, _∙_}
 use mathlib.Core.List.{List, [], _∷_, _++_}
-use Prim.Native.Nat.{ℕ, suc, _+_, _-_, _*_, _^_, _≤_, _<_}
+use Prim.Native.Nat.{ℕ, zero, suc, _+_, _-_, _*_, _^_, _≤_, _<_}
 use native.Mathlib.Nat as Nat
 use native.Mathlib.Omega.{arith}
-use lib.ListN.{length, take, drop, length-append, length-take, length-drop, take-append-drop}
-use lib.Seq.{take-at, drop-at}
+use lib.ListN.{length, getD, take, drop, length-append, length-take, length-drop, take-append-drop}
+use lib.Seq.{take-at, drop-at, drop-drop}
 use Rattle.polynomial.specs.Digits.{digits, digits-lt, digits-value, digits-xor, length-digits, value, value-digits}
 use Rattle.polynomial.specs.Division.{xor-lt}
 use Rattle.polynomial.specs.Sums.{add, add-append, all-append, all-drop, all-take}
@@ -39,6 +39,15 @@ length-join [] xs e = refl
 length-join (k ∷ ks) [] e = absurd (Nat.suc-ne-zero (length ks) (sym e))
 length-join (k ∷ ks) (x ∷ xs) e =
     length-append (digits 8 k x) (join ks xs) ∙ ap₂ _+_ (length-digits 8 k x) (length-join ks xs (Nat.suc-inj e))
+
+-- the number of run i
+pub split-at : (ks bs : List ℕ) (i : ℕ) → i < length ks → getD (split ks bs) i 0 ≡ value 8 (take (getD ks i 0) (drop (sum (take i ks)) bs))
+unfolding split sum
+split-at [] bs i h = absurd (Nat.not-suc-le-zero h)
+split-at (k ∷ ks) bs zero h = refl
+split-at (k ∷ ks) bs (suc i) h =
+    split-at ks (drop k bs) i (Nat.le-of-suc-le-suc h)
+    ∙ ap (λ (l : List ℕ). value 8 (take (getD ks i 0) l)) (drop-drop (sum (take i ks)) k bs)
 
 pub bytes-join : (ks xs : List ℕ) → Bytes (join ks xs)
 unfolding join

@@ -28,8 +28,8 @@ use Rattle.code.specs.Register.{Register, Fed}
 use Rattle.code.specs.Lists.{range, part, runs, _orElse_, valuesBy, lastRefusal}
 use Rattle.code.specs.Parameters.{nestedBytes, strength, sheetRefusal}
 use Rattle.code.specs.Code.{gen, degree, remainder, nested, N, shortRemainder, syndromes, verdict, failingNumber, failingValues}
-use Rattle.code.specs.Layout.{wordsOf, blank, pageBytes, pageOf, dataBits, dataBytes, dataOf}
-use Rattle.code.specs.Refusals.{writeRefusal, manyRefusal, readRefusal, judgeRefusal, remainderRefusal, shortRefusal, nestedRefusal}
+use Rattle.code.specs.Layout.{altered, wordsOf, blank, pageBytes, pageOf, dataBits, dataBytes, dataOf}
+use Rattle.code.specs.Refusals.{writeRefusal, manyRefusal, alterRefusal, readRefusal, judgeRefusal, remainderRefusal, shortRefusal, nestedRefusal}
 use Rattle.code.specs.Refusals.{syndromesRefusal, nestedSyndromesRefusal, openRefusal, feedRefusal, quoteRefusal, nestingRefusal}
 
 -- ---- numbers and values of the answers
@@ -115,6 +115,10 @@ abbrev pub WrittenMany : Parameters → ℕ → ℕ → List ℕ → List ℕ �
 WrittenMany p L count blocks pages after list listed r =
     Made (manyRefusal p L count (length blocks) (length pages) (length list)) (pagesBy p (statuses p L count blocks) blocks pages) pages after r
     × Made (manyRefusal p L count (length blocks) (length pages) (length list)) (statuses p L count blocks) list listed r
+
+-- ---- alter: bit r of block i made b
+abbrev pub Altered : Parameters → List ℕ → ℕ → ℕ → ℕ → List ℕ → Outcome → Type 0
+Altered p page i r b after o = Made (alterRefusal p page i r b) (altered p page i r b) page after o
 
 -- ---- judge and read out
 -- the verdict on the words of a page
@@ -237,6 +241,9 @@ abbrev pub WrittenManyC : Parameters → ℕ → ℕ → List ℕ → List ℕ �
 WrittenManyC p L count blocks pages after list listed r =
     MadeC (manyRefusal p L count (length blocks) (length pages) (length list)) (pagesBy p (statuses p L count blocks) blocks pages) pages after r
     × MadeC (manyRefusal p L count (length blocks) (length pages) (length list)) (statuses p L count blocks) list listed r
+
+abbrev pub AlteredC : Parameters → List ℕ → ℕ → ℕ → ℕ → List ℕ → ℕ → Type 0
+AlteredC p page i r b after o = MadeC (alterRefusal p page i r b) (altered p page i r b) page after o
 
 pub record ReadOutC (p : Parameters) (page blocks after : List ℕ) (r : ℕ) : Type 0 where
   pub answers : r ≡ readNumber p page blocks

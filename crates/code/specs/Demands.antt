@@ -12,18 +12,21 @@
 --   Burst p x y i a      two pages differ in sub-word i alone, in the burst from a on: the requirement's scratched run
 --   BurstLaws p          judge finds every burst, and a longer one it need not find
 --   ManyLaws p           many pages in one call: each page and each listed byte are a single call's
+--   SetTo p c i r b old  blocks c that fit: bit r of block i is b, and every other as `old` has it
+--   AlterLaws p          one bit altered: what changes, and that a member becomes the page of the altered blocks
 --   Shortening           which s are refused
 --   Demand3C p           the same of the C calls: WrittenC, ReadOutC, JudgedC, whose answers are numbers, 0 for done and member
 --   BlankC p             blank pages in C: 96 of judge and of read out, 13 of write
 --   BurstC p             bursts in C: judge's number is not 0
 --   QuotedC p            the quote of C, whose numbers are bytes
 --   ManyC p              many pages in C: a listed byte is the number of a single call
+--   AlterC p             one bit altered, in C
 use mathlib.Core.Path.{_≡_}
 use mathlib.Core.Logic.{_≢_, _↔_, _⊎_}
-use mathlib.Core.Bool.{cond}
+use mathlib.Core.Bool.{_&&_, _||_, cond}
 use mathlib.Core.List.{List, [], map}
 use Prim.Native.Nat.{ℕ, suc, _+_, _-_, _*_, _/_, _%_, _^_, _≤_, _<_}
-use lib.Dec.{eqb}
+use lib.Dec.{eqb, ltb}
 use lib.ListN.{length, getD, replicate, take, drop}
 use Rattle.polynomial.specs.Bits.{coefficient}
 use Rattle.polynomial.specs.Clmul.{clmul}
@@ -38,14 +41,14 @@ use Rattle.field.specs.Irreducible.{NoFactor}
 use Rattle.code.specs.declared.Parameters.{Parameters}
 use Rattle.code.specs.declared.Outcome.{Outcome}
 use Rattle.code.specs.declared.Verdict.{Verdict}
-use Rattle.code.specs.Calls.{Judged, JudgedC, QuoteMade, QuoteMadeC, ReadOut, ReadOutC, Written, WrittenC, WrittenMany, WrittenManyC, asBytes}
+use Rattle.code.specs.Calls.{Altered, AlteredC, Judged, JudgedC, QuoteMade, QuoteMadeC, ReadOut, ReadOutC, Written, WrittenC, WrittenMany, WrittenManyC, asBytes}
 use Rattle.code.specs.Calls.{empty, generators, nestedOf, nestedSyndromeList, nestedWordBytes}
 use Rattle.code.specs.Calls.{opened, outcome, pageVerdict, remainderBytes, shortBytes, subWordOf, syndromeList}
 use Rattle.code.specs.Code.{IsMember, N, carried, dataWords, degree, distance, divisor, encode, gen}
 use Rattle.code.specs.Code.{nested, newton, remainder, shortRemainder, verdict}
-use Rattle.code.specs.Layout.{Bytes, Fits, IsBlank, IsPage, blockBit, blockSizes, blocksClear, blocksOf, coefficientOf, dataBytes}
+use Rattle.code.specs.Layout.{Bytes, Fits, IsBlank, IsPage, altered, blockBit, blockSizes, blocksClear, blocksOf, coefficientOf, dataBytes}
 use Rattle.code.specs.Layout.{dataOf, differences, pageBytes, pageClear, pageOf, storedOf, wordsOf}
-use Rattle.code.specs.Lists.{any, countBelow, each, fitsIn, join, onesIn, part, range, runs, split, sum}
+use Rattle.code.specs.Lists.{addBelow, any, countBelow, each, fitsIn, join, onesIn, part, range, runs, split, sum}
 use Rattle.code.specs.Many.{Lent}
 use Rattle.code.specs.Parameters.{Accepted, full, len, nestedBytes, sheetRefusal, stored, strength, subWordBytes, unshortened}
 use Rattle.code.specs.Refused.{BlocksBuffer, PageBuffer, Width}
@@ -375,6 +378,63 @@ pub record ManyLaws (p : Parameters) : Type 0 where
       → length pages ≡ length pages′ → length list ≡ length list′ → WrittenMany p L count blocks pages after list listed r
       → WrittenMany p M count blocks pages′ after′ list′ listed′ r′ → AlikeMany p after after′ listed listed′ r r′
 
+-- ---- one bit altered
+-- bit r of block i is one of the sheet's, and b is a bit
+pub record NamesBit (p : Parameters) (i r b : ℕ) : Type 0 where
+  pub block : i < p .m
+  pub bit : r < stored p - degree p (p .v - i)
+  pub value : b ≤ 1
+
+-- blocks c that fit: bit r of block i is b, and bit k of block j, any other, is old j k
+pub record SetTo (p : Parameters) (c : List ℕ) (i r b : ℕ) (old : ℕ → ℕ → ℕ) : Type 0 where
+  pub fits : Fits p c
+  pub here : blockBit p c i r ≡ b
+  pub others : (j k : ℕ) → j < p .m → k < stored p - degree p (p .v - j) → (j ≢ i) ⊎ (k ≢ r) → blockBit p c j k ≡ old j k
+
+-- a member altered, with the answer o, and its altered blocks written, with the answer w: the same answer, and done the same page, a
+-- member; of a shortened sheet it is always done
+pub record AlteredMember (p : Parameters) (after page : List ℕ) (o w : Outcome) : Type 0 where
+  pub answers : o ≡ w
+  pub pages : o ≡ Outcome.Done → after ≡ page
+  pub judged : o ≡ Outcome.Done → (v : Verdict) → Judged p after v → v ≡ Verdict.Member
+  pub shortened : 0 < p .s → o ≡ Outcome.Done
+
+pub record AlterLaws (p : Parameters) : Type 0 where
+  -- done exactly when a page with clear spare bits is lent and a bit and its value are named, unless the page would be blank: then 13,
+  -- whether or not the value is another
+  pub done : (x after : List ℕ) (i r b : ℕ) (o : Outcome) → Bytes x → Altered p x i r b after o
+      → (o ≡ Outcome.Done) ↔ (IsPage p x × NamesBit p i r b × (¬ IsBlank p (altered p x i r b)))
+  pub blank : (x after : List ℕ) (i r b : ℕ) (o : Outcome) → Bytes x → Altered p x i r b after o
+      → (o ≡ Outcome.Refused 13) ↔ (IsPage p x × NamesBit p i r b × IsBlank p (altered p x i r b))
+  -- a refusal alters no byte, and an equal value none
+  pub kept : (x after : List ℕ) (i r b n : ℕ) → Altered p x i r b after (Outcome.Refused n) → after ≡ x
+  pub same : (x after : List ℕ) (i r b : ℕ) (o : Outcome) → coefficientOf p x i (degree p (p .v - i) + r) ≡ b → Altered p x i r b after o
+      → after ≡ x
+  -- another value adds the page that write makes of blocks that are 0 but for this bit, whatever page is lent
+  pub added : (L : ℕ) (x after c old unit : List ℕ) (i r b : ℕ) (w : Outcome) → Bytes x → Altered p x i r b after Outcome.Done
+      → coefficientOf p x i (degree p (p .v - i) + r) ≢ b → SetTo p c i r 1 (λ j k. 0) → Width L → PageBuffer p old → Written p L c old unit w
+      → (w ≡ Outcome.Done) × (after ≡ add x unit)
+  -- afterwards the bit is b, and every other data bit is as it was
+  pub made : (x after : List ℕ) (i r b : ℕ) → Bytes x → Altered p x i r b after Outcome.Done
+      → coefficientOf p after i (degree p (p .v - i) + r) ≡ b
+  pub others : (x after : List ℕ) (i r b j k : ℕ) → Bytes x → Altered p x i r b after Outcome.Done → j < p .m
+      → k < stored p - degree p (p .v - j) → (j ≢ i) ⊎ (k ≢ r)
+      → coefficientOf p after j (degree p (p .v - j) + k) ≡ coefficientOf p x j (degree p (p .v - j) + k)
+  -- a member, read out, its blocks altered in this bit and written again: the very same
+  pub member : (L : ℕ) (x after old-blocks a c old page : List ℕ) (i r b : ℕ) (v : Verdict) (o w : Outcome) → Width L → Bytes x
+      → Judged p x Verdict.Member → NamesBit p i r b → BlocksBuffer p old-blocks → PageBuffer p old → Altered p x i r b after o
+      → ReadOut p x old-blocks a v → SetTo p c i r b (blockBit p a) → Written p L c old page w → AlteredMember p after page o w
+  -- and there are such blocks
+  pub settable : (a : List ℕ) (i r b : ℕ) → Fits p a → NamesBit p i r b → (c : List ℕ) × SetTo p c i r b (blockBit p a)
+  -- sub-words other than i and those below both i and v keep every byte
+  pub elsewhere : (x after : List ℕ) (i r b j : ℕ) (o : Outcome) → Bytes x → Altered p x i r b after o → j < p .m → j ≢ i
+      → (i < j) ⊎ (p .v ≤ j) → part (subWordBytes p) j after ≡ part (subWordBytes p) j x
+  -- at least the distance is changed, and at most one more than the check bits of the sub-words concerned
+  pub least : (x after : List ℕ) (i r b : ℕ) → Bytes x → Altered p x i r b after Outcome.Done
+      → coefficientOf p x i (degree p (p .v - i) + r) ≢ b → distance p ≤ differences p x after
+  pub most : (x after : List ℕ) (i r b : ℕ) → Bytes x → Altered p x i r b after Outcome.Done
+      → differences p x after ≤ addBelow (p .m) (λ j. cond (eqb j i || (ltb j i && ltb j (p .v))) (degree p (p .v - j)) 0) + 1
+
 -- ---- demand 3 of the C calls
 -- the same number and, when that is 0, the same page
 pub record AlikeC (after after′ : List ℕ) (r r′ : ℕ) : Type 0 where
@@ -463,16 +523,47 @@ pub record ManyC (p : Parameters) : Type 0 where
       → length pages ≡ length pages′ → length list ≡ length list′ → WrittenManyC p L count blocks pages after list listed r
       → WrittenManyC p M count blocks pages′ after′ list′ listed′ r′ → AlikeManyC p after after′ listed listed′ r r′
 
+-- ---- one bit altered, in C
+pub record AlteredMemberC (p : Parameters) (after page : List ℕ) (o w : ℕ) : Type 0 where
+  pub answers : o ≡ w
+  pub pages : o ≡ 0 → after ≡ page
+  pub judged : o ≡ 0 → (v : ℕ) → JudgedC p after v → v ≡ 0
+  pub shortened : 0 < p .s → o ≡ 0
+
+pub record AlterC (p : Parameters) : Type 0 where
+  pub done : (x after : List ℕ) (i r b o : ℕ) → Bytes x → AlteredC p x i r b after o
+      → (o ≡ 0) ↔ (IsPage p x × NamesBit p i r b × (¬ IsBlank p (altered p x i r b)))
+  pub blank : (x after : List ℕ) (i r b o : ℕ) → Bytes x → AlteredC p x i r b after o
+      → (o ≡ 13) ↔ (IsPage p x × NamesBit p i r b × IsBlank p (altered p x i r b))
+  pub kept : (x after : List ℕ) (i r b o : ℕ) → AlteredC p x i r b after o → o ≢ 0 → after ≡ x
+  pub same : (x after : List ℕ) (i r b o : ℕ) → coefficientOf p x i (degree p (p .v - i) + r) ≡ b → AlteredC p x i r b after o → after ≡ x
+  pub added : (L : ℕ) (x after c old unit : List ℕ) (i r b w : ℕ) → Bytes x → AlteredC p x i r b after 0
+      → coefficientOf p x i (degree p (p .v - i) + r) ≢ b → SetTo p c i r 1 (λ j k. 0) → Width L → PageBuffer p old → WrittenC p L c old unit w
+      → (w ≡ 0) × (after ≡ add x unit)
+  pub made : (x after : List ℕ) (i r b : ℕ) → Bytes x → AlteredC p x i r b after 0 → coefficientOf p after i (degree p (p .v - i) + r) ≡ b
+  pub others : (x after : List ℕ) (i r b j k : ℕ) → Bytes x → AlteredC p x i r b after 0 → j < p .m
+      → k < stored p - degree p (p .v - j) → (j ≢ i) ⊎ (k ≢ r)
+      → coefficientOf p after j (degree p (p .v - j) + k) ≡ coefficientOf p x j (degree p (p .v - j) + k)
+  pub member : (L : ℕ) (x after old-blocks a c old page : List ℕ) (i r b v o w : ℕ) → Width L → Bytes x → JudgedC p x 0 → NamesBit p i r b
+      → BlocksBuffer p old-blocks → PageBuffer p old → AlteredC p x i r b after o
+      → ReadOutC p x old-blocks a v → SetTo p c i r b (blockBit p a) → WrittenC p L c old page w → AlteredMemberC p after page o w
+  pub elsewhere : (x after : List ℕ) (i r b j o : ℕ) → Bytes x → AlteredC p x i r b after o → j < p .m → j ≢ i
+      → (i < j) ⊎ (p .v ≤ j) → part (subWordBytes p) j after ≡ part (subWordBytes p) j x
+  pub least : (x after : List ℕ) (i r b : ℕ) → Bytes x → AlteredC p x i r b after 0
+      → coefficientOf p x i (degree p (p .v - i) + r) ≢ b → distance p ≤ differences p x after
+  pub most : (x after : List ℕ) (i r b : ℕ) → Bytes x → AlteredC p x i r b after 0
+      → differences p x after ≤ addBelow (p .m) (λ j. cond (eqb j i || (ltb j i && ltb j (p .v))) (degree p (p .v - j)) 0) + 1
+
 -- ---- 14: of the sheets that keep every other rule, those are refused, and with 14, whose s is above n - w_v - 1
 abbrev pub Shortening : Type 0
 Shortening =
     (p : Parameters) → fullRefusal p ≡ 0
     → (Accepted p ↔ (p .s ≤ 2 ^ p .q - 1 - degree p (p .v) - 1)) × ((sheetRefusal p ≡ 14) ↔ (2 ^ p .q - 1 - degree p (p .v) - 1 < p .s))
 
--- ---- both, bursts, and many pages in one call, for every accepted sheet
+-- ---- both, bursts, many pages in one call, and one bit altered, for every accepted sheet
 abbrev pub Demands : Type 0
-Demands = (p : Parameters) → Accepted p → Demand2 p × Demand3 p × BurstLaws p × ManyLaws p
+Demands = (p : Parameters) → Accepted p → Demand2 p × Demand3 p × BurstLaws p × ManyLaws p × AlterLaws p
 
--- ---- and, of the C calls, demand 3, blank pages, the quote, bursts and many pages
+-- ---- and, of the C calls, demand 3, blank pages, the quote, bursts, many pages and one bit altered
 abbrev pub DemandsC : Type 0
-DemandsC = (p : Parameters) → Accepted p → Demand3C p × BlankC p × QuotedC p × BurstC p × ManyC p
+DemandsC = (p : Parameters) → Accepted p → Demand3C p × BlankC p × QuotedC p × BurstC p × ManyC p × AlterC p

@@ -1,4 +1,4 @@
--- Demand 3, blank pages, the quote, bursts and many pages of the C calls, from those of the calls behind them: a C call's promise is that of the call behind it, with the number of its answer.
+-- Demand 3, blank pages, the quote, bursts, many pages and one bit altered of the C calls, from those of the calls behind them: a C call's promise is that of the call behind it, with the number of its answer.
 use mathlib.Core.Path.{_≡_, refl, sym, ap, _∙_}
 use mathlib.Core.Logic.{_↔_, _⊎_, inl, inr}
 use mathlib.Core.List.{List}
@@ -12,15 +12,16 @@ use Rattle.code.specs.declared.Verdict.{Verdict}
 use Rattle.code.specs.Accepted.{accepted}
 use Rattle.code.specs.Answers.{judged, judged-blanks, judged-zero, leaves-refused, made-of, outcome-number, read, read-as-judge, read-zero}
 use Rattle.code.specs.Buffers.{bytes-at}
-use Rattle.code.specs.Calls.{Judged, JudgedC, QuoteMadeC, ReadOut, ReadOutC, Written, WrittenC, WrittenMany, WrittenManyC, asBytes, judgeAnswer}
+use Rattle.code.specs.Calls.{Altered, AlteredC, Judged, JudgedC, QuoteMadeC, ReadOut, ReadOutC, Written, WrittenC, WrittenMany, WrittenManyC, asBytes, judgeAnswer}
 use Rattle.code.specs.Calls.{leaves, outcome, outcomeNumber, quote, readAnswer, verdictNumber}
+use Rattle.code.specs.Demands.{AlterC, AlteredMemberC, NamesBit, SetTo}
 use Rattle.code.specs.Demands.{AlikeC, AlikeManyC, BlankC, BlankWriteLaws, BurstC, Demand3C, DemandsC, ManyC, QuoteLaws, QuotedC, RewritesC, SumsC, numberAt}
-use Rattle.code.specs.Layout.{Bytes, Fits, IsBlank, IsPage, pageOf}
+use Rattle.code.specs.Layout.{Bytes, Fits, IsBlank, IsPage, altered, blockBit, pageOf}
 use Rattle.code.specs.Parameters.{Accepted}
 use Rattle.code.specs.Quote.{quote-length, quote-none, quote-small}
-use Rattle.code.specs.Refusals.{manyRefusal, quoteRefusal, writeRefusal}
+use Rattle.code.specs.Refusals.{alterRefusal, manyRefusal, quoteRefusal, writeRefusal}
 use Rattle.code.specs.Refused.{BlocksBuffer, PageBuffer, Width}
-use Rattle.code.specs.Theorems.{bursts, demand2, demand3, many, quote-numbers, whole-13}
+use Rattle.code.specs.Theorems.{alters, bursts, demand2, demand3, many, quote-numbers, whole-13}
 
 module _ (p : Parameters) (A : Accepted p) where
   abbrev refusal : ℕ → List ℕ → List ℕ → ℕ
@@ -231,5 +232,56 @@ module _ (p : Parameters) (A : Accepted p) where
     alike = many-alike-c;
   }
 
+  -- ---- one bit altered
+  alters-of : (x after : List ℕ) (i r b o : ℕ) → AlteredC p x i r b after o → Altered p x i r b after (outcome (alterRefusal p x i r b))
+  alters-of x after i r b o M = made-of (alterRefusal p x i r b) (altered p x i r b) x after o M
+
+  altered-done : (x after : List ℕ) (i r b : ℕ) → AlteredC p x i r b after 0 → Altered p x i r b after Outcome.Done
+  altered-done x after i r b M = rw (ap outcome (sym (M .answers))) at (alters-of x after i r b 0 M)
+
+  alter-member-c : (L : ℕ) (x after ob a c old page : List ℕ) (i r b v o w : ℕ) → Width L → Bytes x → JudgedC p x 0 → NamesBit p i r b
+      → BlocksBuffer p ob → PageBuffer p old → AlteredC p x i r b after o
+      → ReadOutC p x ob a v → SetTo p c i r b (blockBit p a) → WrittenC p L c old page w → AlteredMemberC p after page o w
+  alter-member-c L x after ob a c old page i r b v o w L′ y J n eb ep M O S W =
+      let k = alterRefusal p x i r b in
+      let l = refusal L c old in
+      let m = alters p A .member L x after ob a c old page i r b (readAnswer p x ob) (outcome k) (outcome l) L′ y (member-c x J) n eb ep
+      (alters-of x after i r b o M) (as-read x ob a v O) S (written L c old page w W) in
+      let d : o ≡ 0 → outcome k ≡ Outcome.Done = λ z. ap outcome (sym (M .answers) ∙ z) in
+      record {
+        answers = M .answers ∙ sym (outcome-number k) ∙ ap outcomeNumber (m .answers) ∙ outcome-number l ∙ sym (W .answers);
+        pages = λ z. m .pages (d z);
+        judged = λ z v K. judge-iff after v K .1 (m .judged (d z) (judgeAnswer p after) (judged p after (judgeAnswer p after) refl));
+        shortened = λ h. zero-of o k (M .answers) (m .shortened h);
+      }
+
+  pub alter-c : AlterC p
+  alter-c = record {
+    done = λ x after i r b o y M.
+        (let d = alters p A .done x after i r b (outcome (alterRefusal p x i r b)) y (alters-of x after i r b o M) in (
+          (λ e. d .0 (ap outcome (sym (M .answers) ∙ e))),
+          (λ s. zero-of o (alterRefusal p x i r b) (M .answers) (d .1 s)),
+        ));
+    blank = λ x after i r b o y M.
+        (let d = alters p A .blank x after i r b (outcome (alterRefusal p x i r b)) y (alters-of x after i r b o M) in (
+          (λ e. d .0 (ap outcome (sym (M .answers) ∙ e))),
+          (λ s. M .answers ∙ sym (outcome-number (alterRefusal p x i r b)) ∙ ap outcomeNumber (d .1 s)),
+        ));
+    kept = λ x after i r b o M n.
+        M .buffer ∙ leaves-refused (alterRefusal p x i r b) _ x (Nat.pos-of-ne-zero (λ z. n (M .answers ∙ z)));
+    same = λ x after i r b o e M. alters p A .same x after i r b (outcome (alterRefusal p x i r b)) e (alters-of x after i r b o M);
+    added = λ L x after c old unit i r b w y M n S L′ e W.
+        (let u = alters p A .added L x after c old unit i r b (outcome (refusal L c old)) y (altered-done x after i r b M) n S L′ e
+        (written L c old unit w W) in
+        (zero-of w (refusal L c old) (W .answers) (u .0), u .1));
+    made = λ x after i r b y M. alters p A .made x after i r b y (altered-done x after i r b M);
+    others = λ x after i r b j k y M. alters p A .others x after i r b j k y (altered-done x after i r b M);
+    member = alter-member-c;
+    elsewhere = λ x after i r b j o y M.
+        alters p A .elsewhere x after i r b j (outcome (alterRefusal p x i r b)) y (alters-of x after i r b o M);
+    least = λ x after i r b y M. alters p A .least x after i r b y (altered-done x after i r b M);
+    most = λ x after i r b y M. alters p A .most x after i r b y (altered-done x after i r b M);
+  }
+
 pub demands-c : DemandsC
-demands-c p A = (demand3-c p A, blank-c p A, quote-c p A, burst-c p A, many-c p A)
+demands-c p A = (demand3-c p A, blank-c p A, quote-c p A, burst-c p A, many-c p A, alter-c p A)

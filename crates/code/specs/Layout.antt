@@ -11,15 +11,18 @@
 --   IsPage p page         a page of the sheet's length with clear spare bits
 --   IsBlank p page        every coefficient of every sub-word is 1: blank, literally over the bytes
 --   coefficientOf p x i k the coefficient of x^k of sub-word i, blockBit p b i r bit r of block i: both literally, as bits of bytes
+--   single p i c          m numbers, the i-th of them c, the others 0
+--   oneBit p i r          the blocks that are 0 but for bit r of block i
+--   altered p x i r b     the page x with bit r of block i made b: as it is or, where the bit is another, with the page of that bit added
 --   differences p x y     the number of pairs of a sub-word i and a place k at which the coefficients of two pages differ
 use mathlib.Core.Path.{_≡_}
-use mathlib.Core.Bool.{Bool, not}
+use mathlib.Core.Bool.{Bool, not, cond}
 use mathlib.Core.List.{List, map}
 use Prim.Native.Nat.{ℕ, _+_, _-_, _*_, _/_, _%_, _^_, _<_}
 use lib.Dec.{T, eqb}
-use lib.ListN.{length, getD, replicate, take}
+use lib.ListN.{length, getD, set, replicate, take}
 use Rattle.polynomial.specs.Bits.{coefficient}
-use Rattle.polynomial.specs.Sums.{All}
+use Rattle.polynomial.specs.Sums.{All, add}
 use Rattle.code.specs.declared.Parameters.{Parameters}
 use Rattle.code.specs.Lists.{range, sum, split, join, each, fitsIn, onesIn, addBelow, countBelow}
 use Rattle.code.specs.Parameters.{stored, subWordBytes}
@@ -118,6 +121,18 @@ IsBlank p page = (i k : ℕ) → i < p .m → k < stored p → coefficientOf p p
 -- bit r of block i, at its byte offset among the blocks
 abbrev pub blockBit : Parameters → List ℕ → ℕ → ℕ → ℕ
 blockBit p blocks i r = bitFrom blocks (blockOffset p i) r
+
+-- ---- one bit
+abbrev pub single : Parameters → ℕ → ℕ → List ℕ
+single p i c = set (replicate (p .m) 0) i c
+
+unfoldable pub oneBit : Parameters → ℕ → ℕ → List ℕ
+unfolding join blockSizes
+oneBit p i r = join (blockSizes p) (single p i (2 ^ r))
+
+unfoldable pub altered : Parameters → List ℕ → ℕ → ℕ → ℕ → List ℕ
+unfolding degree pageOf oneBit
+altered p page i r b = cond (eqb (coefficientOf p page i (checkBits p i + r)) b) page (add page (pageOf p (oneBit p i r)))
 
 unfoldable pub differences : Parameters → List ℕ → List ℕ → ℕ
 unfolding addBelow countBelow

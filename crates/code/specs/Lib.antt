@@ -34,5 +34,6 @@ pub mod Many
 -- What demands 2 and 3 say, and the theorems; Firmware is demand 3 of the C calls:
 pub mod Demands
 pub mod Bursts
+pub mod Alter
 pub mod Theorems
 pub mod Firmware

@@ -103,6 +103,11 @@ all-small n k zero (c ∷ cs) l e h = absurd (Nat.suc-ne-zero (length cs) e)
 all-small n k (suc m) [] l e h = absurd (Nat.suc-ne-zero m (sym e))
 all-small n k (suc m) (c ∷ cs) l e h = (Nat.lt-of-lt-of-le (h .0) (pow-mono l), all-small n k m cs l (Nat.suc-inj e) (h .1))
 
+all-add : (n : ℕ) (cs ds : List ℕ) → All (λ c. c < 2 ^ n) cs → All (λ c. c < 2 ^ n) ds → All (λ c. c < 2 ^ n) (add cs ds)
+all-add n [] ds a b = b
+all-add n (c ∷ cs) [] a b = a
+all-add n (c ∷ cs) (d ∷ ds) a b = (xor-lt n c d (a .0) (b .0), all-add n cs ds (a .1) (b .1))
+
 pub record IsWords (p : Parameters) (cs : List ℕ) : Type 0 where
   pub many : length cs ≡ p .m
   pub below : All (λ c. c < 2 ^ stored p) cs
@@ -223,6 +228,25 @@ module _ (p : Parameters) (R : Rules p) where
     exact = length-join (wordSizes p) cs (h .many ∙ sym (length-sizes p)) ∙ sum-replicate (p .m) (subWordBytes p);
     clear = rw (pageClear-eq p (join (wordSizes p) cs), words-join cs h) (all-within (stored p) (p .m) cs (h .below));
   }
+
+  -- sums of pages
+  module _ (x y : List ℕ) (h : IsPage p x) (j : IsPage p y) where
+    words-sum : join (wordSizes p) (add (wordsOf p x) (wordsOf p y)) ≡ add x y
+    words-sum =
+        join-add (wordSizes p) (wordsOf p x) (wordsOf p y) (small-words (wordsOf p x) (page-words x h)) (small-words (wordsOf p y) (page-words y j))
+        ∙ ap₂ add (join-words x h) (join-words y j)
+
+    both-words : IsWords p (add (wordsOf p x) (wordsOf p y))
+    both-words = record {
+      many = length-add (wordsOf p x) (wordsOf p y) (words-many p x ∙ sym (words-many p y)) ∙ words-many p x;
+      below = all-add (stored p) (wordsOf p x) (wordsOf p y) (page-words x h .below) (page-words y j .below);
+    }
+
+    pub sum-is-page : IsPage p (add x y)
+    sum-is-page = rw words-sum at (words-page (add (wordsOf p x) (wordsOf p y)) both-words)
+
+    pub sum-words : wordsOf p (add x y) ≡ add (wordsOf p x) (wordsOf p y)
+    sum-words = ap (wordsOf p) (sym words-sum) ∙ words-join (add (wordsOf p x) (wordsOf p y)) both-words
 
   -- ---- blocks
   small-blocks : (ds : List ℕ) → IsBlocks p ds → Small (blockSizes p) ds

@@ -1,29 +1,31 @@
 -- Placement, literally over bytes: where a sub-word's coefficients, a block's bits and the check bits stand.
 -- Blocks that fit are known by their bits, and any bits are blocks that fit.
-use mathlib.Core.Path.{_≡_, refl, sym, ap, _∙_}
+use mathlib.Core.Path.{_≡_, refl, sym, ap, ap₂, _∙_}
 use mathlib.Core.List.{List, [], _∷_, _++_, map}
-use mathlib.Core.Logic.{_⊎_, inl, inr}
+use mathlib.Core.Logic.{_≢_, _⊎_, inl, inr}
 use Prim.Native.Nat.{ℕ, zero, suc, _+_, _-_, _*_, _/_, _%_, _^_, _≤_, _<_, zero-le, suc-le-suc}
 use native.Mathlib.Nat as Nat
+use native.Mathlib.Decide.{ℕ-discrete}
 use native.Mathlib.Omega.{arith}
 use lib.Bits as Bits
-use lib.ListN.{length, getD, set, take, drop, replicate, List·getD-append, getD-replicate}
+use lib.ListN.{length, getD, set, take, drop, replicate, List·getD-append, getD-replicate, length-replicate, length-set}
 use lib.Seq.{ext-getD, getD-take, getD-drop, getD-append-add, getD-set-same, getD-set-other}
 use Rattle.polynomial.specs.Bits.{coefficient}
 use Rattle.polynomial.specs.Coefficients.{high-coefficient, same-bits}
-use Rattle.polynomial.specs.Digits.{digits, digits-coefficient, length-digits, low-coefficient, value-coefficient}
-use Rattle.polynomial.specs.Sums.{all-drop, all-take}
+use Rattle.polynomial.specs.Digits.{digits, digits-coefficient, length-digits, low-coefficient, value, value-coefficient}
+use Rattle.polynomial.specs.Sums.{All, all-drop, all-take, at-all}
 use Rattle.polynomial.specs.Xor.{xor}
 use Rattle.field.specs.Field.{add-assoc, add-zero, zero-add, zero-mul}
 use Rattle.code.specs.declared.Parameters.{Parameters}
 use Rattle.code.specs.Accepted.{Rules, lawful, stored-room}
+use Rattle.code.specs.Bytes.{split-at}
 use Rattle.code.specs.Code.{carried, checkBits, checked, dataFrom, dataWords, encode, encodeFrom, level, remainder}
 use Rattle.code.specs.Encode.{Sized, checked-data, checked-low}
 use Rattle.code.specs.Layout.{Bytes, Fits, bitFrom, blockBit, blockBits, blockOffset, blockSizes}
-use Rattle.code.specs.Layout.{blocksOf, coefficientOf, dataBits, dataOf, pageOf, storedOf, wordSizes, wordsOf}
+use Rattle.code.specs.Layout.{blocksOf, coefficientOf, dataBits, dataOf, pageOf, single, storedOf, wordSizes, wordsOf}
 use Rattle.code.specs.Lists.{join, range, split, sum}
 use Rattle.code.specs.Pages.{IsBlocks, blockBits-eq, blockSizes-eq, blocks-blocks, blocks-fit, blocks-join, blocksOf-eq, dataOf-eq}
-use Rattle.code.specs.Pages.{join-blocks, length-bits, length-blocks, length-data, page-has, page-is}
+use Rattle.code.specs.Pages.{join-blocks, length-bits, length-blocks, length-data, length-sizes, page-has, page-is}
 use Rattle.code.specs.Pages.{stored-words, storedOf-eq, whole, words-many, wordsOf-eq}
 use Rattle.code.specs.Parameters.{stored, subWordBytes}
 use Rattle.code.specs.Steps.{data-cons, data-nil, encode-cons}
@@ -127,6 +129,12 @@ module _ (p : Parameters) where
       rw (blockSizes-eq p) (getD-map (λ b. (b + 7) / 8) (blockBits p) i (rw (length-bits p) h)
       ∙ ap (λ (b : ℕ). (b + 7) / 8) (bits-at i h))
 
+  -- the number of sub-word i
+  pub word-at : (x : List ℕ) (i : ℕ) → i < p .m → getD (wordsOf p x) i 0 ≡ value 8 (take (subWordBytes p) (drop (i * subWordBytes p) x))
+  word-at x i h =
+      rw (wordsOf-eq p x) (split-at (wordSizes p) x i (rw (length-sizes p) h)
+      ∙ ap₂ (λ (k o : ℕ). value 8 (take k (drop o x))) (page-size i h) (offset-replicate (p .m) (subWordBytes p) i (Nat.le-of-suc-le h)))
+
   -- the stored coefficients of sub-word i
   pub stored-at : (x : List ℕ) (i : ℕ) → i < p .m → getD (storedOf p x) i 0 ≡ getD (wordsOf p x) i 0 % 2 ^ stored p
   stored-at x i l = rw (storedOf-eq p x) (getD-map (λ c. c % 2 ^ stored p) (wordsOf p x) i (rw (words-many p x) l))
@@ -214,6 +222,29 @@ module _ (p : Parameters) (R : Rules p) where
       (data-at p 0 i (storedOf p x) ∙ ap (λ (k : ℕ). getD (storedOf p x) i 0 / 2 ^ checkBits p k) (Nat.zero-add i))
       ∙ sym (high-coefficient (getD (storedOf p x) i 0) (checkBits p i) r)
       ∙ stored-bit x h i (checkBits p i + r) l (data-room i r b)
+
+-- ---- numbers that are 0 but for one
+module _ (p : Parameters) (i c : ℕ) where
+  pub single-long : length (single p i c) ≡ p .m
+  single-long = length-set (replicate (p .m) 0) i c ∙ length-replicate (p .m) 0
+
+  pub single-else : (j : ℕ) → j < p .m → j ≢ i → getD (single p i c) j 0 ≡ 0
+  single-else j h o = getD-set-other (replicate (p .m) 0) i j c 0 o ∙ getD-replicate (p .m) j 0 0 h
+
+  module _ (l : i < p .m) where
+    pub single-at : getD (single p i c) i 0 ≡ c
+    single-at = getD-set-same (replicate (p .m) 0) i c 0 (rw (length-replicate {A = ℕ} (p .m) 0) l)
+
+    -- what holds of 0 and of c holds of each
+    pub single-each : (P : ℕ → ℕ → Type 0) → ((j : ℕ) → P j 0) → P i c → (j : ℕ) → j < p .m → P j (getD (single p i c) j 0)
+    single-each P z h j b = go (ℕ-discrete j i)
+      where
+        go : Dec (j ≡ i) → P j (getD (single p i c) j 0)
+        go (yes s) = rw (s, single-at) h
+        go (no s) = rw (single-else j b s) (z j)
+
+    pub single-all : (P : ℕ → Type 0) → P 0 → P c → All P (single p i c)
+    single-all P z h = at-all P (single p i c) (λ j b. single-each (λ j x. P x) (λ j. z) h j (rw single-long at b))
 
 -- ---- blocks as numbers
 pub sized-at : (p : Parameters) (k : ℕ) (ds : List ℕ) → Sized p k ds → (i : ℕ) → i < length ds → getD ds i 0 < 2 ^ dataBits p (k + i)

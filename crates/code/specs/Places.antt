@@ -47,14 +47,18 @@ countBelow-ext n P Q h =
     countBelow-eq n P ∙ addBelow-ext n (λ k. cond (P k) 1 0) (λ k. cond (Q k) 1 0) (λ k l. ap (λ (b : Bool). cond b 1 0) (h k l))
     ∙ sym (countBelow-eq n Q)
 
-addBelow-front : (n : ℕ) (f : ℕ → ℕ) → addBelow (suc n) f ≡ f 0 + addBelow n (λ k. f (suc k))
+pub addBelow-none : (n : ℕ) (f : ℕ → ℕ) → ((k : ℕ) → k < n → f k ≡ 0) → addBelow n f ≡ 0
+addBelow-none zero f h = addBelow-zero f
+addBelow-none (suc n) f h = addBelow-suc n f ∙ ap₂ _+_ (addBelow-none n f (λ k l. h k (Nat.le-step l))) (h n (Nat.le-refl (suc n)))
+
+pub addBelow-front : (n : ℕ) (f : ℕ → ℕ) → addBelow (suc n) f ≡ f 0 + addBelow n (λ k. f (suc k))
 addBelow-front zero f = addBelow-suc 0 f ∙ rw (addBelow-zero f, addBelow-zero (λ k. f (suc k))) (omega arith)
 addBelow-front (suc n) f =
     addBelow-suc (suc n) f ∙ ap (λ (y : ℕ). y + f (suc n)) (addBelow-front n f)
     ∙ Nat.add-assoc (f 0) (addBelow n (λ k. f (suc k))) (f (suc n)) ∙ ap (λ (y : ℕ). f 0 + y) (sym (addBelow-suc n (λ k. f (suc k))))
 
 -- ---- one word
-ones-weight : (n e : ℕ) → e < 2 ^ n → addBelow n (λ k. coefficient e k) ≡ weight e
+pub ones-weight : (n e : ℕ) → e < 2 ^ n → addBelow n (λ k. coefficient e k) ≡ weight e
 ones-weight zero e h = addBelow-zero (λ k. coefficient e k) ∙ sym (rw (lt-one h) weight-zero)
 ones-weight (suc n) e h =
     addBelow-front n (λ k. coefficient e k)
@@ -76,10 +80,10 @@ words-differ n c d h l =
     ∙ ones-weight n (xor c d) (xor-lt n c d h l)
 
 -- ---- all words
-abbrev differing : ℕ → List ℕ → List ℕ → ℕ → ℕ
+abbrev pub differing : ℕ → List ℕ → List ℕ → ℕ → ℕ
 differing n cs ds i = countBelow n (λ k. not (eqb (coefficient (getD cs i 0) k) (coefficient (getD ds i 0) k)))
 
-pages-differ : (n : ℕ) (cs ds : List ℕ) → length cs ≡ length ds → All (λ c. c < 2 ^ n) cs → All (λ c. c < 2 ^ n) ds
+pub pages-differ : (n : ℕ) (cs ds : List ℕ) → length cs ≡ length ds → All (λ c. c < 2 ^ n) cs → All (λ c. c < 2 ^ n) ds
     → addBelow (length cs) (differing n cs ds) ≡ pageWeight (add cs ds)
 pages-differ n [] [] e a b = addBelow-zero (differing n [] [])
 pages-differ n [] (d ∷ ds) e a b = absurd (Nat.suc-ne-zero (length ds) (sym e))
@@ -88,7 +92,7 @@ pages-differ n (c ∷ cs) (d ∷ ds) e a b =
     addBelow-front (length cs) (differing n (c ∷ cs) (d ∷ ds))
     ∙ ap₂ _+_ (words-differ n c d (a .0) (b .0)) (pages-differ n cs ds (Nat.suc-inj e) (a .1) (b .1))
 
-all-higher : (z n : ℕ) (cs : List ℕ) → z ≤ n → All (λ c. c < 2 ^ z) cs → All (λ c. c < 2 ^ n) cs
+pub all-higher : (z n : ℕ) (cs : List ℕ) → z ≤ n → All (λ c. c < 2 ^ z) cs → All (λ c. c < 2 ^ n) cs
 all-higher z n [] h a = tt
 all-higher z n (c ∷ cs) h a = (Nat.lt-of-lt-of-le (a .0) (pow-mono h), all-higher z n cs h (a .1))
 

@@ -11,7 +11,7 @@ use Rattle.code.specs.Register.{Register}
 use Rattle.code.specs.Lists.{_when_, _orElse_}
 use Rattle.code.specs.Parameters.{full, nestedBytes, strength, sheetRefusal}
 use Rattle.code.specs.Code.{degree}
-use Rattle.code.specs.Layout.{pageBytes, dataBytes, pageClear, blank, blocksClear, pageOf}
+use Rattle.code.specs.Layout.{altered, pageBytes, dataBits, dataBytes, pageClear, blank, blocksClear, pageOf}
 
 -- 5: the width L is not 1 to 64
 abbrev pub badWidth : ℕ → Bool
@@ -81,6 +81,17 @@ judgeRefusal p page = judgeLengths p (length page) orElse 8 when stray p page
 unfoldable pub pageRefusal : Parameters → List ℕ → ℕ
 unfolding judgeLengths pageClear
 pageRefusal p page = judgeLengths p (length page) orElse 8 when not (pageClear p page)
+
+-- ---- alter: 9 where there is no block i, no bit r of it, or the value b is no bit; 13 where the page afterwards would be blank
+abbrev pub noBit : Parameters → ℕ → ℕ → ℕ → Bool
+noBit p i r b = leb (p .m) i || leb (dataBits p i) r || ltb 1 b
+
+unfoldable pub alterRefusal : Parameters → List ℕ → ℕ → ℕ → ℕ → ℕ
+unfolding degree pageRefusal blank altered
+alterRefusal p page i r b =
+    pageRefusal p page
+    orElse 9 when noBit p i r b
+    orElse 13 when blank p (altered p page i r b)
 
 -- ---- a call on word i of `many`, whose result takes `exact` places of a lent list of `out`
 unfoldable pub wordRefusal : Parameters → List ℕ → ℕ → ℕ → ℕ → ℕ → ℕ

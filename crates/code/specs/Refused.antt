@@ -136,7 +136,7 @@ module _ (p : Parameters) where
   lengths-le : (k : ℕ) → (sheetRefusal p orElse page-7 k) ≤ lastRefusal
   lengths-le k = or-le (sheetRefusal p) (page-7 k) (sheet-le p) (when-le 7 (notExact k (pageBytes p)) (lit≤ tt))
 
-  page-le : (x : List ℕ) → pageRefusal p x ≤ lastRefusal
+  pub page-le : (x : List ℕ) → pageRefusal p x ≤ lastRefusal
   page-le x =
       rw (page-chain x) (or-le (sheetRefusal p orElse page-7 (length x)) (8 when not (pageClear p x)) (lengths-le (length x))
       (when-le 8 (not (pageClear p x)) (lit≤ tt)))
@@ -197,7 +197,7 @@ module _ (p : Parameters) where
         (exact-none 7 (length x) (pageBytes p) (h .exact)))) (off 8 (pageClear p x || blank p x) (h .passes))
 
     -- for blocks that fit, 13 alone is left
-    write-left : (L : ℕ) (a old : List ℕ) → Width L → Fits p a → PageBuffer p old → writeRefusal p L a (length old) ≡ made-13 a
+    pub write-left : (L : ℕ) (a old : List ℕ) → Width L → Fits p a → PageBuffer p old → writeRefusal p L a (length old) ≡ made-13 a
     write-left L a old w h e =
         write-chain L a (length old)
         ∙ or-second (sheetRefusal p orElse 5 when badWidth L orElse blocks-6 (length a) orElse page-7 (length old))

@@ -1,13 +1,14 @@
--- THE THEOREM: demands 2 and 3 hold for all accepted parameters, judge finds every burst, and many pages in one call are those of single calls.
+-- THE THEOREM: demands 2 and 3 hold for all accepted parameters, judge finds every burst, many pages in one call are those of single calls, and
+-- a member with one bit altered is the page of its blocks with that bit altered.
 use mathlib.Core.Path.{_≡_, refl, sym, ap, ap₂, _∙_}
 use mathlib.Core.Logic.{_≢_, _↔_, _⊎_, inl, inr}
-use mathlib.Core.Bool.{Bool, true, false, not}
+use mathlib.Core.Bool.{Bool, true, false, not, cond}
 use mathlib.Core.List.{List}
 use Prim.Native.Nat.{ℕ, zero, suc, _+_, _-_, _*_, _^_, _≤_, _<_, zero-le, suc-le-suc}
 use native.Mathlib.Nat as Nat
 use native.Mathlib.Decide.{ℕ-discrete}
 use native.Mathlib.Omega.{arith}
-use lib.Dec.{T, eqb, lit≤, not-T}
+use lib.Dec.{T, eqb, eqb-refl, lit≤, not-T, T-not}
 use lib.ListN.{length, getD, take, drop}
 use lib.Pow.{pow-mono, pow-pos}
 use Rattle.polynomial.specs.Bits.{coefficient}
@@ -27,24 +28,30 @@ use Rattle.code.specs.Register.{Register}
 use Rattle.generator.specs.Generator as G
 use Rattle.code.specs.Answers.{leaves-refused, read-as-judge, refused-pos}
 use Rattle.code.specs.Accepted.{Rules, accepted, degree-le, degree-low, degree-of, lawful, q-high, stored-le, stored-room, stored-whole, width-below}
+use Rattle.code.specs.Alter.{Alterable, after-page, alter-13, alter-left, alter-none, altered-eq, altered-fits, altered-is, altered-page, alteredBlocks}
+use Rattle.code.specs.Alter.{bit-alone, bit-fits, bit-none, by-eqb, by-neqb, bytes-stay, changed-least, changed-most, changed-weight, concerned}
+use Rattle.code.specs.Alter.{data-here, data-there, set-alone, set-here, set-there, units}
 use Rattle.code.specs.Blank.{blank-iff, blank-stays, page-ones}
 use Rattle.code.specs.Buffers.{bytes-at, divides-up, divisor-deg, divisor-degree, divisor-times, length-syndromes}
 use Rattle.code.specs.Buffers.{nested-back, remainder-back, row-back, short-back, short-differ, short-lt, syndromes-at}
 use Rattle.code.specs.Bursts.{apart-pages, apart-places, burst-same, bytes-burst, cyclic, moved-divides, moved-lt, others-same}
 use Rattle.code.specs.Bursts.{single-has, single-is, single-passing, single-unblank, singlePage}
-use Rattle.code.specs.Calls.{Judged, QuoteMade, ReadOut, Written, WrittenMany, asBytes, empty, judgeAnswer, leaves}
+use Rattle.code.specs.Calls.{Altered, Judged, QuoteMade, ReadOut, Written, WrittenMany, asBytes, empty, judgeAnswer, leaves}
 use Rattle.code.specs.Calls.{nestedOf, nestedSyndromeList, outcome, outcomeNumber, pagesBy, quote, statuses, subWordOf, syndromeList}
+use Rattle.code.specs.Chains.{off′, on}
 use Rattle.code.specs.Code.{IsMember, checkBits, degree, distance, gen, least, nested, newton, remainder, syndromes, verdict}
 use Rattle.code.specs.Degrees.{degree-exact}
+use Rattle.code.specs.Demands.{AlterLaws, AlteredMember, NamesBit, SetTo}
 use Rattle.code.specs.Demands.{Alike, AlikeMany, BlankReadLaws, BlankWriteLaws, BufferLaws, Burst, BurstLaws, Demand2, Demand3, Demands, GeneratorLaws, GeneratorOf}
 use Rattle.code.specs.Demands.{JudgeLaws, ManyLaws, QuoteLaws, QuotedPage, RegisterLaws, Rewrites, ShortLaws, ShortenedLaws, Smallest}
 use Rattle.code.specs.Demands.{Shortening, StoredLaws, Sums, Vanishes, WholeLaws, WriteLaws}
-use Rattle.code.specs.Distance.{Passing, least-few, least-many}
+use Rattle.code.specs.Distance.{Passing, least-few, least-many, pageWeight}
 use Rattle.code.specs.Encode.{N-above, encode-member, member-encode}
 use Rattle.code.specs.Judge.{member-passing, multiple-iff, passing-member, verdict-member, verdict-nested, verdict-sub}
+use Rattle.code.specs.Layout.{altered, blockBit, oneBit}
 use Rattle.code.specs.Layout.{Bytes, Fits, IsBlank, IsPage, blank, blocksOf, coefficientOf, dataBits, dataBytes, dataOf, differences}
 use Rattle.code.specs.Layout.{pageBytes, pageClear, pageOf, storedOf, wordSizes, wordsOf}
-use Rattle.code.specs.Lists.{addBelow, countBelow, join, part, sum}
+use Rattle.code.specs.Lists.{_when_, addBelow, countBelow, join, part, sum}
 use Rattle.code.specs.Many.{each-written, length-by, length-statuses, many-alike, many-lent, many-none, part-length, runs-are}
 use Rattle.code.specs.Many.{status-at, status-left, statuses-alike}
 use Rattle.code.specs.Newton.{nesteds-of, newtons-of}
@@ -52,12 +59,12 @@ use Rattle.code.specs.Pages.{IsWords, again-from, again-to, data-fit, da
 use Rattle.code.specs.Pages.{page-back, page-has, page-is, page-words, sum-fits, sum-page, word-lt}
 use Rattle.code.specs.Parameters.{Accepted, full, len, stored, strength, subWordBytes}
 use Rattle.code.specs.Placement.{all-places, any-fit, any-has, blocks-same, check-bits, data-room, place-bit, read-bit, sub-word-bit, written-bit}
-use Rattle.code.specs.Places.{addBelow-ext, countBelow-ext, distance-places}
+use Rattle.code.specs.Places.{addBelow-ext, addBelow-none, countBelow-eq, countBelow-ext, distance-places}
 use Rattle.code.specs.Quote.{quote-bits, quote-degree, quote-length, quote-none, quote-past-m, quote-past-v}
-use Rattle.code.specs.Refusals.{manyRefusal, quoteRefusal, writeRefusal}
+use Rattle.code.specs.Refusals.{alterRefusal, manyRefusal, quoteRefusal, writeRefusal}
 use Rattle.code.specs.Refused.{BlocksBuffer, PageBuffer, Width, blank-judgeable, judge-is, judge-stray, judged-blank, judged-else, judged-page}
 use Rattle.code.specs.Refused.{page-judgeable, read-leaves, verdict-blank, verdict-else, write-alike, write-done, write-keeps}
-use Rattle.code.specs.Refused.{write-13, write-leaves, write-refused}
+use Rattle.code.specs.Refused.{write-13, write-leaves, write-left, write-refused}
 use Rattle.code.specs.Registers.{cut, fed-done, fed-holds, feedings, holding, opened-empty, register-back}
 use Rattle.code.specs.Shortened.{lengthened-fits, lengthened-keeps, lengthened-zero, same-degree, same-members, same-words, short-accepted, short-refused, shortened-all}
 use Rattle.code.specs.Shortened.{unshortened-accepted, whole-blocks, whole-bytes, whole-clear, whole-data}
@@ -670,8 +677,219 @@ module _ (p : Parameters) (A : Accepted p) where
                 .pages (ap outcome z));
           }
 
+  -- ---- one bit altered
+  alterable : (x : List ℕ) (i r b : ℕ) → IsPage p x → NamesBit p i r b → Alterable p x i r b
+  alterable x i r b h n = record { exact = h .exact; clear = h .clear; block = n .block; bit = n .bit; value = n .value }
+
+  named-page : (x : List ℕ) (i r b : ℕ) → Bytes x → Alterable p x i r b → IsPage p x × NamesBit p i r b
+  named-page x i r b y s =
+      (record { bytes = y; exact = s .exact; clear = s .clear }, record { block = s .block; bit = s .bit; value = s .value })
+
+  -- what a call that is done shows, and leaves
+  alter-done : (x after : List ℕ) (i r b : ℕ) → Bytes x → Altered p x i r b after Outcome.Done
+      → IsPage p x × NamesBit p i r b × (after ≡ altered p x i r b)
+  alter-done x after i r b y M =
+      let z : alterRefusal p x i r b ≡ 0 = sym (M .number) in
+      let n = named-page x i r b y (alter-none p x i r b z .0) in
+      (n .0, n .1, rw z at (M .buffer))
+
+  blank-of : (x : List ℕ) (i r b : ℕ) → IsPage p x → NamesBit p i r b → T (blank p (altered p x i r b)) ↔ IsBlank p (altered p x i r b)
+  blank-of x i r b h n = blank-iff p R (altered p x i r b) (altered-is p R i r (n .block) (n .bit) x h b .bytes)
+
+  same-altered : (x : List ℕ) (i r b : ℕ) → coefficientOf p x i (checkBits p i + r) ≡ b → altered p x i r b ≡ x
+  same-altered x i r b e = altered-eq p x i r b ∙ by-eqb (coefficientOf p x i (checkBits p i + r)) b _ _ e
+
+  other-altered : (x : List ℕ) (i r b : ℕ) → coefficientOf p x i (checkBits p i + r) ≢ b → altered p x i r b ≡ add x (pageOf p (oneBit p i r))
+  other-altered x i r b n = altered-eq p x i r b ∙ by-neqb (coefficientOf p x i (checkBits p i + r)) b _ _ n
+
+  left-alone : (k : ℕ) (x old : List ℕ) → x ≡ old → leaves k x old ≡ old
+  left-alone zero x old e = e
+  left-alone (suc k) x old e = refl
+
+  alter-kept : (x after : List ℕ) (i r b n : ℕ) → Altered p x i r b after (Outcome.Refused n) → after ≡ x
+  alter-kept x after i r b n M = M .buffer ∙ leaves-refused (alterRefusal p x i r b) _ x (refused-pos n (alterRefusal p x i r b) (M .answers))
+
+  -- whatever the answer is, the page afterwards is the altered one or the old one
+  alter-either : (x after : List ℕ) (i r b : ℕ) (o : Outcome) → Altered p x i r b after o
+      → ((o ≡ Outcome.Done) × (after ≡ altered p x i r b)) ⊎ (after ≡ x)
+  alter-either x after i r b o M = go (alterRefusal p x i r b) (M .answers) (M .buffer)
+    where
+      go : (k : ℕ) → o ≡ outcome k → after ≡ leaves k (altered p x i r b) x → ((o ≡ Outcome.Done) × (after ≡ altered p x i r b)) ⊎ (after ≡ x)
+      go zero e f = inl (e, f)
+      go (suc k) e f = inr f
+
+  elsewhere-kept : (x after : List ℕ) (i r b j : ℕ) (o : Outcome) → Bytes x → Altered p x i r b after o → j < p .m → j ≢ i
+      → (i < j) ⊎ (p .v ≤ j) → part (subWordBytes p) j after ≡ part (subWordBytes p) j x
+  elsewhere-kept x after i r b j o y M l n m = go (alter-either x after i r b o M)
+    where
+      go : ((o ≡ Outcome.Done) × (after ≡ altered p x i r b)) ⊎ (after ≡ x) → part (subWordBytes p) j after ≡ part (subWordBytes p) j x
+      go (inr e) = ap (part (subWordBytes p) j) e
+      go (inl d) = pick (ℕ-discrete (coefficientOf p x i (checkBits p i + r)) b)
+        where
+          shown : IsPage p x × NamesBit p i r b × (after ≡ altered p x i r b)
+          shown = alter-done x after i r b y (rw (d .0) at M)
+
+          pick : Dec (coefficientOf p x i (checkBits p i + r) ≡ b) → part (subWordBytes p) j after ≡ part (subWordBytes p) j x
+          pick (yes e) = ap (part (subWordBytes p) j) (d .1 ∙ same-altered x i r b e)
+          pick (no e) =
+              ap (part (subWordBytes p) j) (d .1 ∙ other-altered x i r b e)
+              ∙ bytes-stay p R i r (shown .1 .block) (shown .1 .bit) x (shown .0) j l n m
+
+  -- how many bits differ
+  changed : (x : List ℕ) (i r : ℕ) → IsPage p x → i < p .m → r < dataBits p i
+      → differences p x (add x (pageOf p (oneBit p i r))) ≡ pageWeight (units p i r)
+  changed x i r h l m =
+      differences-are x (add x (pageOf p (oneBit p i r))) h (after-page p R i r l m x h) ∙ changed-weight p R i r l m x h
+
+  alter-least : (x after : List ℕ) (i r b : ℕ) → Bytes x → Altered p x i r b after Outcome.Done
+      → coefficientOf p x i (checkBits p i + r) ≢ b → distance p ≤ differences p x after
+  alter-least x after i r b y M n =
+      let s = alter-done x after i r b y M in
+      rw (s .2 ∙ other-altered x i r b n, changed x i r (s .0) (s .1 .block) (s .1 .bit)) (changed-least p R i r (s .1 .block) (s .1 .bit))
+
+  differences-none : (x : List ℕ) → differences p x x ≡ 0
+  unfolding differences
+  differences-none x =
+      addBelow-none (p .m) (λ i. countBelow (stored p) (λ k. not (eqb (coefficientOf p x i k) (coefficientOf p x i k))))
+      (λ i h. countBelow-eq (stored p) (λ k. not (eqb (coefficientOf p x i k) (coefficientOf p x i k)))
+      ∙ addBelow-none (stored p) (λ k. cond (not (eqb (coefficientOf p x i k) (coefficientOf p x i k))) 1 0)
+      (λ k l. go (eqb (coefficientOf p x i k) (coefficientOf p x i k)) (eqb-refl (coefficientOf p x i k))))
+    where
+      go : (b : Bool) → T b → _≡_ {A = ℕ} (cond (not b) 1 0) 0
+      go true t = refl
+      go false t = absurd t
+
+  alter-most : (x after : List ℕ) (i r b : ℕ) → Bytes x → Altered p x i r b after Outcome.Done
+      → differences p x after ≤ addBelow (p .m) (λ j. cond (concerned p i j) (checkBits p j) 0) + 1
+  alter-most x after i r b y M = go (ℕ-discrete (coefficientOf p x i (checkBits p i + r)) b)
+    where
+      s : IsPage p x × NamesBit p i r b × (after ≡ altered p x i r b)
+      s = alter-done x after i r b y M
+
+      go : Dec (coefficientOf p x i (checkBits p i + r) ≡ b) → differences p x after ≤ addBelow (p .m) (λ j. cond (concerned p i j) (checkBits p j) 0) + 1
+      go (yes e) = rw (s .2 ∙ same-altered x i r b e, differences-none x) zero-le
+      go (no n) = rw (s .2 ∙ other-altered x i r b n, changed x i r (s .0) (s .1 .block) (s .1 .bit)) (changed-most p R i r (s .1 .block) (s .1 .bit))
+
+  -- the page of a single bit is not blank: there is another block, whose bits are 0
+  bit-unblank : (i r : ℕ) → i < p .m → r < dataBits p i → ¬ IsBlank p (pageOf p (oneBit p i r))
+  bit-unblank i r l m o = go (ℕ-discrete i 0)
+    where
+      clash : (j : ℕ) → j < p .m → j ≢ i → ⊥
+      clash j h s =
+          let d : 0 < dataBits p j = omega (arith, stored-room p R (p .v - j) (Nat.sub-le (p .v) j)) in
+          let z : _≡_ {A = ℕ} 0 1 = sym (bit-none p R i r l m j 0 h d (inl s)) ∙ sym (written-bit p R (oneBit p i r) (bit-fits p R i r l m) j 0 h d)
+          ∙ o j (checkBits p j + 0) h (data-room p R j 0 d) in
+          Nat.suc-ne-zero 0 (sym z)
+
+      go : Dec (i ≡ 0) → ⊥
+      go (yes s) = clash 1 (omega (arith, R .v-low, R .m-low)) (λ e. Nat.suc-ne-zero 0 (e ∙ s))
+      go (no s) = clash 0 m-pos (λ e. s (sym e))
+
+  alter-added : (L : ℕ) (x after c old unit : List ℕ) (i r b : ℕ) (w : Outcome) → Bytes x → Altered p x i r b after Outcome.Done
+      → coefficientOf p x i (checkBits p i + r) ≢ b → SetTo p c i r 1 (λ j k. 0) → Width L → PageBuffer p old → Written p L c old unit w
+      → (w ≡ Outcome.Done) × (after ≡ add x unit)
+  alter-added L x after c old unit i r b w y M n S L′ e W =
+      let s = alter-done x after i r b y M in
+      let k : c ≡ oneBit p i r = bit-alone p R i r (s .1 .block) (s .1 .bit) c (S .fits) (S .here) (S .others) in
+      let u = after-is L c old unit w L′ (S .fits) e W (rw k (page-unblank (oneBit p i r) (bit-fits p R i r (s .1 .block) (s .1 .bit)) (bit-unblank i r (s .1 .block) (s .1 .bit)))) in
+      (u .0, s .2 ∙ other-altered x i r b n ∙ ap (add x) (sym (u .1 ∙ ap (pageOf p) k)))
+
+  -- a member altered is the page of the altered blocks
+  alter-member : (L : ℕ) (x after ob a c old page : List ℕ) (i r b : ℕ) (v : Verdict) (o w : Outcome) → Width L → Bytes x
+      → Judged p x Verdict.Member → NamesBit p i r b → BlocksBuffer p ob → PageBuffer p old → Altered p x i r b after o
+      → ReadOut p x ob a v → SetTo p c i r b (blockBit p a) → Written p L c old page w → AlteredMember p after page o w
+  alter-member L x after ob a c old page i r b v o w L′ y J n eb ep M O S W = record {
+    answers = same-answer;
+    pages = λ d. rw (none d) at (M .buffer) ∙ page-is-c ∙ sym (rw (sym same-refusal ∙ none d) at (W .buffer));
+    judged = λ d v K. K .answers ∙ passing-judged-as after (pageOf p c) (rw (none d) at (M .buffer) ∙ page-is-c) (page-is p R c (S .fits)) (unblanked-c d) (page-passing c (S .fits));
+    shortened = λ z. M .answers ∙ ap outcome (left-13 ∙ off′ 13 (blank p (altered p x i r b)) (not-T (blank p (altered p x i r b)) (λ t. short z t)));
+  }
+    where
+      member : judgeAnswer p x ≡ Verdict.Member
+      member = sym (J .answers)
+
+      h : IsPage p x
+      h = judged-page p x member y
+
+      a-is : a ≡ dataOf p x
+      a-is = O .buffer ∙ read-leaves p A x ob (page-judgeable p x h) eb
+
+      fits-a : Fits p a
+      fits-a = rw a-is (data-fit p R x)
+
+      c-is : c ≡ alteredBlocks p a i r b
+      c-is = set-alone p R i r (n .block) (n .bit) a fits-a b (n .value) c (S .fits) (S .here) (S .others)
+
+      x-is : x ≡ pageOf p a
+      x-is = sym (again-iff x h .0 (judged-passing x h member)) ∙ ap (pageOf p) (sym a-is)
+
+      page-is-c : altered p x i r b ≡ pageOf p c
+      page-is-c = ap (λ (z : List ℕ). altered p z i r b) x-is ∙ altered-page p R i r (n .block) (n .bit) a fits-a b ∙ ap (pageOf p) (sym c-is)
+
+      left-13 : alterRefusal p x i r b ≡ (13 when blank p (altered p x i r b))
+      left-13 = alter-left p x i r b A (alterable x i r b h n)
+
+      same-refusal : alterRefusal p x i r b ≡ writeRefusal p L c (length old)
+      same-refusal = left-13 ∙ ap (λ (z : List ℕ). 13 when blank p z) page-is-c ∙ sym (write-left p A L c old L′ (S .fits) ep)
+
+      same-answer : o ≡ w
+      same-answer = M .answers ∙ ap outcome same-refusal ∙ sym (W .answers)
+
+      none : o ≡ Outcome.Done → alterRefusal p x i r b ≡ 0
+      none d = sym (M .number) ∙ ap outcomeNumber d
+
+      unblanked-c : o ≡ Outcome.Done → T (not (blank p (pageOf p c)))
+      unblanked-c d = rw page-is-c at (alter-none p x i r b (none d) .1)
+
+      passing-judged-as : (z y : List ℕ) → z ≡ y → IsPage p y → T (not (blank p y)) → Passing p (wordsOf p y) → judgeAnswer p z ≡ Verdict.Member
+      passing-judged-as z y e h t P = ap (judgeAnswer p) e ∙ passing-judged y h t P
+
+      short : 0 < p .s → T (blank p (altered p x i r b)) → ⊥
+      short z t =
+          let k : p .s ≡ 0 = page-ones p R c (S .fits) .0 (blank-iff p R (pageOf p c) (page-is p R c (S .fits) .bytes) .0 (rw page-is-c at t)) .0 in
+          Nat.lt-irrefl 0 (rw k at z)
+
+  pub alters : AlterLaws p
+  alters = record {
+    done = λ x after i r b o y M. (
+      (λ e. (let s = alter-none p x i r b (sym (M .number) ∙ ap outcomeNumber e) in
+          let n = named-page x i r b y (s .0) in
+          (n .0, n .1, (λ k. T-not (blank p (altered p x i r b)) (s .1) (blank-of x i r b (n .0) (n .1) .1 k))))),
+      (λ s. M .answers ∙ ap outcome (alter-left p x i r b A (alterable x i r b (s .0) (s .1))
+          ∙ off′ 13 (blank p (altered p x i r b)) (not-T (blank p (altered p x i r b)) (λ t. s .2 (blank-of x i r b (s .0) (s .1) .0 t))))),
+    );
+    blank = λ x after i r b o y M. (
+      (λ e. (let s = alter-13 p x i r b A (sym (M .number) ∙ ap outcomeNumber e) in
+          let n = named-page x i r b y (s .0) in
+          (n .0, n .1, blank-of x i r b (n .0) (n .1) .0 (s .1)))),
+      (λ s. M .answers ∙ ap outcome (alter-left p x i r b A (alterable x i r b (s .0) (s .1))
+          ∙ on 13 (blank p (altered p x i r b)) (blank-of x i r b (s .0) (s .1) .1 (s .2)))),
+    );
+    kept = alter-kept;
+    same = λ x after i r b o e M. M .buffer ∙ left-alone (alterRefusal p x i r b) (altered p x i r b) x (same-altered x i r b e);
+    added = alter-added;
+    made = λ x after i r b y M.
+        (let s = alter-done x after i r b y M in
+        ap (λ (z : List ℕ). coefficientOf p z i (checkBits p i + r)) (s .2) ∙ data-here p R i r (s .1 .block) (s .1 .bit) x (s .0) b (s .1 .value));
+    others = λ x after i r b j k y M l m o.
+        (let s = alter-done x after i r b y M in
+        ap (λ (z : List ℕ). coefficientOf p z j (checkBits p j + k)) (s .2) ∙ data-there p R i r (s .1 .block) (s .1 .bit) x (s .0) b j k l m o);
+    member = alter-member;
+    settable = λ a i r b h n. (
+      alteredBlocks p a i r b,
+      record {
+        fits = altered-fits p R i r (n .block) (n .bit) a h b;
+        here = set-here p R i r (n .block) (n .bit) a h b (n .value);
+        others = set-there p R i r (n .block) (n .bit) a h b;
+      },
+    );
+    elsewhere = elsewhere-kept;
+    least = alter-least;
+    most = alter-most;
+  }
+
 pub shortening : Shortening
 shortening p z = (short-accepted p z, short-refused p z)
 
 pub demands : Demands
-demands p A = (demand2 p A, demand3 p A, bursts p A, many p A)
+demands p A = (demand2 p A, demand3 p A, bursts p A, many p A, alters p A)

@@ -16,7 +16,7 @@ use Rattle.code.specs.Code.{N, combine}
 use Rattle.code.specs.Layout.{pageBytes, wordsOf}
 use Rattle.code.specs.Pages.{words-many}
 use Rattle.code.specs.Parameters.{Accepted, subWordBytes}
-use Rattle.layout.specs.Parts.{word-at}
+use Rattle.code.specs.Placement.{word-at}
 use Rattle.layout.specs.SubWords.{word-lt}
 use Rattle.sheet.specs.Nesting.{N-lt}
 use Rattle.kernels.specs.Value.{Bounded, value-cons, value-nil}

@@ -1,6 +1,9 @@
 -- Sub-word i as encoding makes it, and the page with it in its place.
 --   Ready p w blocks                           accepted parameters, the degrees of their generators, blocks that fit
 --   Writing p w blocks page width acc          the same, a page to write, coefficients a step, room for the sum of a rule
+--   Putting p w page width                     accepted parameters and degrees, a page to write one sub-word of, coefficients a step
+--   wordFrom p d x i                           sub-word i from its data d and the later sub-words of the page x
+--   wordAlone p d i                            the same where the later sub-words are 0
 --   wordOf p b x i                             sub-word i from its block and the later sub-words of the page x
 --   written p x i c                            the page x with c as sub-word i
 use mathlib.Core.Path.{_≡_, sym, ap, ap₂, _∙_}
@@ -27,7 +30,7 @@ use Rattle.layout.specs.Parts.{block-at}
 use Rattle.layout.specs.Replaced.{replaced}
 use Rattle.layout.specs.Sizes.{Degrees, bits-all, check-below, level-low}
 use Rattle.encode.specs.Carried.{roomBytes}
-use Rattle.encode.specs.Rule.{placed-room}
+use Rattle.encode.specs.Rule.{carried-late, placed-room}
 
 pub record Ready (p : Parameters) (w blocks : List ℕ) : Type 0 where
   pub accepts : Accepted p
@@ -42,9 +45,25 @@ pub record Writing (p : Parameters) (w blocks page : List ℕ) (width : ℕ) (ac
   pub high : width ≤ 64
   pub room : length acc ≡ roomBytes p
 
+pub record Putting (p : Parameters) (w page : List ℕ) (width : ℕ) : Type 0 where
+  pub accepts : Accepted p
+  pub degrees : Degrees p w
+  pub exact : length page ≡ pageBytes p
+  pub low : 1 ≤ width
+  pub high : width ≤ 64
+
+pub putting : (p : Parameters) (w blocks page : List ℕ) (width : ℕ) (acc : List ℕ) → Writing p w blocks page width acc → Putting p w page width
+putting p w blocks page width acc W =
+    record { accepts = W .ready .accepts; degrees = W .ready .degrees; exact = W .exact; low = W .low; high = W .high }
+
+abbrev pub wordFrom : Parameters → ℕ → List ℕ → ℕ → ℕ
+wordFrom p d page i = checked p (level p i) (d * 2 ^ checkBits p i) (carried (level p i) i (drop (suc i) (wordsOf p page)))
+
+abbrev pub wordAlone : Parameters → ℕ → ℕ → ℕ
+wordAlone p d i = checked p (level p i) (d * 2 ^ checkBits p i) 0
+
 abbrev pub wordOf : Parameters → List ℕ → List ℕ → ℕ → ℕ
-wordOf p blocks page i =
-    checked p (level p i) (getD (blocksOf p blocks) i 0 * 2 ^ checkBits p i) (carried (level p i) i (drop (suc i) (wordsOf p page)))
+wordOf p blocks page i = wordFrom p (getD (blocksOf p blocks) i 0) page i
 
 abbrev pub written : Parameters → List ℕ → ℕ → ℕ → List ℕ
 written p page i c = replaced page (i * subWordBytes p) (digits 8 (subWordBytes p) c)
@@ -67,10 +86,13 @@ block-part p blocks i at size h e f =
     ap (λ (k : ℕ). value 8 (take k (drop at blocks))) s ∙ ap₂ (λ (k o : ℕ). value 8 (take k (drop o blocks))) f e
     ∙ sym (block-at p blocks i h)
 
--- ---- data above, check bits below
-pub late-lt : (p : Parameters) → Accepted p → (f : ℕ) → remainder p 0 f < 2 ^ degree p 0
-late-lt p A f = rem-lt (gen p 0) (degree p 0) (lawful p (accepted p A) .degrees 0 zero-le) f
+-- from v on nothing is carried
+pub late-word : (p : Parameters) (blocks page : List ℕ) (i d : ℕ) → p .v ≤ i → d ≡ getD (blocksOf p blocks) i 0
+    → wordAlone p d i ≡ wordOf p blocks page i
+late-word p blocks page i d h e =
+    ap₂ (λ (x f : ℕ). checked p (level p i) (x * 2 ^ checkBits p i) f) e (sym (carried-late p i (drop (suc i) (wordsOf p page)) h))
 
+-- ---- data above, check bits below
 module _ (p : Parameters) (A : Accepted p) (i : ℕ) where
   pub check-lt : (f : ℕ) → remainder p (level p i) f < 2 ^ checkBits p i
   check-lt f = rem-lt (gen p (level p i)) (checkBits p i) (lawful p (accepted p A) .degrees (level p i) (level-low p i)) f
@@ -82,18 +104,14 @@ module _ (p : Parameters) (A : Accepted p) (i : ℕ) where
       sym (checked-eq p (level p i) (d * 2 ^ checkBits p i) f ∙ sym (xor-is (d * 2 ^ checkBits p i) r)
       ∙ xor-shifted d (checkBits p i) r (check-lt (xor (d * 2 ^ checkBits p i) f)))
 
-  -- the part that came back, from the numbers of its making: the rule's sum z, its remainder r
-  pub word-made : (blocks page y : List ℕ) (s z r a bits k : ℕ) → ((j : ℕ) → getD y j 0 < 2 ^ 8) → length y ≡ k → k ≡ subWordBytes p
-      → bits ≡ checkBits p i → a ≡ level p i
-      → s ≡ getD (blocksOf p blocks) i 0 → z ≡ xor (s * 2 ^ checkBits p i) (carried (level p i) i (drop (suc i) (wordsOf p page)))
-      → r ≡ remainder p a z → value 8 y ≡ s * 2 ^ bits + r
-      → y ≡ digits 8 (subWordBytes p) (wordOf p blocks page i)
-  word-made blocks page y s z r a bits k b l e f g d u v h =
-      let f₀ = carried (level p i) i (drop (suc i) (wordsOf p page)) in
-      let m : r ≡ remainder p (level p i) (xor (s * 2 ^ checkBits p i) f₀) = v ∙ ap₂ (remainder p) g u in
-      sym (digits-value 8 y (at-all (λ x. x < 2 ^ 8) y (λ j q. b j))) ∙ ap₂ (digits 8) (l ∙ e)
-      (h ∙ ap₂ (λ (j x : ℕ). s * 2 ^ j + x) f m ∙ sum-checked s (carried (level p i) i (drop (suc i) (wordsOf p page)))
-      ∙ ap (λ (x : ℕ). checked p (level p i) (x * 2 ^ checkBits p i) (carried (level p i) i (drop (suc i) (wordsOf p page)))) d)
+  -- the part that came back, from the numbers of its making: the data d, what is carried f, the rule's sum z, its remainder r
+  pub word-made : (y : List ℕ) (d f z r a bits k : ℕ) → ((j : ℕ) → getD y j 0 < 2 ^ 8) → length y ≡ k → k ≡ subWordBytes p
+      → bits ≡ checkBits p i → a ≡ level p i → z ≡ xor (d * 2 ^ checkBits p i) f → r ≡ remainder p a z → value 8 y ≡ d * 2 ^ bits + r
+      → y ≡ digits 8 (subWordBytes p) (checked p (level p i) (d * 2 ^ checkBits p i) f)
+  word-made y d f z r a bits k b l e g h u v q =
+      let m : r ≡ remainder p (level p i) (xor (d * 2 ^ checkBits p i) f) = v ∙ ap₂ (remainder p) h u in
+      sym (digits-value 8 y (at-all (λ x. x < 2 ^ 8) y (λ j c. b j))) ∙ ap₂ (digits 8) (l ∙ e)
+      (q ∙ ap₂ (λ (j x : ℕ). d * 2 ^ j + x) g m ∙ sum-checked d f)
 
   -- what the program asks of the numbers before it puts them
   pub check-fits : (r a bits f : ℕ) → r ≡ remainder p a f → a ≡ level p i → bits ≡ checkBits p i → r < 2 ^ bits

@@ -18,8 +18,8 @@ use Rattle.code.specs.Code.{carried, checkBits, checked, encode, encodeFrom, le
 use Rattle.code.specs.Layout.{Fits, blocksOf, pageBytes, pageOf, wordsOf}
 use Rattle.code.specs.Pages.{IsWords, blocks-blocks, encode-words, pageOf-eq, whole, words-many}
 use Rattle.code.specs.Parameters.{Accepted, stored, subWordBytes}
-use Rattle.code.specs.Placement.{encode-at}
-use Rattle.layout.specs.Parts.{page-parts, word-at, word-room}
+use Rattle.code.specs.Placement.{encode-at, word-at}
+use Rattle.layout.specs.Parts.{page-parts, word-room}
 use Rattle.layout.specs.Replaced.{replaced, replaced-after, replaced-length, replaced-part}
 use Rattle.encode.specs.Carried.{roomBytes}
 use Rattle.encode.specs.Encoding.{wordOf, written}

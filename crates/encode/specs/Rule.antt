@@ -40,10 +40,9 @@ module _ (p : Parameters) (A : Accepted p) where
   pub rule-room : (d w i k : ℕ) → w ≡ checkBits p i → k ≡ roomBytes p → d < 2 ^ dataBits p i → d * 2 ^ w < 2 ^ (8 * k)
   rule-room d w i k e f h = rw e (placed-room d i k h (omega arith))
 
-pub ruled-late : (p : Parameters) (d w i : ℕ) (cs : List ℕ) → w ≡ checkBits p i → p .v ≤ i
-    → d * 2 ^ w ≡ xor (d * 2 ^ checkBits p i) (carried (level p i) i cs)
-ruled-late p d w i cs e l =
-    ap (λ (j : ℕ). d * 2 ^ j) e ∙ sym (ap (xor (d * 2 ^ checkBits p i)) (carried-late p i cs l) ∙ xor-zero-r (d * 2 ^ checkBits p i))
+-- where the later sub-words are 0, the data alone
+pub ruled-alone : (p : Parameters) (d w i : ℕ) → w ≡ checkBits p i → d * 2 ^ w ≡ xor (d * 2 ^ checkBits p i) 0
+ruled-alone p d w i e = ap (λ (j : ℕ). d * 2 ^ j) e ∙ sym (xor-zero-r (d * 2 ^ checkBits p i))
 
 pub ruled-early : (p : Parameters) (y x d w i : ℕ) (cs : List ℕ) → w ≡ checkBits p i → x ≡ d * 2 ^ w → i < p .v
     → y ≡ xor x (combine (λ k. N k i) (suc i) cs) → y ≡ xor (d * 2 ^ checkBits p i) (carried (level p i) i cs)

@@ -11,7 +11,7 @@ ghost use Rattle.encode.specs.Carried.{roomBytes};
 ghost use Rattle.encode.specs.Horner.{Over, Sums};
 ghost use Rattle.encode.specs.Loaded.{Loaded};
 ghost use Rattle.encode.specs.Page.{Encoded, Span};
-ghost use Rattle.encode.specs.Encoding.{Ready, Writing, wordOf, written};
+ghost use Rattle.encode.specs.Encoding.{Putting, Writing, wordAlone, wordFrom, wordOf, written};
 use code::Parameters;
 
 // The room in which a rule is summed: whole words, with 8 bytes above a sub-word.
@@ -116,40 +116,37 @@ fn check_of(r: &mut [u64], t: &[u64], acc: &[u8], p: Parameters, a: usize, w: us
     bytewise::remainder_of(r, t, acc, w);
 }
 
-// The data s over their own check bits, as level 0 has them: the remainder is that of the part itself.
-fn put_late(part: &mut [u8], s: &[u8], bits: usize, t: &[u64], p: Parameters, width: usize)
-    requires { ⌜ Accepted p × (bits ≡ degree p 0) × Loaded p 0 (now t) × (bits ≤ 8 * length (now part)) × (length (now part) < 1000)
+// The data s over their own check bits by level a: the remainder is that of the part itself.
+fn put_alone(part: &mut [u8], s: &[u8], bits: usize, t: &[u64], p: Parameters, a: usize, width: usize)
+    requires { ⌜ Accepted p × (a ≤ p .v) × (bits ≡ degree p a) × Loaded p a (now t) × (bits ≤ 8 * length (now part)) × (length (now part) < 1000)
         × (value 8 (now s) * 2 ^ bits < 2 ^ (8 * length (now part))) × (1 ≤ width) × (width ≤ 64) ⌝ }
-    ensures { λ x. ⌜ value 8 (now (part .exit)) ≡ value 8 (now (s .entry)) * 2 ^ bits + remainder p 0 (value 8 (now (s .entry)) * 2 ^ bits) ⌝ }
+    ensures { λ x. ⌜ value 8 (now (part .exit)) ≡ value 8 (now (s .entry)) * 2 ^ bits + remainder p a (value 8 (now (s .entry)) * 2 ^ bits) ⌝ }
 {
     place(part, s, bits);
     let mut r = [0u64; 13];
-    check_of(&mut r, t, part, p, 0, bits, width);
+    check_of(&mut r, t, part, p, a, bits, width);
     kernels::bytes::store_low(part, &r, bits);
 }
 
-// Sub-word i of the page, of level 0, from its block alone; t is the table of level 0.
-fn write_late(
+// Sub-word i of the page from its data s alone, as if the later sub-words were 0; t is the table of its level.
+pub fn write_alone(
     p: Parameters,
     w: &[u32],
-    blocks: &[u8],
+    s: &[u8],
     page: &mut [u8],
     i: usize,
     width: usize,
     t: &[u64],
 )
-    requires { ⌜ Ready p (now w) (now blocks) × (length (now page) ≡ pageBytes p) × (1 ≤ width) × (width ≤ 64)
-        × (i < p .m) × (p .v ≤ i) × Loaded p (level p i) (now t) ⌝ }
-    ensures { λ x. ⌜ now (page .exit) ≡ written p (now (page .entry)) i (wordOf p (now (blocks .entry)) (now (page .entry)) i) ⌝ }
+    requires { ⌜ Putting p (now w) (now page) width × (i < p .m) × Loaded p (level p i) (now t) × (value 8 (now s) < 2 ^ dataBits p i) ⌝ }
+    ensures { λ x. ⌜ now (page .exit) ≡ written p (now (page .entry)) i (wordAlone p (value 8 (now (s .entry))) i) ⌝ }
 {
-    let at = layout::block_offset(p, w, i);
-    let size = layout::block_size(p, w, i);
-    let stop = at + size;
     let bits = layout::check_bits(p, w, i);
+    let a = layout::level_of(p, i);
     let k = layout::sub_word_bytes(p);
     let start = i * k;
     let end = start + k;
-    put_late(&mut page[start..end], &blocks[at..stop], bits, t, p, width);
+    put_alone(&mut page[start..end], s, bits, t, p, a, width);
 }
 
 // Block i's data s in their places, and what the later sub-words add to the rule of sub-word i.
@@ -173,24 +170,21 @@ fn put_sub_word(part: &mut [u8], s: &[u8], bits: usize, r: &[u64])
     kernels::bytes::store_low(part, r, bits);
 }
 
-// Sub-word i of the page, before the last ones, from its block and the later sub-words; t is the table of its level, acc room to work in.
-fn write_early(
+// Sub-word i of the page, before the last ones, from its data s and the later sub-words; t is the table of its level, acc room to work in.
+pub fn write_early(
     p: Parameters,
     w: &[u32],
-    blocks: &[u8],
+    s: &[u8],
     page: &mut [u8],
     i: usize,
     width: usize,
     t: &[u64],
     acc: &mut [u8],
 )
-    requires { ⌜ Writing p (now w) (now blocks) (now page) width (now acc) × (i < p .m) × Loaded p (level p i) (now t) × (i < p .v) ⌝ }
-    ensures { λ x. ⌜ now (page .exit) ≡ written p (now (page .entry)) i (wordOf p (now (blocks .entry)) (now (page .entry)) i) ⌝ }
+    requires { ⌜ Putting p (now w) (now page) width × (i < p .m) × Loaded p (level p i) (now t) × (value 8 (now s) < 2 ^ dataBits p i)
+        × (i < p .v) × (length (now acc) ≡ roomBytes p) ⌝ }
+    ensures { λ x. ⌜ now (page .exit) ≡ written p (now (page .entry)) i (wordFrom p (value 8 (now (s .entry))) (now (page .entry)) i) ⌝ }
 {
-    let at = layout::block_offset(p, w, i);
-    let size = layout::block_size(p, w, i);
-    let stop = at + size;
-    let s = &blocks[at..stop];
     let bits = layout::check_bits(p, w, i);
     ruled_into(acc, p, page, i, s, bits);
     let a = layout::level_of(p, i);
@@ -216,11 +210,15 @@ fn write_word(
     requires { ⌜ Writing p (now w) (now blocks) (now page) width (now acc) × (i < p .m) × Loaded p (level p i) (now t) ⌝ }
     ensures { λ x. ⌜ now (page .exit) ≡ written p (now (page .entry)) i (wordOf p (now (blocks .entry)) (now (page .entry)) i) ⌝ }
 {
+    let at = layout::block_offset(p, w, i);
+    let size = layout::block_size(p, w, i);
+    let stop = at + size;
+    let s = &blocks[at..stop];
     if p.v as usize <= i {
-        write_late(p, w, blocks, page, i, width, t);
+        write_alone(p, w, s, page, i, width, t);
         return;
     }
-    write_early(p, w, blocks, page, i, width, t, acc);
+    write_early(p, w, s, page, i, width, t, acc);
 }
 
 // ---- a run of sub-words

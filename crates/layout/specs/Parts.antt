@@ -11,11 +11,12 @@ use Rattle.polynomial.specs.Digits.{digits, value}
 use Rattle.code.specs.declared.Parameters.{Parameters}
 use Rattle.code.specs.Accepted.{accepted}
 use Rattle.code.specs.Layout.{blockOffset, blockSizes, blocksOf, dataBits, dataBytes, pageBytes, wordSizes, wordsOf}
+use Rattle.code.specs.Bytes.{split-at}
 use Rattle.code.specs.Lists.{join, sum}
 use Rattle.code.specs.Pages.{blocksOf-eq, length-blocks, length-sizes, wordsOf-eq}
 use Rattle.code.specs.Parameters.{Accepted, subWordBytes}
 use Rattle.code.specs.Placement.{block-size, offset-eq, offset-replicate, page-size}
-use Rattle.layout.specs.Runs.{join-parts, split-at, sum-all, sum-le, sum-next, sum-none}
+use Rattle.layout.specs.Runs.{join-parts, sum-all, sum-le, sum-next, sum-none}
 use Rattle.layout.specs.Sizes.{data-high}
 
 pub record Summed (p : Parameters) (i at j : ℕ) : Type 0 where
@@ -30,12 +31,6 @@ module _ (p : Parameters) where
   -- sub-word i ends before the page does
   pub word-room : (i : ℕ) → i < p .m → i * subWordBytes p + subWordBytes p ≤ pageBytes p
   word-room i h = rw (← Nat.suc-mul i (subWordBytes p)) (Nat.mul-le-mul-right (subWordBytes p) h)
-
-  -- the number of sub-word i
-  pub word-at : (x : List ℕ) (i : ℕ) → i < p .m → getD (wordsOf p x) i 0 ≡ value 8 (take (subWordBytes p) (drop (i * subWordBytes p) x))
-  word-at x i h =
-      rw (wordsOf-eq p x) (split-at (wordSizes p) x i (rw (length-sizes p) h)
-      ∙ ap₂ (λ (k o : ℕ). value 8 (take k (drop o x))) (page-size p i h) (word-begin i (Nat.le-of-suc-le h)))
 
   -- a page whose sub-words are the bytes of cs
   pub page-parts : (x cs : List ℕ) → length x ≡ pageBytes p → length cs ≡ p .m

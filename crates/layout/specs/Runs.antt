@@ -46,14 +46,6 @@ sum-le (k ∷ ks) zero = zero-le
 sum-le (k ∷ ks) (suc i) = Nat.add-le-add (Nat.le-refl k) (sum-le ks i)
 
 -- ---- runs cut out and put together
-pub split-at : (ks bs : List ℕ) (i : ℕ) → i < length ks → getD (split ks bs) i 0 ≡ value 8 (take (getD ks i 0) (drop (sum (take i ks)) bs))
-unfolding split sum
-split-at [] bs i h = absurd (Nat.not-suc-le-zero h)
-split-at (k ∷ ks) bs zero h = refl
-split-at (k ∷ ks) bs (suc i) h =
-    split-at ks (drop k bs) i (Nat.le-of-suc-le-suc h)
-    ∙ ap (λ (l : List ℕ). value 8 (take (getD ks i 0) l)) (drop-drop (sum (take i ks)) k bs)
-
 empty : (x : List ℕ) → length x ≡ 0 → x ≡ []
 empty [] e = refl
 empty (b ∷ x) e = absurd (Nat.suc-ne-zero (length x) e)

@@ -14,7 +14,8 @@ use Rattle.code.specs.Layout.{IsPage, pageBytes, pageClear, wordsOf}
 use Rattle.code.specs.Pages.{page-words}
 use Rattle.code.specs.Parameters.{Accepted, stored, subWordBytes}
 use Rattle.kernels.specs.Value.{bounded-drop, take-lt}
-use Rattle.layout.specs.Parts.{word-at, word-room}
+use Rattle.code.specs.Placement.{word-at}
+use Rattle.layout.specs.Parts.{word-room}
 use Rattle.layout.specs.Sizes.{page-high}
 
 -- a page's bytes

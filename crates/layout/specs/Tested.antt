@@ -17,8 +17,8 @@ use Rattle.code.specs.Layout.{dataBits, dataBytes, pageBytes, pageClear, wordsO
 use Rattle.code.specs.Lists.{each}
 use Rattle.code.specs.Pages.{blocks-many, length-bits, words-many}
 use Rattle.code.specs.Parameters.{Accepted, stored, subWordBytes}
-use Rattle.code.specs.Placement.{bits-at}
-use Rattle.layout.specs.Parts.{block-at, block-room, offset-next, offset-zero, word-at, word-room}
+use Rattle.code.specs.Placement.{bits-at, word-at}
+use Rattle.layout.specs.Parts.{block-at, block-room, offset-next, offset-zero, word-room}
 use Rattle.layout.specs.Runs.{runPasses, testOf}
 use Rattle.layout.specs.Sizes.{data-high, data-low, stored-high, stored-low}
 

@@ -25,7 +25,7 @@ use Rattle.code.specs.Layout.{pageBytes, wordsOf}
 use Rattle.code.specs.Pages.{words-many}
 use Rattle.code.specs.Parameters.{Accepted, len, nestedBytes, subWordBytes}
 use Rattle.code.specs.Steps.{nested-eq}
-use Rattle.layout.specs.Parts.{word-at}
+use Rattle.code.specs.Placement.{word-at}
 use Rattle.layout.specs.Sizes.{bits-all, length-high, length-low, nestedPlaces, word-nested}
 use Rattle.layout.specs.SubWords.{word-lt}
 use Rattle.kernels.specs.Value.{Bounded, bounded-all, bounded-take, take-mod}

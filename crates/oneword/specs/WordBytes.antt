@@ -23,7 +23,7 @@ use Rattle.code.specs.Code.{divisor, remainder, shortRemainder, syndromes}
 use Rattle.code.specs.Layout.{IsPage, wordsOf}
 use Rattle.code.specs.Pages.{page-words}
 use Rattle.code.specs.Parameters.{Accepted, len, nestedBytes, stored, strength, subWordBytes}
-use Rattle.layout.specs.Parts.{word-at}
+use Rattle.code.specs.Placement.{word-at}
 use Rattle.layout.specs.Sizes.{bits-all}
 
 pub record WordIs (p : Parameters) (c : ℕ) (s : List ℕ) : Type 0 where

@@ -4,7 +4,7 @@ use Prim.Native.Nat.{ℕ, zero-le}
 use lib.Dec.{eqb}
 use Rattle.polynomial.specs.Digits.{value}
 use Rattle.code.specs.Code.{remainder}
-use Rattle.layout.specs.Parts.{word-at}
+use Rattle.code.specs.Placement.{word-at}
 use Rattle.layout.specs.Sizes.{stored-high}
 use Rattle.layout.specs.SubWords.{is-page, part-is}
 use Rattle.judge.proofs.sub_word_passes.Statement.{statement}

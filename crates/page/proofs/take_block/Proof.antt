@@ -4,7 +4,8 @@ use native.Mathlib.Omega.{arith}
 use Prim.Native.Nat.{ℕ, _+_, _-_, _/_, _≤_}
 use lib.ListN.{length, take, drop}
 use Rattle.polynomial.specs.Digits.{length-digits, value}
-use Rattle.layout.specs.Parts.{block-room, bytes-high, word-at}
+use Rattle.code.specs.Placement.{word-at}
+use Rattle.layout.specs.Parts.{block-room, bytes-high}
 use Rattle.layout.specs.Sizes.{check-below, data-high, data-low, stored-high}
 use Rattle.layout.specs.Replaced.{put-is, middle-bytes, part-length}
 use Rattle.page.specs.Taken.{sizeOf, moved-down}
