@@ -117,7 +117,15 @@ fn check_of(r: &mut [u64], t: &[u64], acc: &[u8], p: Parameters, a: usize, w: us
 }
 
 // The data s over their own check bits by level a: the remainder is that of the part itself.
-fn put_alone(part: &mut [u8], s: &[u8], bits: usize, t: &[u64], p: Parameters, a: usize, width: usize)
+fn put_alone(
+    part: &mut [u8],
+    s: &[u8],
+    bits: usize,
+    t: &[u64],
+    p: Parameters,
+    a: usize,
+    width: usize,
+)
     requires { ⌜ Accepted p × (a ≤ p .v) × (bits ≡ degree p a) × Loaded p a (now t) × (bits ≤ 8 * length (now part)) × (length (now part) < 1000)
         × (value 8 (now s) * 2 ^ bits < 2 ^ (8 * length (now part))) × (1 ≤ width) × (width ≤ 64) ⌝ }
     ensures { λ x. ⌜ value 8 (now (part .exit)) ≡ value 8 (now (s .entry)) * 2 ^ bits + remainder p a (value 8 (now (s .entry)) * 2 ^ bits) ⌝ }

@@ -3,6 +3,7 @@ pub mod Judging
 pub mod Reading
 pub mod Writing
 pub mod Many
-pub mod Indexed
 pub mod Tests
+pub mod Altering
+pub mod Indexed
 pub mod Feeding

@@ -18,7 +18,7 @@ use Rattle.code.specs.Parameters.{Accepted, full}
 use Rattle.layout.specs.Sizes.{stored-high}
 
 -- two tests that pass together are one
-same : (a b : Bool) → (a ≡ true → b ≡ true) → (b ≡ true → a ≡ true) → a ≡ b
+pub same : (a b : Bool) → (a ≡ true → b ≡ true) → (b ≡ true → a ≡ true) → a ≡ b
 same true b f g = sym (f refl)
 same false true f g = g refl
 same false false f g = refl

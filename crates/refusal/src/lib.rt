@@ -7,8 +7,9 @@ ghost use lib.ListN.{length};
 ghost use Rattle.polynomial.specs.Digits.{value};
 ghost use Rattle.code.specs.Layout.{blocksFull, dataBytes};
 ghost use Rattle.code.specs.Parameters.{Accepted, sheetRefusal};
-ghost use Rattle.code.specs.Refusals.{badCount, badWidth, judgeLengths, manyRefusal, openRefusal, pageRefusal, quoteRefusal, readLengths, wordRefusal, writeRefusal};
+ghost use Rattle.code.specs.Refusals.{badCount, badWidth, judgeLengths, manyRefusal, noBit, openRefusal, pageRefusal, quoteRefusal, readLengths, wordRefusal, writeRefusal};
 ghost use Rattle.layout.specs.Sizes.{Degrees};
+ghost use Rattle.refusal.specs.Altering.{bitRefusal};
 ghost use Rattle.refusal.specs.Feeding.{numbersRefusal};
 use code::Parameters;
 use code::Tested;
@@ -156,6 +157,38 @@ pub fn many_refusal(
         return 0;
     }
     10
+}
+
+// ---- alter
+
+// Block i has a bit r, and b is a bit.
+fn names_bit(p: Parameters, w: &[u32], i: u32, r: u32, b: u32) -> bool
+    requires { ⌜ Accepted p × Degrees p (now w) ⌝ }
+    ensures { λ x. ⌜ x ≡ not (noBit p i r b) ⌝ }
+{
+    if p.m <= i {
+        return false;
+    }
+    let n = layout::data_bits(p, w, i as usize);
+    if n <= r as usize {
+        return false;
+    }
+    b <= 1
+}
+
+// For accepted parameters, whose degrees are w: 7, 8, 9 where no bit is named or b is none, or 0. 13 is left: it is of the page afterwards.
+pub fn bit_refusal(p: Parameters, w: &[u32], page: &[u8], i: u32, r: u32, b: u32) -> u8
+    requires { ⌜ Accepted p × Degrees p (now w) ⌝ }
+    ensures { λ x. ⌜ x ≡ bitRefusal p (now (page .entry)) i r b ⌝ }
+{
+    let k = page_refusal(p, page);
+    if k != 0 {
+        return k;
+    }
+    if names_bit(p, w, i, r, b) {
+        return 0;
+    }
+    9
 }
 
 // ---- calls on one word

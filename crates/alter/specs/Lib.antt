@@ -1,0 +1,3 @@
+-- The page of a single bit, and a page with it added.
+pub mod Unit
+pub mod Sum
