@@ -75,6 +75,7 @@ impl Run {
     fn both(&mut self, call: &Call) -> (u32, Vec<u8>) {
         self.calls += 1;
         let (number, page, _) = alike(&mut self.random, call);
+        self.changed += usize::from(page != call.lent);
         (number, page)
     }
 
@@ -138,7 +139,6 @@ impl Run {
             if answer != 0 || !differs {
                 continue;
             }
-            self.changed += 1;
             assert_eq!(u32::from(bit(&made, place)), value, "{at}");
             few_changes(&archive, &sheet, &page, (i, r), &made, &at);
             // Back; but not to a blank page.
@@ -163,10 +163,15 @@ impl Run {
         }
     }
 
-    /// Says what was gone through, and asks that each kind of page was met by the numbers that it can be, full and shortened.
-    fn end(self, title: &str) {
-        let Run { sheets, calls, changed, met, .. } = self;
+    /// Says what was gone through.
+    fn say(&self, title: &str) {
+        let Run { sheets, calls, changed, .. } = self;
         say(&format!("altered, {title}: {sheets} sheets, {calls} calls, {changed} pages changed, seed {}", seed()));
+    }
+
+    /// And asks that each kind of page was met by the numbers that it can be, full and shortened.
+    fn end(self, title: &str) {
+        self.say(title);
         let mut expected = BTreeSet::new();
         for shortened in [false, true] {
             for (kind, differs) in KINDS.into_iter().flat_map(|kind| [(kind, false), (kind, true)]) {
@@ -180,7 +185,11 @@ impl Run {
                 expected.insert((shortened, kind, differs, number));
             }
         }
-        assert!(met.is_superset(&expected), "{title}: {:?} not met", expected.difference(&met).collect::<Vec<_>>());
+        assert!(
+            self.met.is_superset(&expected),
+            "{title}: {:?} not met",
+            expected.difference(&self.met).collect::<Vec<_>>()
+        );
     }
 }
 
@@ -300,6 +309,7 @@ fn blocks_bits_and_values_that_are_not() {
     let mut run = Run::new(33);
     let mut met = BTreeSet::new();
     for p in sheets_for_refusals(&mut Random::new(seed() + 33)) {
+        run.sheets += 1;
         let sheet = Sheet::of(&p);
         let n = sheet.field.n as u32;
         let spare: Vec<usize> = sheet.spare_places().collect();
@@ -341,6 +351,7 @@ fn blocks_bits_and_values_that_are_not() {
             }
         }
     }
+    run.say("blocks, bits and values that are not");
     assert_eq!(met.len(), 3 * 2 * 7);
 }
 
@@ -355,6 +366,7 @@ fn every_block_bit_and_value_over_a_range() {
     let mut run = Run::new(34);
     let mut answers = BTreeSet::new();
     for p in [A, SHEETS_OF_Q_8[4], SHEETS_OF_Q_12[0]].iter().flat_map(with_shortened) {
+        run.sheets += 1;
         let sheet = Sheet::of(&p);
         let page = member(&mut run.random, &p);
         let ends: BTreeSet<usize> = (0..sheet.m).map(|i| sheet.block_bits(i)).chain([sheet.stored()]).collect();
@@ -381,6 +393,7 @@ fn every_block_bit_and_value_over_a_range() {
             }
         }
     }
+    run.say("over a range");
     assert_eq!(answers.len(), 3 * 2);
 }
 
@@ -391,6 +404,7 @@ fn spare_bits_of_an_altered_page() {
     let mut run = Run::new(35);
     let mut spare_bits = BTreeSet::new();
     for p in sheets_for_refusals(&mut Random::new(seed() + 35)) {
+        run.sheets += 1;
         let sheet = Sheet::of(&p);
         spare_bits.insert(sheet.spare_bits());
         let erased = vec![0xFF; sheet.page_bytes()];
@@ -422,5 +436,6 @@ fn spare_bits_of_an_altered_page() {
             }
         }
     }
+    run.say("spare bits");
     assert!(spare_bits.is_superset(&(0..8).filter(|&bits| bits < 2 || one_in() == 1).collect()), "{spare_bits:?}");
 }
