@@ -100,9 +100,9 @@ pub fn many_to_single() -> f64 {
 pub fn alterations(p: &Parameters) -> [(&'static str, u32, u32); 3] {
     let last = |i: u32| Sheet::of(p).block_bits(i as usize) as u32 - 1;
     [
-        ("alter, last bit of block m - 1", p.m - 1, last(p.m - 1)),
-        ("alter, first bit of block v", p.v, 0),
-        ("alter, last bit of block 0", 0, last(0)),
+        ("alter the last bit of block m - 1", p.m - 1, last(p.m - 1)),
+        ("alter the first bit of block v", p.v, 0),
+        ("alter the last bit of block 0", 0, last(0)),
     ]
 }
 
