@@ -117,7 +117,7 @@ enum gii_answer {
     GII_LIST = 10,         /* the list's length is not exact */
     GII_FULL = 11,         /* a register would take more than n - s coefficients */
     GII_REGISTER = 12,     /* a register's level or remainder is out of range */
-    GII_BLANK_BLOCKS = 13, /* the page would be blank: s is 0 and every data bit is 1; or so it is altered */
+    GII_BLANK_BLOCKS = 13, /* the page of the blocks, where s is 0 and every data bit 1, or the altered page would be blank */
     GII_SHORTENING = 14,   /* s is above n - w_v - 1 */
 
     /* Verdicts on a page. */

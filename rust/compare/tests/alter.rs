@@ -51,7 +51,7 @@ const SHEETS_OF_Q_12: [Parameters; 3] = [
 /// A sheet without spare or unused bits.
 const WHOLE_BYTES: Parameters = Parameters::full(12, 4, 1, [4, 12, 0, 0]).shortened(3071);
 
-/// The numbers that a call of the archive's gives.
+/// The number of an answer.
 fn number(answer: Result<(), Refusal>) -> u32 {
     answer.map_or_else(Refusal::number, |()| 0)
 }
@@ -87,6 +87,7 @@ impl Run {
         assert!(page == call.lent, "{p:?}, block {block}, bit {bit}, value {value}: bytes are altered");
     }
 
+    /// A page of this kind for bit r of block i.
     fn page(&mut self, p: &Parameters, kind: Kind, i: usize, r: usize) -> Vec<u8> {
         let (archive, sheet) = (sheet(p), Sheet::of(p));
         let mut page = sheet.erased(0);
@@ -142,10 +143,11 @@ impl Run {
             assert_eq!(u32::from(bit(&made, place)), value, "{at}");
             few_changes(&archive, &sheet, &page, (i, r), &made, &at);
             // Back; but not to a blank page.
-            let back = Call { value: 1 - value, ..Call { lent: made, ..call } };
-            match kind {
-                Kind::Blank => self.refused(&back, 13),
-                _ => assert!(self.both(&back) == (0, page.clone()), "{at}: back is another page"),
+            let back = Call { value: 1 - value, lent: made, ..call };
+            if sheet.blank(&page) {
+                self.refused(&back, 13);
+            } else {
+                assert!(self.both(&back) == (0, page.clone()), "{at}: back is another page");
             }
         }
     }
