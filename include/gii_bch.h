@@ -62,13 +62,14 @@
  *
  * The bytes behind a pointer to const are never altered. A lent buffer is altered only by a call that is not refused, and
  * then wholly: what it held before is of no account. Only gii_write_many leaves some of the pages lent to it: those that
- * it lists as refused.
+ * it lists as refused. And only gii_alter reads the page that is lent to it, and leaves what one bit does not concern.
  *
  * Results are of enum gii_answer. Conditions are tested in the order 1, 2, 3, 4, 14, 5, 6, 7, 8, 9, 10, 13: of the refusals
  * whose conditions a call meets the first of these is given, and a refusal leaves every byte of every buffer as it was.
  * In gii_write_many 9 is for the count of pages and comes before 6; 8 and 13 are listed, page by page, and refuse no call.
- * gii_judge and gii_read_out know a blank page after 7 and before 8, which is for stray bits; no other function answers
- * GII_BLANK. gii_page_bytes, gii_data_bytes and gii_distance give a size, or 0 where the sheet is refused.
+ * In gii_alter 9 is for the block, the bit and the value, 13 for the page as it would be altered. gii_judge and gii_read_out
+ * know a blank page after 7 and before 8, which is for stray bits; no other function answers GII_BLANK. gii_page_bytes,
+ * gii_data_bytes and gii_distance give a size, or 0 where the sheet is refused.
  */
 #ifndef GII_BCH_H
 #define GII_BCH_H
@@ -78,9 +79,9 @@
 
 /* The version. A function or a number that goes or is given a new meaning moves the first number on. */
 #define GII_BCH_VERSION_MAJOR 4
-#define GII_BCH_VERSION_MINOR 1
+#define GII_BCH_VERSION_MINOR 2
 #define GII_BCH_VERSION_PATCH 0
-#define GII_BCH_VERSION "4.1.0"
+#define GII_BCH_VERSION "4.2.0"
 
 /* Bytes of a list of 2t syndromes: t is t0 for a sub-word, t_(v-l) for nested word l. */
 #define GII_LIST_BYTES(t) ((size_t)4 * (size_t)(t))
@@ -112,11 +113,11 @@ enum gii_answer {
     GII_BLOCKS = 6,        /* the blocks' length is not exact */
     GII_PAGE = 7,          /* the page's length, or that of many pages, is not exact */
     GII_STRAY = 8,         /* a spare bit of a page, or an unused bit of the blocks, that is read is 1 */
-    GII_INDEX = 9,         /* there is no such sub-word or nested word; or a count of pages is not 1 to 16 */
+    GII_INDEX = 9,         /* there is no such sub-word, nested word, block or bit; a value is above 1; not 1 to 16 pages */
     GII_LIST = 10,         /* the list's length is not exact */
     GII_FULL = 11,         /* a register would take more than n - s coefficients */
     GII_REGISTER = 12,     /* a register's level or remainder is out of range */
-    GII_BLANK_BLOCKS = 13, /* the page of the blocks would be blank: s is 0, and every data bit is 1 */
+    GII_BLANK_BLOCKS = 13, /* the page of the blocks, where s is 0 and every data bit 1, or the altered page would be blank */
     GII_SHORTENING = 14,   /* s is above n - w_v - 1 */
 
     /* Verdicts on a page. */
@@ -161,6 +162,27 @@ uint32_t gii_write(uint32_t q, uint32_t m, uint32_t v, uint32_t t0, uint32_t t1,
 uint32_t gii_write_many(uint32_t q, uint32_t m, uint32_t v, uint32_t t0, uint32_t t1, uint32_t t2, uint32_t t3,
                         uint32_t s, uint32_t width, uint32_t count, const uint8_t *blocks, size_t blocks_len,
                         uint8_t *pages, size_t pages_len, uint8_t *list, size_t list_len);
+
+/*
+ * Alter: bit `bit` of block `block` of a stored page made `value`, 0 or 1, with the check bits that go with it. No block is
+ * sent again: a member comes to be the page that gii_write makes of its blocks with this one bit altered.
+ *
+ * Bit r of block i is the coefficient of x^(w + r) of sub-word i, as above. Where it is `value` already, no byte changes.
+ * Else the page of this bit alone, which gii_write makes of blocks whose other data bits are 0, is added to the page, bit by
+ * bit modulo 2. So it is with any page, member or not: what a page has beside the page of its blocks, it keeps. Only
+ * sub-word i and the sub-words below both i and v change; beside the bit these are check bits alone, and in all at least
+ * gii_distance bits, at most one more than the check bits of all these sub-words. Altered back, the page is what it was.
+ *
+ * No page is made blank or left so: where every stored coefficient of the page would be 1, even if the bit has its value
+ * already, the call is refused by 13. Of members these are those of s 0 that have the bit as their only data bit of 0, whose
+ * altered blocks gii_write refuses too; where s is above 0, none. A blank page takes the value 0 like any other page; where a
+ * spare bit of it is 1, as in an erased page, it is refused by 8.
+ *
+ * Returns GII_DONE, or refuses: 1 to 4, 14, 7, 8 (a spare bit anywhere in the page, blank or not), 9 (block >= m, bit >= the
+ * data bits of this block, or value > 1), 13 (the page would be blank).
+ */
+uint32_t gii_alter(uint32_t q, uint32_t m, uint32_t v, uint32_t t0, uint32_t t1, uint32_t t2, uint32_t t3, uint32_t s,
+                   uint8_t *page, size_t page_len, uint32_t block, uint32_t bit, uint32_t value);
 
 /*
  * Read out: the data bits of the page, member or not, blank or not, into `blocks`. Nothing is corrected. Of a blank page
@@ -254,6 +276,13 @@ static inline uint32_t gii_sheet_write_many(const struct gii_sheet *sheet, uint3
                           width, count, blocks, blocks_len, pages, pages_len, list, list_len);
 }
 
+static inline uint32_t gii_sheet_alter(const struct gii_sheet *sheet, uint8_t *page, size_t page_len, uint32_t block,
+                                       uint32_t bit, uint32_t value)
+{
+    return gii_alter(sheet->q, sheet->m, sheet->v, sheet->t[0], sheet->t[1], sheet->t[2], sheet->t[3], sheet->s,
+                     page, page_len, block, bit, value);
+}
+
 static inline uint32_t gii_sheet_read_out(const struct gii_sheet *sheet, const uint8_t *page, size_t page_len,
                                           uint8_t *blocks, size_t blocks_len)
 {
@@ -321,7 +350,7 @@ static inline const char *gii_answer_text(uint32_t number)
     case GII_BLOCKS: return "blocks: the length is not exact";
     case GII_PAGE: return "page: the length is not exact";
     case GII_STRAY: return "stray: a spare or unused bit is 1";
-    case GII_INDEX: return "index: no such sub-word or nested word, or not 1 to 16 pages";
+    case GII_INDEX: return "index: no such sub-word, nested word, block or bit, a value above 1, or not 1 to 16 pages";
     case GII_LIST: return "list: the length is not exact";
     case GII_FULL: return "full: a register would take more than n - s coefficients";
     case GII_REGISTER: return "register: level or remainder out of range";

@@ -1,7 +1,8 @@
 #!/usr/bin/env bash
 # Whether the tests find what is wrong: the reference stands in for the archive, first as it is, which every test must
 # pass, then with one fault at a time, which some test must find; NAME@s is a fault on shortened sub-words alone. Prints for
-# each fault the tests that fail, and whether the any calls part; last, how many were tried and not found.
+# each fault the tests that fail, and whether the any calls part; last, how many were tried and not found. Faults that are
+# named are tried alone.
 set -euo pipefail
 cd "$(dirname "$0")"
 export GII_ARCHIVE=target/release/libstandin.a GII_CASES=${GII_CASES:-2}
@@ -14,8 +15,7 @@ run none || { cat target/faults.out; echo "the tests fail without a fault"; exit
 target/release/fuzz 20000 > target/faults.out || { cat target/faults.out; exit 1; }
 echo "no fault: nothing found"
 
-tried=0 missed=0
-for fault in data-high zero-page level-0-only write-touches-nothing width-37 one-strength last-byte-left overrun alters-blocks \
+faults=(data-high zero-page level-0-only write-touches-nothing width-37 one-strength last-byte-left overrun alters-blocks \
     nested-power nested-sum-of-powers nested-not-turned nested-0-one-level-lower judge-names-nested-0 judge-names-last-nested \
     read-out-of-members-only read-out-answers-done unused-bits-left high-byte-first last-syndrome-left \
     refuse-all refusal-clears half-written-refusal page-before-blocks index-before-stray stray-missed clash-missed \
@@ -43,7 +43,24 @@ for fault in data-high zero-page level-0-only write-touches-nothing width-37 one
     many-stray-stops many-blank-stops many-list-reversed many-done-not-listed many-refused-not-listed \
     many-listed-by-1 many-13-as-8 many-overrun many-list-overrun many-clears-stray many-answers-8 many-all-refused \
     many-blocks-before@s many-stray-carried@s many-refused-carried@s many-refused-cleared@s many-stray-written@s \
-    many-last-left@s many-list-any-length@s many-count-17@s; do
+    many-last-left@s many-list-any-length@s many-count-17@s \
+    alter-bit-alone alter-own-check-bits alter-level-0-only alter-none-below-under-v alter-sub-word-0-left \
+    alter-touches-above alter-touches-between alter-as-if-higher alter-or alter-written-afresh alter-repairs-the-same \
+    alter-one-strength alter-last-byte-left alter-overrun \
+    alter-value-not-compared alter-value-inverted alter-clears-only alter-looks-without-offset alter-looks-by-level-0 \
+    alter-from-the-end alter-byte-reversed alter-bit-modulo-2-8 alter-bit-modulo-2-16 alter-block-modulo-2-8 \
+    alter-value-modulo-2-8 alter-value-2-as-1 alter-value-2-as-0 \
+    alter-bit-one-too-many alter-bit-one-too-few alter-bits-of-block-0 alter-bits-of-last-block alter-bits-without-s \
+    alter-block-m alter-block-as-2 alter-index-any alter-index-before-page alter-index-before-stray \
+    alter-page-before-14 alter-full-page alter-stray-missed alter-blank-before-stray alter-blank-before-index \
+    alter-13-never alter-13-at-s-0 alter-13-of-changes alter-13-of-the-same alter-13-of-the-lent alter-13-of-both \
+    alter-13-by-sub-word alter-13-by-data-bits alter-13-as-8 alter-13-half-written alter-refusal-writes \
+    alter-members-only alter-answers-verdict \
+    alter-own-check-bits@s alter-none-below-under-v@s alter-value-not-compared@s alter-bit-one-too-many@s \
+    alter-stray-missed@s alter-13-of-changes@s alter-13-half-written@s)
+[ $# = 0 ] || faults=("$@")
+tried=0 missed=0
+for fault in "${faults[@]}"; do
     tried=$((tried + 1))
     if run "$fault"; then
         found="NOT FOUND"

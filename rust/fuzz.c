@@ -2,7 +2,8 @@
  * Any calls from C: any numbers, any lengths, any bytes, on buffers of their own from malloc. Each answer is one that the
  * call may give and has a text, what is only read stays, a refusal leaves every byte, a quote fits the sizes, which are in
  * range or 0, lengths by the sizes are never refused, stray bits are, s is where the quote of full sub-words says so, blank
- * pages are known, read out as ones and never written. Many pages in one call are listed and written as each is alone.
+ * pages are known, read out as ones and never written. Many pages in one call are listed and written as each is alone. A
+ * page is altered by the page that is written of the bit alone, and never into a blank one.
  * Usage: fuzz CALLS SEED. It is built with the sanitizers, and without them for valgrind, which sees every access of the
  * archive.
  */
@@ -307,6 +308,109 @@ static uint32_t write_many(const struct gii_sheet *s, struct sizes is, unsigned 
     return r;
 }
 
+/* The data bits of a block by the quote of an accepted sheet; 0 past the last block. */
+static uint32_t data_bits(const uint8_t *quote, uint32_t block)
+{
+    return block < 8 ? gii_number(quote, GII_QUOTE_DATA_BITS(block)) : 0;
+}
+
+/* The page of blocks that are 0 but for one bit, which the quote says there is. */
+static void page_of_bit(const struct gii_sheet *s, struct sizes is, const uint8_t *quote, uint32_t block, uint32_t bit, uint8_t *page)
+{
+    uint8_t blocks[GII_BLOCKS_MAX] = {0};
+    size_t start = 0;
+    for (uint32_t i = 0; i < block; i++)
+        start += (data_bits(quote, i) + 7) / 8;
+    blocks[start + bit / 8] = (uint8_t)(1u << bit % 8);
+    if (gii_sheet_write(s, 1 + below(64), blocks, is.data, page, is.page) != GII_DONE) {
+        printf("blocks with one bit are not written\n");
+        exit(1);
+    }
+}
+
+/* Adds a page to another. */
+static void add(uint8_t *page, const uint8_t *other, size_t length)
+{
+    for (size_t i = 0; i < length; i++)
+        page[i] ^= other[i];
+}
+
+/* A page of exact length to be altered: a blank one; one that the bit makes blank, where there is a `single`; a member, of
+ * any data or, but for one bit, of ones; or as it is. Spare bits are mostly cleared. */
+static void fill_page(const struct gii_sheet *s, struct sizes is, const uint8_t *single, struct buffer page)
+{
+    uint32_t kind = below(6);
+    uint8_t blocks[GII_BLOCKS_MAX];
+    if (kind < 2)
+        memset(page.bytes, 255, page.length);
+    if (kind == 2 || kind == 3) {
+        uint32_t any_data = once_in(2);
+        ones(s, is, blocks);
+        for (size_t i = 0; any_data && i < is.data; i++)
+            blocks[i] &= (uint8_t)any();
+        if (!any_data)
+            blocks[0] ^= 1;
+        (void)gii_sheet_write(s, 64, blocks, is.data, page.bytes, page.length);
+    }
+    clear_spare(s, page, 20);
+    if (kind == 1 && single)
+        add(page.bytes, single, page.length);
+}
+
+/* A call of gii_alter, on sizes that are in range or 0: its answer, and whether all is as it is to be; counts the pages that
+ * are changed, and those that stay. */
+static uint32_t alter(const struct gii_sheet *s, struct sizes is, unsigned long *altered, int *good)
+{
+    struct buffer page = lend(is.page ? is.page : below(5000));
+    uint8_t quote[GII_QUOTE_BYTES] = {0}, single[GII_PAGE_MAX], expected[GII_PAGE_MAX];
+    uint32_t block = below(8), bit = below(5000), value = below(2), bits, r, first;
+    int exact = is.page && page.length == is.page, there;
+    if (is.page && (gii_sheet_quote(s, quote, sizeof quote) != GII_DONE || !fits(s, is, quote))) {
+        printf("the quote does not fit the sizes\n");
+        exit(1);
+    }
+    if (is.page && !once_in(9))
+        block = below(s->m);
+    if (once_in(30))
+        block = (uint32_t)any();
+    bits = data_bits(quote, block);
+    if (bits && !once_in(9))
+        bit = once_in(4) ? bits - 1 : below(bits);
+    else if (once_in(2))
+        bit = once_in(2) ? bits : (uint32_t)any();
+    if (once_in(20))
+        value = once_in(2) ? 2 : (uint32_t)any();
+    there = bit < bits && value < 2;
+    if (exact) {
+        if (there)
+            page_of_bit(s, is, quote, block, bit, single);
+        fill_page(s, is, there ? single : NULL, page);
+        memcpy(expected, page.bytes, page.length);
+    }
+    note(page);
+    /* What is to come, where the sheet is accepted. */
+    if (!exact)
+        first = GII_PAGE;
+    else if (stray(s, page))
+        first = GII_STRAY;
+    else if (!there)
+        first = GII_INDEX;
+    else {
+        struct buffer made = {expected, expected, page.length};
+        uint32_t at = stored(s) - bits + bit;
+        if ((expected[block * (is.page / s->m) + at / 8] >> at % 8 & 1) != value)
+            add(expected, single, page.length);
+        first = blank(s, made) ? GII_BLANK_BLOCKS : GII_DONE;
+    }
+    r = gii_sheet_alter(s, page.bytes, page.length, block, bit, value);
+    *good = is.page ? r == first : r >= GII_FIELD && (r <= GII_CLASH || r == GII_SHORTENING);
+    *good = *good && (r == GII_DONE ? memcmp(page.bytes, expected, page.length) == 0 : kept(page));
+    if (r == GII_DONE)
+        altered[kept(page)]++;
+    give_back(page);
+    return r;
+}
+
 static int has_text(uint32_t r)
 {
     return strcmp(gii_answer_text(r), gii_answer_text(UINT32_MAX)) != 0;
@@ -316,14 +420,14 @@ int main(int argc, char **argv)
 {
     unsigned long calls = argc > 1 ? strtoul(argv[1], NULL, 10) : 10000;
     uint64_t seed = argc > 2 ? strtoull(argv[2], NULL, 10) : 1;
-    unsigned long answers[128] = {0}, listed[GII_BLANK_BLOCKS + 1] = {0};
+    unsigned long answers[128] = {0}, listed[GII_BLANK_BLOCKS + 1] = {0}, altered[2] = {0};
     state = seed * 0x9E3779B97F4A7C15u + 1;
     for (unsigned long k = 0; k < calls; k++) {
         struct gii_sheet s = any_sheet();
         struct sizes is = {gii_sheet_page_bytes(&s), gii_sheet_data_bytes(&s), gii_sheet_distance(&s)};
         size_t exact = is.page ? is.page : below(5000);
         uint32_t index = below(10), level = s.t[index <= s.v && s.v < 4 ? s.v - index : 0] % 100;
-        int call = (int)below(7), sized = in_range(&s, is), good;
+        int call = (int)below(8), sized = in_range(&s, is), good;
         size_t list = call == 5 ? GII_QUOTE_BYTES : GII_LIST_BYTES(call == 3 ? s.t[0] % 100 : level);
         struct buffer page = lend(exact), other = lend(call < 2 ? is.data : list);
         uint32_t r;
@@ -371,14 +475,17 @@ int main(int argc, char **argv)
             good = r == 0 ? sized && is.page && other.length == GII_QUOTE_BYTES && fits(&s, is, other.bytes)
                           : kept(other) && (is.page ? r == GII_LIST && other.length != GII_QUOTE_BYTES : r <= GII_CLASH || r == GII_SHORTENING);
             break;
-        default:
+        case 6:
             r = write_many(&s, is, listed, &good);
+            break;
+        default:
+            r = alter(&s, is, altered, &good);
             break;
         }
         /* 14 comes before all but 1 to 4, which the quote of full sub-words has too. */
         good = good && (r == GII_SHORTENING) == (most(&s) >= 0 && is.page == 0);
         good = good && sized && has_text(r);
-        good = good && (call == 6 || (!(r == GII_PAGE && page.length == is.page) && !(r == GII_BLOCKS && other.length == is.data)));
+        good = good && (call >= 6 || (!(r == GII_PAGE && page.length == is.page) && !(r == GII_BLOCKS && other.length == is.data)));
         if (!good) {
             printf("call %lu of seed %llu: %d answers %u (%s) for q %u m %u v %u t %u %u %u %u s %u, sizes %u %u %u\n", k, (unsigned long long)seed, call, r,
                    gii_answer_text(r), s.q, s.m, s.v, s.t[0], s.t[1], s.t[2], s.t[3], s.s, is.page, is.data, is.distance);
@@ -398,6 +505,6 @@ int main(int argc, char **argv)
     for (int i = 0; i <= GII_BLANK_BLOCKS; i++)
         if (listed[i])
             printf(" %d: %lu", i, listed[i]);
-    printf("\n");
+    printf("; altered pages %lu, left as they were %lu\n", altered[0], altered[1]);
     return 0;
 }

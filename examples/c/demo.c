@@ -1,8 +1,8 @@
 /*
  * The C functions at work: a sheet is quoted, a page is written, judged, damaged, judged and read out, scratched and judged,
- * an erased page is known as blank, many pages are written in one call, all that with full and with shortened sub-words, and
- * every refusal is shown to leave its buffers. Every length comes from the calls. Prints what it does; the first surprise
- * ends it with status 1.
+ * an erased page is known as blank, many pages are written in one call, one bit of a stored page is altered, all that with
+ * full and with shortened sub-words, and every refusal is shown to leave its buffers. Every length comes from the calls.
+ * Prints what it does; the first surprise ends it with status 1.
  *
  *   rt staticlib gii_bch
  *   cc -O2 -Iinclude examples/c/demo.c target/staticlib/libgii_bch.a -o target/demo && target/demo
@@ -276,6 +276,65 @@ static void many_pages(const struct gii_sheet *s)
          "it is the same page");
 }
 
+/*
+ * One bit altered in a stored page, of each block the last: the page comes to be that of the altered blocks, which are not
+ * sent again. So it is with a damaged page, which keeps its damage.
+ */
+static void altered_bit(const struct gii_sheet *s)
+{
+    static uint8_t blocks[GII_BLOCKS_MAX], page[GII_PAGE_MAX], before[GII_PAGE_MAX], written[GII_PAGE_MAX];
+    size_t blocks_len = gii_sheet_data_bytes(s), page_len = gii_sheet_page_bytes(s), sub_word = page_len / s->m, start = 0, k;
+    uint8_t quote[GII_QUOTE_BYTES];
+    uint32_t i, bits, value, changed, most;
+
+    printf("  one bit altered\n");
+    must(gii_sheet_quote(s, quote, sizeof quote) == GII_DONE, "quoted");
+    fill_blocks(s, quote, 1, blocks);
+    must(gii_sheet_write(s, 64, blocks, blocks_len, page, page_len) == GII_DONE, "written");
+    for (i = 0; i < s->m; i++) {
+        uint8_t *last;
+
+        bits = gii_number(quote, GII_QUOTE_DATA_BITS(i));
+        last = blocks + start + (bits - 1) / 8;
+        *last ^= (uint8_t)(1u << (bits - 1) % 8);
+        value = (uint32_t)*last >> (bits - 1) % 8 & 1;
+        start += (bits + 7) / 8;
+        memcpy(before, page, page_len);
+        must(gii_sheet_alter(s, page, page_len, i, bits - 1, value) == GII_DONE, "the last bit of a block altered");
+        must(gii_sheet_write(s, 64, blocks, blocks_len, written, page_len) == GII_DONE, "the altered blocks written");
+        must(memcmp(page, written, page_len) == 0, "the altered page is theirs");
+
+        /* Check bits of sub-word i and of those below both i and v, and the bit. */
+        for (k = 0, most = 1 + stored(s) - bits; k < i && k < s->v; k++)
+            most += gii_number(quote, GII_QUOTE_DEGREE(s->v - k));
+        for (k = 0, changed = 0; k < 8 * page_len; k++)
+            changed += (uint32_t)(page[k / 8] ^ before[k / 8]) >> k % 8 & 1;
+        printf("  block %u: %u bits changed\n", (unsigned)i, (unsigned)changed);
+        must(changed >= gii_sheet_distance(s) && changed <= most, "no fewer than the distance, no more than check bits and the bit");
+        for (k = 0, changed = 0; k < s->m; k++)
+            if (k > i || (k < i && k >= s->v))
+                changed += memcmp(page + k * sub_word, before + k * sub_word, sub_word) != 0;
+        must(changed == 0, "other sub-words are as they were");
+        must(gii_sheet_alter(s, page, page_len, i, bits - 1, value) == GII_DONE && memcmp(page, written, page_len) == 0,
+             "altered to what it is: nothing changes");
+        page[0] ^= 0x01;
+        before[0] ^= 0x01;
+        must(gii_sheet_alter(s, page, page_len, i, bits - 1, !value) == GII_DONE && memcmp(page, before, page_len) == 0,
+             "damaged and altered back: the page from before, with its damage");
+        memcpy(page, written, page_len);
+    }
+
+    memset(page, 0xFF, page_len);
+    must(gii_sheet_alter(s, page, page_len, 0, 0, 1) == (spare_bits(s) ? GII_STRAY : GII_BLANK_BLOCKS),
+         "an erased page is refused: by its spare bits, if it has some");
+    for (i = 0; i < s->m; i++)
+        page[(i + 1) * sub_word - 1] = (uint8_t)(0xFFu >> spare_bits(s));
+    must(gii_sheet_alter(s, page, page_len, 0, 0, 1) == GII_BLANK_BLOCKS, "without them: it would stay blank");
+    must(gii_sheet_alter(s, page, page_len, 0, 0, 0) == GII_DONE && gii_sheet_judge(s, page, page_len) != GII_BLANK,
+         "a bit of it made 0: no longer blank");
+    must(gii_sheet_alter(s, page, page_len, 0, 0, 1) == GII_BLANK_BLOCKS, "not made blank again");
+}
+
 /* A quote that is known number for number, with data bits less s, and known sizes. */
 static void known_quote(void)
 {
@@ -320,7 +379,7 @@ static void known_pages(void)
 {
     static const struct gii_sheet a = {4, 2, 1, {1, 2, 0, 0}, 0}, shorter = {4, 2, 1, {1, 2, 0, 0}, 5};
     static const uint8_t blocks[3] = {0x01, 0x01, 0x00}, page[4] = {0xC2, 0x01, 0x13, 0x00};
-    static const uint8_t mixed[4] = {0xFF, 0x03, 0xFF, 0xA7};
+    static const uint8_t mixed[4] = {0xFF, 0x03, 0xFF, 0xA7}, altered[4] = {0x13, 0x00, 0x13, 0x00};
     static const uint8_t one[4] = {0x01}, multiple[4] = {0x13}, second[4] = {0x02}, syndromes[8] = {2, 0, 4, 0, 8, 0, 3, 0};
     static const uint8_t erased[4] = {0xFF, 0xFF, 0xFF, 0xFF}, clear[4] = {0xFF, 0x7F, 0xFF, 0x7F}, ones[3] = {0x7F, 0xFF, 0x07};
     static const uint8_t many[12] = {0x01, 0x01, 0x00, 0x81, 0x01, 0x00, 0x7F, 0xFF, 0x07, 0x00, 0x01, 0x00};
@@ -335,6 +394,9 @@ static void known_pages(void)
          "01 / 01 00, 81 / 01 00, 7F / FF 07, 00 / 01 00 in one call");
     must(list[0] == GII_DONE && list[1] == GII_STRAY && list[2] == GII_BLANK_BLOCKS && list[3] == GII_DONE, "listed 0, 8, 13, 0");
     must(memcmp(pages, all, sizeof all) == 0, "pages C2 01 13 00 and 13 00 13 00, and two as they were");
+    memcpy(out, page, sizeof page);
+    must(gii_sheet_alter(&a, out, sizeof out, 0, 0, 0) == GII_DONE && memcmp(out, altered, sizeof out) == 0,
+         "bit 0 of block 0 of C2 01 13 00 made 0: 13 00 13 00");
     must(gii_sheet_judge(&a, erased, sizeof erased) == GII_BLANK, "FF FF FF FF is blank");
     must(gii_sheet_judge(&a, clear, sizeof clear) == GII_BLANK, "FF 7F FF 7F is blank");
     must(gii_sheet_read_out(&a, erased, sizeof erased, out, sizeof ones) == GII_BLANK, "FF FF FF FF read out");
@@ -362,17 +424,17 @@ struct lent {
     uint8_t blocks[GII_COUNT_MAX * 8], page[GII_COUNT_MAX * 8], list[2 * GII_QUOTE_BYTES];
 };
 
-enum call { WRITE, READ_OUT, JUDGE, SYNDROMES, NESTED_SYNDROMES, QUOTE, WRITE_MANY };
+enum call { WRITE, READ_OUT, JUDGE, SYNDROMES, NESTED_SYNDROMES, QUOTE, WRITE_MANY, ALTER };
 
-/* The pages that WRITE_MANY is told. */
-static uint32_t count = 1;
+/* The pages that WRITE_MANY is told, the bit and the value that ALTER is. */
+static uint32_t count = 1, bit = 0, value = 1;
 
 static void refused(enum call call, const struct gii_sheet *s, uint32_t number, size_t blocks_len, size_t page_len,
                     size_t list_len, const struct lent *holds, uint32_t expected, const char *what)
 {
-    static const char *const names[] = {"write", "read out", "judge", "syndromes", "nested syndromes", "quote", "write many"};
+    static const char *const names[] = {"write", "read out", "judge", "syndromes", "nested syndromes", "quote", "write many", "alter"};
     struct lent lent = *holds;
-    char line[160];
+    char line[240];
     uint32_t answer = 0;
 
     switch (call) {
@@ -396,6 +458,9 @@ static void refused(enum call call, const struct gii_sheet *s, uint32_t number, 
         break;
     case WRITE_MANY:
         answer = gii_sheet_write_many(s, number, count, lent.blocks, blocks_len, lent.page, page_len, lent.list, list_len);
+        break;
+    case ALTER:
+        answer = gii_sheet_alter(s, lent.page, page_len, number, bit, value);
         break;
     }
     sprintf(line, "%s, %s: refused by %u (%s), every byte stays", names[call], what, (unsigned)expected,
@@ -423,7 +488,7 @@ static void refusals(void)
     static const struct gii_sheet greatest = {UINT32_MAX, UINT32_MAX, UINT32_MAX,
                                               {UINT32_MAX, UINT32_MAX, UINT32_MAX, UINT32_MAX}, UINT32_MAX};
     const size_t data = gii_sheet_data_bytes(&a), page = gii_sheet_page_bytes(&a);
-    struct lent fits, stray, ones, ones_stray, erased;
+    struct lent fits, stray, ones, ones_stray, erased, blank;
     int call;
 
     memset(&fits, 0x35, sizeof fits);
@@ -438,9 +503,11 @@ static void refusals(void)
     ones_stray = ones;
     ones_stray.blocks[2] = 0x87;
     memset(&erased, 0xFF, sizeof erased);
+    blank = erased;
+    blank.page[page / a.m - 1] = blank.page[page - 1] = 0x7F;
 
     printf("refusals\n");
-    for (call = WRITE; call <= WRITE_MANY; call++) {
+    for (call = WRITE; call <= ALTER; call++) {
         enum call c = (enum call)call;
         uint32_t number = c == WRITE || c == WRITE_MANY ? 8 : 0;
         size_t list = c == WRITE_MANY ? 1 : c == QUOTE ? GII_QUOTE_BYTES : GII_LIST_BYTES(c == SYNDROMES ? a.t[0] : a.t[1]);
@@ -510,6 +577,25 @@ static void refusals(void)
     refused(WRITE_MANY, &a, 8, 3 * data, 3 * page, 2, &ones, GII_LIST, "3 pages, a list of 2");
     refused(WRITE_MANY, &a, 8, 3 * data, 3 * page, 4, &stray, GII_LIST, "3 pages, a list of 4");
 
+    refused(ALTER, &a, 0, 0, page, 0, &blank, GII_BLANK_BLOCKS, "a blank page, value 1");
+    refused(ALTER, &a, a.m, 0, page, 0, &blank, GII_INDEX, "no such block");
+    refused(ALTER, &a, UINT32_MAX, 0, page, 0, &fits, GII_INDEX, "block 4294967295");
+    refused(ALTER, &a, UINT32_MAX, 0, page, 0, &erased, GII_STRAY, "an erased page and block");
+    refused(ALTER, &a, UINT32_MAX, 0, page + 1, 0, &fits, GII_PAGE, "page and block");
+    bit = 7;
+    refused(ALTER, &a, 0, 0, page, 0, &blank, GII_INDEX, "bit 7 of block 0, which has 7");
+    bit = 11;
+    refused(ALTER, &a, 1, 0, page, 0, &fits, GII_INDEX, "bit 11 of block 1, which has 11");
+    bit = UINT32_MAX;
+    refused(ALTER, &a, 1, 0, page, 0, &fits, GII_INDEX, "bit 4294967295");
+    refused(ALTER, &shortening, 1, 0, page, 0, &fits, GII_SHORTENING, "s 7 and bit 4294967295");
+    bit = 0;
+    value = 2;
+    refused(ALTER, &a, 0, 0, page, 0, &blank, GII_INDEX, "value 2");
+    refused(ALTER, &a, 0, 0, page, 0, &stray, GII_STRAY, "stray and value 2");
+    value = UINT32_MAX;
+    refused(ALTER, &a, 1, 0, page, 0, &fits, GII_INDEX, "value 4294967295");
+
     without_sizes(&field, "q 5");
     without_sizes(&shape, "m 1");
     without_sizes(&strengths, "t 2, 2");
@@ -556,6 +642,7 @@ int main(void)
         round_trip(&sheets[k]);
         erased_page(&sheets[k]);
         many_pages(&sheets[k]);
+        altered_bit(&sheets[k]);
     }
     refusals();
     printf("all as expected\n");

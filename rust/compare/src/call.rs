@@ -7,6 +7,7 @@ use reference::{Parameters, calls};
 pub enum Name {
     Write,
     WriteMany,
+    Alter,
     ReadOut,
     Judge,
     Syndromes,
@@ -17,9 +18,10 @@ pub enum Name {
     Distance,
 }
 
-pub const NAMES: [Name; 10] = [
+pub const NAMES: [Name; 11] = [
     Name::Write,
     Name::WriteMany,
+    Name::Alter,
     Name::ReadOut,
     Name::Judge,
     Name::Syndromes,
@@ -36,9 +38,14 @@ impl Name {
         matches!(self, Name::PageBytes | Name::DataBytes | Name::Distance)
     }
 
-    /// Whether the call is given bytes to read: all but the quote and the sizes.
-    pub fn reads(self) -> bool {
+    /// Whether the call is given or lent a page, or pages: all but the quote and the sizes.
+    pub fn has_page(self) -> bool {
         self != Name::Quote && !self.is_size()
+    }
+
+    /// Whether the call is given bytes that are only read: all but alter, the quote and the sizes.
+    pub fn reads(self) -> bool {
+        self != Name::Alter && self.has_page()
     }
 
     /// Whether the call is lent bytes to write: all but judge and the sizes.
@@ -61,30 +68,40 @@ impl Name {
 pub struct Call {
     pub name: Name,
     pub p: Parameters,
-    /// The width of write and of write many, the index of syndromes; of no meaning to the others.
+    /// The width of write and of write many, the block of alter, the index of syndromes; of no meaning to the others.
     pub number: u32,
     /// The pages of write many; of no meaning to the others.
     pub count: u32,
-    /// The bytes that are read: the blocks of write and of write many, else the page; none for the quote and the sizes.
+    /// The bit and the value of alter; of no meaning to the others.
+    pub bit: u32,
+    pub value: u32,
+    /// The bytes that are only read: the blocks of write and of write many, else the page; none for alter, the quote and the
+    /// sizes.
     pub read: Vec<u8>,
-    /// The bytes lent to be written: page or pages, blocks or list; none for judge and the sizes.
+    /// The bytes lent to be written: page or pages, blocks or list; none for judge and the sizes. Alter reads its page first.
     pub lent: Vec<u8>,
     /// The list of write many, lent beside the pages; none for the others.
     pub list: Vec<u8>,
 }
 
 impl Call {
-    /// A call with one lent buffer at most: any but write many.
+    /// A call with one lent buffer and one number at most: any but write many and alter.
     pub fn new(name: Name, p: &Parameters, number: u32, read: Vec<u8>, lent: Vec<u8>) -> Call {
-        Call { name, p: *p, number, count: 0, read, lent, list: Vec::new() }
+        Call { name, p: *p, number, count: 0, bit: 0, value: 0, read, lent, list: Vec::new() }
+    }
+
+    /// A call of alter.
+    pub fn alter(p: &Parameters, page: Vec<u8>, block: u32, bit: u32, value: u32) -> Call {
+        Call { bit, value, ..Call::new(Name::Alter, p, block, Vec::new(), page) }
     }
 
     /// The call made to the reference, on buffers in place of the call's own.
     pub fn by_reference(&self, read: &[u8], lent: &mut [u8], list: &mut [u8]) -> u32 {
-        let Call { name, p, number, count, .. } = self;
+        let Call { name, p, number, count, bit, value, .. } = self;
         match name {
             Name::Write => calls::write(p, *number, read, lent),
             Name::WriteMany => calls::write_many(p, *number, *count, read, lent, list),
+            Name::Alter => calls::alter(p, lent, *number, *bit, *value),
             Name::ReadOut => calls::read_out(p, read, lent),
             Name::Judge => calls::judge(p, read),
             Name::Syndromes => calls::syndromes(p, read, *number, lent),
@@ -98,7 +115,7 @@ impl Call {
 
     /// The call made to the archive, likewise.
     pub fn by_archive(&self, read: &[u8], lent: &mut [u8], list: &mut [u8]) -> u32 {
-        let Call { name, p, number, count, .. } = self;
+        let Call { name, p, number, count, bit, value, .. } = self;
         let sheet = sheet(p);
         let done = |()| Verdict::Member;
         let answer = |answer: Result<Verdict, Refusal>| answer.map_or_else(Refusal::number, Verdict::number);
@@ -106,6 +123,7 @@ impl Call {
         match name {
             Name::Write => answer(sheet.write(*number, read, lent).map(done)),
             Name::WriteMany => answer(sheet.write_many(*number, *count, read, lent, list).map(done)),
+            Name::Alter => answer(sheet.alter(lent, *number, *bit, *value).map(done)),
             Name::ReadOut => answer(sheet.read_out(read, lent)),
             Name::Judge => answer(sheet.judge(read)),
             Name::Syndromes => answer(sheet.syndromes(read, *number, lent).map(done)),
@@ -143,11 +161,10 @@ impl Call {
         } else {
             return Ok((number, expected, listed));
         };
-        let Call { name, p, number, count, .. } = self;
+        let Call { name, p, number, count, bit, value, .. } = self;
         let (read, lent, list) = (shown(&self.read), shown(&self.lent), shown(&self.list));
-        Err(format!(
-            "{name:?} {found}\n{p:?}, width or index {number}, {count} pages\nread {read}\nlent {lent}\nlist {list}"
-        ))
+        let numbers = format!("width, block or index {number}, {count} pages, bit {bit}, value {value}");
+        Err(format!("{name:?} {found}\n{p:?}, {numbers}\nread {read}\nlent {lent}\nlist {list}"))
     }
 }
 

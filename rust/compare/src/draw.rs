@@ -3,9 +3,10 @@
 use crate::call::{Call, NAMES, Name};
 use reference::Parameters;
 use reference::calls::{BLANK, MOST_PAGES, QUOTE_BYTES};
-use reference::layout::{bit, flip, set};
+use reference::layout::{add, bit, flip, set};
 use reference::parameters::Sheet;
 use reference::sample::Random;
+use std::collections::BTreeSet;
 use std::io::Write;
 use std::iter::repeat_with;
 
@@ -35,6 +36,17 @@ pub fn say(line: &str) {
     writeln!(std::io::stderr(), "{line}").unwrap();
 }
 
+/// The number, the lent bytes and the list of a call, on which archive and reference agree; the buffers anywhere in memory.
+pub fn alike(random: &mut Random, call: &Call) -> (u32, Vec<u8>, Vec<u8>) {
+    let shift = random.from_to(0, 255);
+    call.compare(shift).unwrap_or_else(|found| panic!("seed {}: {found}", seed()))
+}
+
+/// A sheet with full sub-words, and shortened by half of the greatest s and by the greatest.
+pub fn with_shortened(p: &Parameters) -> [Parameters; 3] {
+    [*p, p.shortened(p.most().div_ceil(2)), p.shortened(p.most())]
+}
+
 /// The length of the lent list of syndromes.
 pub fn list_bytes(p: &Parameters, name: Name, index: u32) -> usize {
     let t = match name {
@@ -50,12 +62,8 @@ pub fn page(random: &mut Random, p: &Parameters) -> Vec<u8> {
     let mut page = match random.from_to(0, 9) {
         0 => vec![0; sheet.page_bytes()],
         1 => sheet.erased(0),
-        2 => random.bytes(sheet.page_bytes()).iter().zip(sheet.erased(0)).map(|(byte, ones)| byte & ones).collect(),
-        _ => {
-            let mut page = vec![0; sheet.page_bytes()];
-            sheet.put_page(&sheet.encode(&sheet.words_of_blocks(&random.blocks(&sheet))), &mut page);
-            page
-        }
+        2 => any_page(random, &sheet),
+        _ => member(random, p),
     };
     match random.from_to(0, 5) {
         0 => flip(&mut page, random.place(&sheet)),
@@ -63,6 +71,19 @@ pub fn page(random: &mut Random, p: &Parameters) -> Vec<u8> {
         2 | 3 => break_nested(random, &sheet, &mut page),
         _ => {}
     }
+    page
+}
+
+/// Any bytes, spare bits clear.
+pub fn any_page(random: &mut Random, sheet: &Sheet) -> Vec<u8> {
+    random.bytes(sheet.page_bytes()).iter().zip(sheet.erased(0)).map(|(byte, ones)| byte & ones).collect()
+}
+
+/// The page of drawn blocks.
+pub fn member(random: &mut Random, p: &Parameters) -> Vec<u8> {
+    let sheet = Sheet::of(p);
+    let mut page = vec![0; sheet.page_bytes()];
+    sheet.put_page(&sheet.encode(&sheet.words_of_blocks(&writable(random, &sheet))), &mut page);
     page
 }
 
@@ -115,7 +136,7 @@ pub fn make_stray(random: &mut Random, sheet: &Sheet, blocks: &mut [u8]) -> bool
 pub fn many(random: &mut Random, p: &Parameters, blocks: &[Vec<u8>]) -> Call {
     let (number, count) = (random.from_to(1, 64) as u32, blocks.len() as u32);
     let (lent, list) = (random.bytes(blocks.len() * Sheet::of(p).page_bytes()), random.bytes(blocks.len()));
-    Call { name: Name::WriteMany, p: *p, number, count, read: blocks.concat(), lent, list }
+    Call { count, list, ..Call::new(Name::WriteMany, p, number, blocks.concat(), lent) }
 }
 
 /// The same on so many drawn sets of blocks.
@@ -131,6 +152,32 @@ fn accepted_count(random: &mut Random, p: &Parameters) -> usize {
     random.from_to(1, most as usize)
 }
 
+/// Some bits of a block of so many: the first, the last, a drawn one.
+pub fn some_bits(random: &mut Random, bits: usize) -> BTreeSet<usize> {
+    BTreeSet::from([0, bits - 1, random.from_to(0, bits - 1)])
+}
+
+/// A call of alter that names a bit: of any page, of a blank one, or of one that the bit makes blank.
+fn alteration(random: &mut Random, p: &Parameters) -> Call {
+    let sheet = Sheet::of(p);
+    let i = random.from_to(0, sheet.m - 1);
+    let bits: Vec<usize> = some_bits(random, sheet.block_bits(i)).into_iter().collect();
+    let r = bits[random.from_to(0, bits.len() - 1)];
+    let page = match random.from_to(0, 7) {
+        0 => sheet.erased(0),
+        1 => next_to_blank(&sheet, i, r),
+        _ => page(random, p),
+    };
+    Call::alter(p, page, i as u32, r as u32, random.from_to(0, 1) as u32)
+}
+
+/// The page that is blank when bit r of block i is made 1, which is 0.
+pub fn next_to_blank(sheet: &Sheet, i: usize, r: usize) -> Vec<u8> {
+    let mut page = sheet.erased(0);
+    add(&mut page, &sheet.page_of_bit(i, r));
+    page
+}
+
 /// A call that is not refused.
 pub fn exact(random: &mut Random, name: Name, p: &Parameters) -> Call {
     let sheet = Sheet::of(p);
@@ -139,6 +186,10 @@ pub fn exact(random: &mut Random, name: Name, p: &Parameters) -> Call {
         Name::WriteMany => {
             let count = accepted_count(random, p);
             return many_drawn(random, p, count);
+        }
+        Name::Alter => {
+            let done = |call: &Call| call.by_reference(&[], &mut call.lent.clone(), &mut []) == 0;
+            return repeat_with(|| alteration(random, p)).find(done).unwrap();
         }
         Name::ReadOut => (0, page(random, p), sheet.blocks_bytes()),
         Name::Judge => (0, page(random, p), 0),
@@ -160,6 +211,7 @@ pub fn conditions(name: Name) -> &'static [u32] {
     match name {
         Name::Write => &[1, 2, 3, 4, 14, 5, 6, 7, 8, 13],
         Name::WriteMany => &[1, 2, 3, 4, 14, 5, 9, 6, 7, 10],
+        Name::Alter => &[1, 2, 3, 4, 14, 7, 8, 9, 13],
         Name::ReadOut => &[1, 2, 3, 4, 14, 6, 7, BLANK, 8],
         Name::Judge => &[1, 2, 3, 4, 14, 7, BLANK, 8],
         Name::Syndromes | Name::NestedSyndromes => &[1, 2, 3, 4, 14, 7, 8, 9, 10],
@@ -207,7 +259,7 @@ pub fn spoil(random: &mut Random, call: &mut Call, condition: u32) -> bool {
             _ => cut(random, &mut call.lent, 1),
         },
         7 => match call.name {
-            Name::Write | Name::WriteMany => cut(random, &mut call.lent, call.count),
+            Name::Write | Name::WriteMany | Name::Alter => cut(random, &mut call.lent, call.count),
             _ => cut(random, &mut call.read, 1),
         },
         8 => {
@@ -216,7 +268,8 @@ pub fn spoil(random: &mut Random, call: &mut Call, condition: u32) -> bool {
             if places.is_empty() {
                 return false;
             }
-            set(&mut call.read, places[random.from_to(0, places.len() - 1)]);
+            let bytes = if call.name == Name::Alter { &mut call.lent } else { &mut call.read };
+            set(bytes, places[random.from_to(0, places.len() - 1)]);
             if conditions(call.name).contains(&BLANK) && sheet.blank(&call.read) {
                 flip(&mut call.read, random.place(&sheet));
             }
@@ -224,6 +277,21 @@ pub fn spoil(random: &mut Random, call: &mut Call, condition: u32) -> bool {
         9 if call.name == Name::WriteMany => {
             let turn = any_of(random, &[1 << 8, 1 << 16, 1 << 31]);
             call.count = any_of(random, &[0, 17, 18, 32, 255, 256, 1 << 31, GREATEST, call.count + turn]);
+        }
+        // The block, the bit, the value, or several of them.
+        9 if call.name == Name::Alter => {
+            let (wrong, turn) = (random.from_to(1, 7), any_of(random, &[1 << 8, 1 << 16, 1 << 31]));
+            let end = sheet.unwrap().block_bits(call.number as usize) as u32;
+            if wrong & 1 == 1 {
+                call.number = any_of(random, &[p.m, p.m + 1, 8, 255, 256, call.number + turn, GREATEST - 1, GREATEST]);
+            }
+            if wrong & 2 == 2 {
+                let n = (1 << p.q) - 1;
+                call.bit = any_of(random, &[end, end + 1, n - p.s, n, call.bit + turn.max(n), GREATEST - 1, GREATEST]);
+            }
+            if wrong & 4 == 4 {
+                call.value = any_of(random, &[2, 3, 255, 256, call.value + turn, GREATEST - 1, GREATEST]);
+            }
         }
         9 => {
             let end = if call.name == Name::Syndromes { p.m } else { p.v };
@@ -233,6 +301,12 @@ pub fn spoil(random: &mut Random, call: &mut Call, condition: u32) -> bool {
         10 => cut(random, &mut call.lent, 1),
         13 => {
             let sheet = sheet.unwrap();
+            if call.name == Name::Alter {
+                let (i, r) = (call.number as usize, call.bit as usize);
+                call.value = 1;
+                call.lent = if random.once_in(2) { sheet.erased(0) } else { next_to_blank(&sheet, i, r) };
+                return true;
+            }
             if sheet.s > 0 {
                 return false;
             }
@@ -323,16 +397,16 @@ pub fn any(random: &mut Random) -> Call {
         }
     }
     if random.once_in(4) {
-        let number = wild_number(random);
-        match random.from_to(0, if name == Name::WriteMany { 9 } else { 8 }) {
-            0 => call.p.q = number,
-            1 => call.p.m = number,
-            2 => call.p.v = number,
-            3 => call.number = number,
-            4 => call.p.s = number,
-            9 => call.count = number,
-            place => call.p.t[place - 5] = number,
+        let Call { p: Parameters { q, m, v, t, s }, number, count, bit, value, .. } = &mut call;
+        let mut numbers = vec![q, m, v, s, number];
+        numbers.extend(t);
+        match name {
+            Name::WriteMany => numbers.push(count),
+            Name::Alter => numbers.extend([bit, value]),
+            _ => {}
         }
+        let place = random.from_to(0, numbers.len() - 1);
+        *numbers[place] = wild_number(random);
     }
     call
 }
@@ -353,7 +427,7 @@ fn wild(random: &mut Random, name: Name) -> Call {
     let mut number = || wild_number(random);
     let t = [number(), number(), number(), number()];
     let p = Parameters { q: number(), m: number(), v: number(), t, s: number() };
-    let (number, count) = (number(), number());
+    let [number, count, bit, value] = [number(), number(), number(), number()];
     let length = |random: &mut Random| match random.from_to(0, 3) {
         0 => 0,
         1 => 4096,
@@ -362,10 +436,7 @@ fn wild(random: &mut Random, name: Name) -> Call {
     };
     let (read, lent) = (length(random), length(random));
     let (read, lent) = (if name.reads() { read } else { 0 }, if name.writes() { lent } else { 0 });
+    let list = if name == Name::WriteMany { length(random) } else { 0 };
     let call = Call::new(name, &p, number, random.bytes(read), random.bytes(lent));
-    if name != Name::WriteMany {
-        return call;
-    }
-    let list = length(random);
-    Call { count, list: random.bytes(list), ..call }
+    Call { count, bit, value, list: random.bytes(list), ..call }
 }

@@ -1,5 +1,5 @@
-//! The archive, through the crate gii-bch, and the reference: calls made to both, calls drawn from a seed, and the time that
-//! shortened sub-words and many pages in one call save.
+//! The archive, through the crate gii-bch, and the reference: calls made to both, calls drawn from a seed, the time that
+//! shortened sub-words and many pages in one call save, and that of an altered bit.
 
 pub mod call;
 pub mod draw;

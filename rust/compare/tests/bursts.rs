@@ -2,21 +2,13 @@
 //! judged a member; where full sub-words are stored, place 0 follows place n − 1. One place more, and it can be one.
 
 use compare::call::{Call, Name, sheet};
-use compare::draw::{count, exact, one_in, say, seed};
+use compare::draw::{alike, count, member, one_in, say, seed};
 use gii_bch::{Refusal, Verdict};
 use reference::Parameters;
 use reference::calls::BLANK;
 use reference::layout::flip;
 use reference::parameters::Sheet;
 use reference::sample::{Random, all_parameters, all_shortened};
-
-/// The page of drawn blocks: a member.
-fn member(random: &mut Random, p: &Parameters) -> Vec<u8> {
-    let write = exact(random, Name::Write, p);
-    let mut page = vec![0; Sheet::of(p).page_bytes()];
-    assert_eq!(write.by_reference(&write.read, &mut page, &mut []), 0, "{p:?}");
-    page
-}
 
 /// The degree w_v.
 fn longest(sheet: &Sheet) -> usize {
@@ -176,10 +168,7 @@ fn drawn(q: u32, sheets: usize, each: usize) {
             let judge = Call::new(Name::Judge, &p, 0, damaged.to_vec(), Vec::new());
             let lent = random.bytes(made.blocks_bytes());
             let read_out = Call { name: Name::ReadOut, lent, ..judge.clone() };
-            let [judged, read] = [judge, read_out].map(|call| {
-                let shift = random.from_to(0, 255);
-                call.compare(shift).unwrap_or_else(|found| panic!("seed {}: {found}", seed())).0
-            });
+            let [judged, read] = [judge, read_out].map(|call| alike(random, &call).0);
             assert_eq!(judged, read, "{p:?}");
             judged
         };

@@ -2,7 +2,7 @@
 //! reference, with pages that are refused at every place among the others. And what refuses the whole call.
 
 use compare::call::{Call, sheet};
-use compare::draw::{count, make_stray, many, many_drawn, one_in, say, seed, writable};
+use compare::draw::{alike, count, make_stray, many, many_drawn, one_in, say, seed, with_shortened, writable};
 use gii_bch::Refusal;
 use reference::Parameters;
 use reference::calls::MOST_PAGES;
@@ -70,8 +70,7 @@ impl Run {
     /// The number, the pages and the list of a call, on which both sides agree.
     fn both(&mut self, call: &Call) -> (u32, Vec<u8>, Vec<u8>) {
         self.calls += 1;
-        let shift = self.random.from_to(0, 255);
-        call.compare(shift).unwrap_or_else(|found| panic!("seed {}, call {}: {found}", seed(), self.calls))
+        alike(&mut self.random, call)
     }
 
     /// Asks that a call is refused by this number, and leaves every byte.
@@ -176,11 +175,6 @@ impl Run {
     }
 }
 
-/// A sheet with full sub-words, shortened by half of the greatest s, and by the greatest.
-fn with_shortened(p: &Parameters) -> [Parameters; 3] {
-    [*p, p.shortened(p.most().div_ceil(2)), p.shortened(p.most())]
-}
-
 /// Every sheet with every s; a refused page at every place of 16, and of every other count on two of the sheets.
 #[test]
 fn many_on_every_sheet_of_q_4() {
@@ -249,7 +243,7 @@ fn many_at_every_width() {
     let mut met = BTreeSet::new();
     for p in [A, SHEETS_OF_Q_8[1], SHEETS_OF_Q_12[0]].iter().flat_map(with_shortened) {
         let call = many_drawn(&mut random, &p, MOST);
-        let (number, pages, list) = call.compare(0).unwrap_or_else(|found| panic!("seed {}: {found}", seed()));
+        let (number, pages, list) = alike(&mut random, &call);
         assert_eq!(number, 0, "{p:?}");
         for width in (1..=64).step_by(one_in()) {
             let (mut lent, mut listed) = (call.lent.clone(), call.list.clone());

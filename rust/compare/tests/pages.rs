@@ -2,7 +2,7 @@
 //! sub-words and with shortened ones.
 
 use compare::call::{Call, NAMES, Name};
-use compare::draw::{break_nested, count, exact, list_bytes, one_in, say, seed};
+use compare::draw::{alike, break_nested, count, exact, list_bytes, one_in, say, seed, with_shortened};
 use reference::Parameters;
 use reference::calls::BLANK;
 use reference::layout::flip;
@@ -37,8 +37,7 @@ impl Run {
     /// The number, the lent bytes and the list of a call, on which both sides agree.
     fn both(&mut self, call: &Call) -> (u32, Vec<u8>, Vec<u8>) {
         self.calls += 1;
-        let shift = self.random.from_to(0, 255);
-        call.compare(shift).unwrap_or_else(|found| panic!("seed {}, call {}: {found}", seed(), self.calls))
+        alike(&mut self.random, call)
     }
 
     /// The number and the lent bytes of a call that is not refused.
@@ -278,11 +277,6 @@ const SHEETS_OF_Q_12: [Parameters; 4] = [
     Parameters::full(12, 8, 3, [1, 2, 2, 2]),
 ];
 
-/// A sheet shortened by half of the greatest s and by the greatest.
-fn halved_and_least(p: &Parameters) -> [Parameters; 2] {
-    [p.shortened(p.most().div_ceil(2)), p.shortened(p.most())]
-}
-
 #[test]
 fn every_sheet_of_q_4() {
     let mut run = Run::new(4);
@@ -322,7 +316,7 @@ fn sheets_of_q_8() {
 #[test]
 fn shortened_sheets_of_q_8() {
     let mut run = Run::new(9);
-    for p in SHEETS_OF_Q_8.iter().flat_map(halved_and_least).filter(|p| p.s > 0) {
+    for p in SHEETS_OF_Q_8.iter().flat_map(with_shortened).filter(|p| p.s > 0) {
         run.sheet(&p, &[1, 8, 63, 64], 4);
         run.blank(&p, &[1, 8, 63, 64]);
     }
@@ -349,7 +343,7 @@ fn sheets_of_q_12() {
 #[test]
 fn shortened_sheets_of_q_12() {
     let mut run = Run::new(13);
-    for p in SHEETS_OF_Q_12.iter().flat_map(halved_and_least) {
+    for p in SHEETS_OF_Q_12.iter().flat_map(with_shortened).filter(|p| p.s > 0) {
         run.sheet(&p, &[1, 7, 8, 32, 63, 64], 4);
         run.blank(&p, &[1, 7, 8, 32, 63, 64]);
     }

@@ -158,13 +158,20 @@ fn every_length_near_the_exact_one() {
     let full = [4, 8, 12].map(|q| random.parameters(q));
     let shortened = [A, full[1], full[2]].map(|p| random.shortened(&p));
     for p in full.into_iter().chain(shortened) {
-        for name in NAMES.into_iter().filter(|name| name.reads()) {
+        for name in NAMES.into_iter().filter(|name| name.has_page()) {
             let call = exact(&mut random, name, &p);
             // None, one less, the length, one more; only none where the call has no such buffer.
             let near = |exact: usize| BTreeSet::from([0, exact.saturating_sub(1), exact, exact + 1]);
-            let lents = if name.writes() { near(call.lent.len()) } else { BTreeSet::from([0]) };
+            // Of one buffer all, or many: of the one that is read, and of alter's.
+            let every = |exact: usize| (0..exact + 40).filter(|&length| p.q == 4 || length + 40 > exact).collect();
+            let reads = if name.reads() { every(call.read.len()) } else { BTreeSet::from([0]) };
+            let lents = match name {
+                Name::Alter => every(call.lent.len()),
+                _ if name.writes() => near(call.lent.len()),
+                _ => BTreeSet::from([0]),
+            };
             let lists = if name == Name::WriteMany { near(call.list.len()) } else { BTreeSet::from([0]) };
-            for read in (0..call.read.len() + 40).filter(|&length| p.q == 4 || length + 40 > call.read.len()) {
+            for &read in &reads {
                 for (&lent, &list) in lents.iter().flat_map(|lent| lists.iter().map(move |list| (lent, list))) {
                     let mut call = call.clone();
                     call.read.resize(read, 0);
@@ -194,7 +201,7 @@ fn lengths_of_another_shortening() {
             let (sheet, other) = (Sheet::of(&p), Sheet::of(&of));
             let blocks_differ = sheet.blocks_bytes() != other.blocks_bytes();
             let pages_differ = sheet.page_bytes() != other.page_bytes();
-            for name in NAMES.into_iter().filter(|name| name.reads()) {
+            for name in NAMES.into_iter().filter(|name| name.has_page()) {
                 let (right, wrong) = match name {
                     // As many pages, so that a length is another by s alone.
                     Name::WriteMany => {
@@ -212,6 +219,7 @@ fn lengths_of_another_shortening() {
                     };
                     let (read, lent) = match name {
                         Name::Write | Name::WriteMany => (blocks, page),
+                        Name::Alter => (false, page),
                         _ => (page, blocks && has_blocks),
                     };
                     let mut call = right.clone();
@@ -229,7 +237,7 @@ fn lengths_of_another_shortening() {
         }
     }
     let with_blocks = [Name::Write, Name::WriteMany, Name::ReadOut].map(|name| (name, 6));
-    let with_page = NAMES.into_iter().filter(|name| name.reads()).map(|name| (name, 7));
+    let with_page = NAMES.into_iter().filter(|name| name.has_page()).map(|name| (name, 7));
     assert_eq!(met, with_page.chain(with_blocks).collect());
 }
 

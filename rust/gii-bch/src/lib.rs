@@ -1,4 +1,5 @@
-//! Pages of generalized integrated interleaved BCH (GII-BCH) codes: writing, reading out, judging, syndromes, sizes.
+//! Pages of generalized integrated interleaved BCH (GII-BCH) codes: writing, altering, reading out, judging, syndromes,
+//! sizes.
 //!
 //! The work is done by `libgii_bch.a`, a library proved by machine. This crate is not proved: it links the archive, lends
 //! it slices and gives its numbers names. A slice is never null, exactly as long as it says, and a mutable one overlaps no
@@ -69,6 +70,7 @@ c_functions! {
         width: u32, count: u32, blocks: *const u8, blocks_len: usize, pages: *mut u8, pages_len: usize, list: *mut u8,
         list_len: usize
     );
+    fn gii_alter(page: *mut u8, page_len: usize, block: u32, bit: u32, value: u32);
     fn gii_read_out(page: *const u8, page_len: usize, blocks: *mut u8, blocks_len: usize);
     fn gii_judge(page: *const u8, page_len: usize);
     fn gii_syndromes(page: *const u8, page_len: usize, index: u32, list: *mut u8, list_len: usize);
@@ -155,11 +157,11 @@ pub enum Refusal {
     Page = 7,
     /// A spare bit of the page, or an unused bit of the blocks, that is read is 1.
     Stray = 8,
-    /// There is no such sub-word or nested word; or the count of pages is not 1 to 16.
+    /// There is no such sub-word, nested word, block or bit; the value is above 1; or the count of pages is not 1 to 16.
     Index = 9,
     /// The list's length is not exact.
     List = 10,
-    /// The page of the blocks would be blank: s is 0, and every data bit is 1.
+    /// The page would be blank: that of the blocks, where s is 0 and every data bit is 1, or the altered one.
     Blank = 13,
     /// s is above n − w_v − 1, so that some block would have no data bit.
     Shortening = 14,
@@ -244,7 +246,7 @@ impl fmt::Display for Refusal {
             Refusal::Blocks => "the blocks' length is not exact",
             Refusal::Page => "the page's length is not exact",
             Refusal::Stray => "a spare or unused bit is 1",
-            Refusal::Index => "no such sub-word or nested word, or not 1 to 16 pages",
+            Refusal::Index => "no such sub-word, nested word, block or bit, a value above 1, or not 1 to 16 pages",
             Refusal::List => "the list's length is not exact",
             Refusal::Blank => "the page would be blank",
             Refusal::Shortening => "s leaves a block without data",
@@ -475,6 +477,38 @@ impl Sheet {
             list.as_mut_ptr(),
             list.len()
         ))
+    }
+
+    /// Bit `bit` of block `block` of a stored page made `value`, 0 or 1, with the check bits that go with it: a member comes
+    /// to be the page of its blocks with this bit altered, and no block is sent again. Where the bit has the value already, no
+    /// byte changes; else the page of this bit alone is added, bit by bit modulo 2, to any page, member or not. Of the
+    /// sub-words only number `block` and those below both `block` and v change, and but for the bit only their check bits.
+    ///
+    /// Refuses the parameters, the length, a spare bit anywhere in the page, blank or not, the block, the bit or the value (by
+    /// [`Refusal::Index`]), a page that would be blank, even if the bit has the value already.
+    ///
+    /// ```
+    /// # use gii_bch::{Refusal, Sheet};
+    /// let sheet = Sheet::new(4, 2, 1, [1, 2, 0, 0]);
+    /// let mut page = [0; 4];
+    /// sheet.write(64, &[0x01, 0x01, 0x00], &mut page)?;
+    /// sheet.alter(&mut page, 1, 9, 1)?;
+    /// let mut altered = [0; 4];
+    /// sheet.write(64, &[0x01, 0x01, 0x02], &mut altered)?;
+    /// assert_eq!(page, altered);
+    ///
+    /// // Block 1 has eleven data bits; a bit is 0 or 1.
+    /// assert_eq!(sheet.alter(&mut page, 1, 11, 0), Err(Refusal::Index));
+    /// assert_eq!(sheet.alter(&mut page, 1, 10, 2), Err(Refusal::Index));
+    /// assert_eq!(page, altered);
+    ///
+    /// // Every data bit but one is 1.
+    /// sheet.write(64, &[0x7F, 0xFF, 0x03], &mut page)?;
+    /// assert_eq!(sheet.alter(&mut page, 1, 10, 1), Err(Refusal::Blank));
+    /// # Ok::<(), gii_bch::Refusal>(())
+    /// ```
+    pub fn alter(&self, page: &mut [u8], block: u32, bit: u32, value: u32) -> Result<(), Refusal> {
+        done(call!(gii_alter, self, page.as_mut_ptr(), page.len(), block, bit, value))
     }
 
     /// The data bits of the page, member or not, blank or not, and what [`Sheet::judge`] gives for it. Nothing is corrected.

@@ -1,5 +1,6 @@
-//! The ten C calls, on slices. Each gives the requirement's number; a refusal leaves every byte.
+//! The eleven C calls, on slices. Each gives the requirement's number; a refusal leaves every byte.
 
+use crate::layout;
 use crate::parameters::{Condition, Parameters, Sheet, first};
 
 /// The answer to a blank page.
@@ -63,6 +64,39 @@ pub fn write_many(p: &Parameters, width: u32, count: u32, blocks: &[u8], pages: 
     for ((blocks, page), listed) in blocks.zip(pages).zip(list) {
         *listed = write(p, width, blocks, page) as u8;
     }
+    0
+}
+
+/// One bit of a block made `value`: where the blocks of the page have another, the page of blocks that are all 0 but for this
+/// bit is added.
+pub fn alter(p: &Parameters, page: &mut [u8], block: u32, bit: u32, value: u32) -> u32 {
+    let sheet = || Sheet::of(p);
+    let (i, r) = (block as usize, bit as usize);
+    let refused = refusal(
+        p,
+        &[
+            (7, &|| page.len() != sheet().page_bytes()),
+            (8, &|| sheet().page_stray(page)),
+            (9, &|| block >= p.m),
+            (9, &|| r >= sheet().block_bits(i)),
+            (9, &|| value > 1),
+        ],
+    );
+    if refused != 0 {
+        return refused;
+    }
+    let sheet = sheet();
+    let mut blocks = vec![0; sheet.blocks_bytes()];
+    sheet.put_blocks(&sheet.words_of(page), &mut blocks);
+    let mut made = page.to_vec();
+    if u32::from(layout::bit(&blocks, sheet.block_start(i) + r)) != value {
+        layout::add(&mut made, &sheet.page_of_bit(i, r));
+    }
+    // As in write, seen from the page that would be, whether a bit of it is another or not.
+    if sheet.blank(&made) {
+        return 13;
+    }
+    page.copy_from_slice(&made);
     0
 }
 

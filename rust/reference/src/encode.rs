@@ -7,6 +7,7 @@
 
 use crate::field::Field;
 use crate::generator::odd;
+use crate::layout::set;
 use crate::linear;
 use crate::parameters::Sheet;
 
@@ -23,6 +24,15 @@ impl Sheet {
             }
         }
         words
+    }
+
+    /// The page of blocks that are all 0 but for bit r of block i.
+    pub fn page_of_bit(&self, i: usize, r: usize) -> Vec<u8> {
+        let mut blocks = vec![0; self.blocks_bytes()];
+        set(&mut blocks, self.block_start(i) + r);
+        let mut page = vec![0; self.page_bytes()];
+        self.put_page(&self.encode(&self.words_of_blocks(&blocks)), &mut page);
+        page
     }
 
     /// The value that sub-word i must have at α^j, a root of its level, where the sub-words after i are known.

@@ -156,3 +156,8 @@ pub fn set(bytes: &mut [u8], place: usize) {
 pub fn flip(bytes: &mut [u8], place: usize) {
     bytes[place / 8] ^= 1 << (place % 8);
 }
+
+/// Adds some bytes to others, bit by bit modulo 2.
+pub fn add(bytes: &mut [u8], others: &[u8]) {
+    bytes.iter_mut().zip(others).for_each(|(byte, other)| *byte ^= other);
+}

@@ -9,9 +9,10 @@
 //!   linear conditions of the code at once, every check bit an unknown (`elimination`);
 //! - a word is judged by its values at the roots, a nested word is formed by turning, refusals are a list of conditions;
 //! - a shortened sub-word is a full one, of n coefficients, of which a page has the lower n − s;
-//! - that blocks are refused because their page would be blank is seen from the page, which is made first.
+//! - that blocks are refused because their page would be blank is seen from the page, which is made first, and so it is of
+//!   an altered page, which is the lent one with the page of one data bit added.
 //!
-//! `calls` has the ten C calls by these means; a degree is a generator's length less one. `sample` draws inputs from a seed.
+//! `calls` has the eleven C calls by these means; a degree is a generator's length less one. `sample` draws inputs from a seed.
 
 pub mod calls;
 pub mod elimination;

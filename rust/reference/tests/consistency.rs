@@ -1,9 +1,9 @@
-//! The reference against itself: two encoders, read-back, sums, distance, blank pages, shortened sub-words.
+//! The reference against itself: two encoders, read-back, sums, distance, blank pages, altered bits, shortened sub-words.
 
 use reference::calls::{BLANK, judge, read_out, write};
 use reference::field::Field;
 use reference::generator::{Level, divide};
-use reference::layout::{bit, flip, set};
+use reference::layout::{add, bit, flip, set};
 use reference::linear;
 use reference::parameters::Sheet;
 use reference::sample::{Random, all_parameters, all_shortened};
@@ -247,27 +247,77 @@ fn distance() {
 #[test]
 fn sums() {
     let mut random = Random::new(5);
-    let add = |x: &[u8], y: &[u8]| x.iter().zip(y).map(|(x, y)| x ^ y).collect::<Vec<_>>();
+    let sum_of = |x: &[u8], y: &[u8]| x.iter().zip(y).map(|(x, y)| x ^ y).collect::<Vec<_>>();
     let (mut members, mut blank) = (0, 0);
     for q in [4, 8, 12] {
         for _ in 0..20 {
             let p = drawn(&mut random, q);
             let sheet = Sheet::of(&p);
             let (a, b) = (random.blocks(&sheet), random.blocks(&sheet));
-            let pages = [&a, &b, &add(&a, &b)].map(|blocks| written(&p, blocks));
+            let pages = [&a, &b, &sum_of(&a, &b)].map(|blocks| written(&p, blocks));
             if let [Some(x), Some(y), Some(sum)] = pages {
-                assert_eq!(add(&x, &y), sum);
+                assert_eq!(sum_of(&x, &y), sum);
                 assert_eq!(judge(&p, &sum), 0);
                 members += 1;
             }
-            if let (Some(x), Some(y)) = (written(&p, &a), written(&p, &add(&a, &sheet.ones()))) {
+            if let (Some(x), Some(y)) = (written(&p, &a), written(&p, &sum_of(&a, &sheet.ones()))) {
                 // At s > 0 it is the page of the blocks of ones, which is written.
-                assert_eq!(add(&x, &y), written(&p, &sheet.ones()).unwrap_or_else(|| sheet.erased(0)), "{p:?}");
+                assert_eq!(sum_of(&x, &y), written(&p, &sheet.ones()).unwrap_or_else(|| sheet.erased(0)), "{p:?}");
                 blank += u32::from(p.s == 0);
             }
         }
     }
     assert!(members >= 30 && blank >= 15, "of 60 sums {members} members, {blank} blank");
+}
+
+/// An altered page is the lent one, member or not, with the pages of its blocks and of the altered blocks added, both by
+/// elimination; it is refused where that is blank, and only there.
+#[test]
+fn altered_bits() {
+    let mut random = Random::new(8);
+    let mut sheets: Vec<Parameters> = all_of_q_4().collect();
+    for (q, count) in [(8, 40), (12, 4)] {
+        sheets.extend((0..count).map(|_| drawn(&mut random, q)));
+    }
+    let [mut altered, mut same, mut refused] = [0; 3];
+    for p in sheets {
+        let sheet = Sheet::of(&p);
+        for turn in 0..6 {
+            let (i, value) = (random.from_to(0, sheet.m - 1), random.from_to(0, 1));
+            let r = random.from_to(0, sheet.block_bits(i) - 1);
+            let mut page = sheet.erased(0);
+            match turn {
+                0 => {}
+                1 => add(&mut page, &sheet.page_of_bit(i, r)),
+                2 | 3 => page = written(&p, &random.blocks(&sheet)).unwrap_or(page),
+                _ => page.iter_mut().for_each(|byte| *byte &= random.number() as u8),
+            }
+            let mut blocks = vec![0; sheet.blocks_bytes()];
+            sheet.put_blocks(&sheet.words_of(&page), &mut blocks);
+            let mut others = blocks.clone();
+            if bit(&blocks, sheet.block_start(i) + r) != (value == 1) {
+                flip(&mut others, sheet.block_start(i) + r);
+            }
+            let mut expected = page.clone();
+            for words in sheet.encode_by_elimination(&[blocks, others].map(|blocks| sheet.words_of_blocks(&blocks))) {
+                let mut made = vec![0; page.len()];
+                sheet.put_page(&words, &mut made);
+                add(&mut expected, &made);
+            }
+            let number = if sheet.blank(&expected) { 13 } else { 0 };
+            let mut lent = page.clone();
+            assert_eq!(calls::alter(&p, &mut lent, i as u32, r as u32, value as u32), number, "{p:?}, turn {turn}");
+            assert_eq!(lent, if number == 0 { &expected[..] } else { &page }, "{p:?}, turn {turn}");
+            *if number != 0 {
+                &mut refused
+            } else if lent == page {
+                &mut same
+            } else {
+                &mut altered
+            } += 1;
+        }
+    }
+    assert!(altered > 300 && same > 300 && refused > 150, "{altered} altered, {same} the same, {refused} refused");
 }
 
 /// A page of ones is blank, whatever its spare bits are. At s = 0 it passes every condition of the code, at s > 0 its first

@@ -2,8 +2,8 @@
 //! cases of shortened sub-words.
 
 use reference::calls::{
-    BLANK, QUOTE_BYTES, data_bytes, distance, judge, nested_syndromes, page_bytes, quote, read_out, syndromes, write,
-    write_many,
+    BLANK, QUOTE_BYTES, alter, data_bytes, distance, judge, nested_syndromes, page_bytes, quote, read_out, syndromes,
+    write, write_many,
 };
 use reference::field::Field;
 use reference::generator::Level;
@@ -262,6 +262,79 @@ fn many_pages() {
         let holds = if expected == 0 { 0 } else { 0xA5 };
         assert_eq!((pages, list), (vec![holds; room], vec![holds; listed]), "{count} pages");
     }
+}
+
+/// Sheet A: the page of bit 0 of block 0 is g_1, D1 01, in sub-word 0; that of bit 0 of block 1 is g_0, 13 00, in both. Sheet
+/// B: that of bit 0 of block 2 is 26 00, 35 00, 13 00, and that of bit 0 of block 0 is g_2, 37 05.
+#[test]
+fn altered_bits() {
+    for (p, page, [block, bit, value], expected) in [
+        (A, &[0x00, 0x00, 0x00, 0x00][..], [0, 0, 1], &[0xD1, 0x01, 0x00, 0x00][..]),
+        (A, &[0x13, 0x00, 0x13, 0x00], [0, 0, 1], &[0xC2, 0x01, 0x13, 0x00]),
+        (A, &[0xC2, 0x01, 0x13, 0x00], [0, 0, 0], &[0x13, 0x00, 0x13, 0x00]),
+        (A, &[0xC2, 0x01, 0x13, 0x00], [0, 0, 1], &[0xC2, 0x01, 0x13, 0x00]),
+        (A, &[0xC2, 0x01, 0x13, 0x00], [1, 0, 0], &[0xD1, 0x01, 0x00, 0x00]),
+        // No members, of which what is wrong stays: check bits, and a data bit of sub-word 1.
+        (A, &[0x04, 0x00, 0x07, 0x20], [1, 0, 1], &[0x17, 0x00, 0x14, 0x20]),
+        (A, &[0x04, 0x00, 0x07, 0x20], [1, 0, 0], &[0x04, 0x00, 0x07, 0x20]),
+        // A blank page takes 0.
+        (A, &[0xFF, 0x7F, 0xFF, 0x7F], [0, 0, 0], &[0x2E, 0x7E, 0xFF, 0x7F]),
+        (A, &[0xFF, 0x7F, 0xFF, 0x7F], [1, 0, 0], &[0xEC, 0x7F, 0xEC, 0x7F]),
+        (B, &[0x00, 0x00, 0x00, 0x00, 0x00, 0x00], [2, 0, 1], &[0x26, 0x00, 0x35, 0x00, 0x13, 0x00]),
+        (B, &[0x26, 0x00, 0x35, 0x00, 0x13, 0x00], [0, 0, 1], &[0x11, 0x05, 0x35, 0x00, 0x13, 0x00]),
+        (A.shortened(6), &[0x13, 0x00, 0x13, 0x00], [0, 0, 1], &[0xC2, 0x01, 0x13, 0x00]),
+        (A.shortened(6), &[0xFF, 0x01, 0xFF, 0x01], [0, 0, 0], &[0x2E, 0x00, 0xFF, 0x01]),
+        (B.shortened(4), &[0x00, 0x00, 0x00, 0x00, 0x00, 0x00], [2, 0, 1], &[0x26, 0x00, 0x35, 0x00, 0x13, 0x00]),
+    ] {
+        let mut altered = page.to_vec();
+        assert_eq!(alter(&p, &mut altered, block, bit, value), 0, "{p:?}, {page:02X?}");
+        assert_eq!(altered, expected, "{p:?}, {page:02X?}");
+    }
+}
+
+/// What refuses an alteration, and in which order; every byte stays.
+#[test]
+fn alterations_refused() {
+    const MOST: u32 = u32::MAX;
+    let clear = [0xFF, 0x7F, 0xFF, 0x7F];
+    for (p, page, [block, bit, value], expected) in [
+        (Parameters { q: 5, ..A }, &[0xFF; 3][..], [MOST; 3], 1),
+        (Parameters { m: 1, ..A }, &[0xFF; 3], [MOST; 3], 2),
+        (Parameters { t: [2, 2, 0, 0], ..A }, &[0xFF; 3], [MOST; 3], 3),
+        (Parameters::full(4, 4, 2, [1, 2, 3, 0]).shortened(MOST), &[0xFF; 3], [MOST; 3], 4),
+        (A.shortened(7), &[0xFF; 3], [MOST; 3], 14),
+        (A, &[0xFF; 3], [MOST; 3], 7),
+        (A, &[0xFF; 5], [0, 0, 1], 7),
+        (A, &[], [0, 0, 1], 7),
+        (A, &[0xFF; 4], [MOST; 3], 8),
+        (A, &[0xFF; 4], [0, 0, 1], 8),
+        (A, &[0xFF; 4], [0, 0, 0], 8),
+        (A, &[0x00, 0x80, 0x00, 0x00], [2, 0, 0], 8),
+        (A, &[0x00, 0x00, 0x00, 0x80], [0, 0, 1], 8),
+        // Seven and eleven data bits.
+        (A, &clear, [2, 0, 1], 9),
+        (A, &clear, [0, 7, 1], 9),
+        (A, &clear, [1, 11, 1], 9),
+        (A, &clear, [0, 0, 2], 9),
+        (A, &clear, [MOST, 0, 1], 9),
+        (A, &clear, [0, MOST, 1], 9),
+        (A, &clear, [0, 0, MOST], 9),
+        // A blank page, and pages that a bit makes blank: a member, whose other data bits are 1, and one that is none.
+        (A, &clear, [0, 0, 1], 13),
+        (A, &clear, [1, 10, 1], 13),
+        (A, &[0x2E, 0x7E, 0xFF, 0x7F], [0, 0, 1], 13),
+        (A.shortened(6), &[0xFF, 0x01, 0xFF, 0x01], [0, 0, 1], 13),
+        (A.shortened(6), &[0x2E, 0x00, 0xFF, 0x01], [0, 0, 1], 13),
+        (A.shortened(6), &[0xFF, 0x01, 0xFF, 0x01], [0, 1, 1], 9),
+        (A.shortened(6), &[0xFF, 0x01, 0xFF, 0x01], [1, 5, 1], 9),
+        (A.shortened(6), &[0xFF, 0x03, 0xFF, 0x01], [1, 5, 1], 8),
+    ] {
+        let mut altered = page.to_vec();
+        assert_eq!(alter(&p, &mut altered, block, bit, value), expected, "{p:?}, {page:02X?}, {block}, {bit}, {value}");
+        assert_eq!(altered, page, "{p:?}, {block}, {bit}, {value}");
+    }
+    assert_eq!(judge(&A, &[0x2E, 0x7E, 0xFF, 0x7F]), 0);
+    assert_eq!(judge(&A.shortened(6), &[0x2E, 0x00, 0xFF, 0x01]), 32);
 }
 
 /// Input 04 02 01 08 01 02 01 01 00 of the writer program gives 00 C2 01 13 00; empty input, all numbers 0, gives 01.

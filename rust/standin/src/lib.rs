@@ -5,7 +5,7 @@
 
 use reference::calls::BLANK;
 use reference::generator::{Level, odd};
-use reference::layout::{bit, flip, set};
+use reference::layout::{add, bit, flip, set};
 use reference::parameters::Sheet;
 use reference::{Parameters, calls, generator, linear};
 use std::cell::Cell;
@@ -451,6 +451,184 @@ fn write_many(p: &Parameters, width: u32, count: u32, blocks: &[u8], pages: &mut
     }
 }
 
+/// The refusal of alter but 13, by its tests in the order that the fault gives them.
+fn alter_refusal(p: &Parameters, page: &[u8], block: u32, bit: u32, value: u32) -> u32 {
+    match p.refusal() {
+        14 if fault("alter-page-before-14") && page.len() != Sheet::of(&p.shortened(0)).page_bytes() => return 7,
+        0 => {}
+        number => return number,
+    }
+    let sheet = Sheet::of(p);
+    let exact = page.len() == sheet.page_bytes();
+    let i = block as usize;
+    let bits = match () {
+        _ if fault("alter-bit-one-too-many") => sheet.block_bits(i) + 1,
+        _ if fault("alter-bit-one-too-few") => sheet.block_bits(i) - 1,
+        _ if fault("alter-bits-of-block-0") => sheet.block_bits(0),
+        _ if fault("alter-bits-of-last-block") => sheet.block_bits(sheet.m - 1),
+        _ if fault("alter-bits-without-s") => sheet.block_bits(i) + sheet.s,
+        _ => sheet.block_bits(i),
+    };
+    let blocks = if fault("alter-block-m") { p.m + 1 } else { p.m };
+    let index = block >= blocks || bit as usize >= bits || value > 1;
+    let met = |condition: &u32| match *condition {
+        7 if fault("alter-full-page") => page.len() != full_page_bytes(p),
+        7 => !exact,
+        8 => exact && sheet.page_stray(page) && !fault("alter-stray-missed"),
+        BLANK => exact && sheet.blank(page) && value == 1,
+        _ => index,
+    };
+    let order: &[u32] = match () {
+        _ if fault("alter-index-before-page") => &[9, 7, 8],
+        _ if fault("alter-index-before-stray") => &[7, 9, 8],
+        _ if fault("alter-index-any") => &[7, 8],
+        _ if fault("alter-blank-before-stray") => &[7, BLANK, 8, 9],
+        _ if fault("alter-blank-before-index") => &[7, 8, BLANK, 9],
+        _ => &[7, 8, 9],
+    };
+    match order.iter().copied().find(met) {
+        Some(9) if fault("alter-block-as-2") && block >= p.m => 2,
+        Some(BLANK) => 13,
+        number => number.unwrap_or(0),
+    }
+}
+
+/// What is added to a page for bit r of block i.
+fn alteration(p: &Parameters, i: usize, r: usize) -> Vec<u8> {
+    let sheet = Sheet::of(p);
+    let mut blocks = vec![0; sheet.blocks_bytes()];
+    set(&mut blocks, sheet.block_start(i) + r);
+    let mut change = sheet.page_of_bit(i, r);
+    if fault("alter-level-0-only") {
+        level_0_only(p, &blocks, &mut change);
+    }
+    if fault("alter-as-if-higher") {
+        without_low_bits(p, &blocks, &mut change);
+    }
+    let mut clear = |k: usize| change[k * sheet.sub_word_bytes()..][..sheet.sub_word_bytes()].fill(0);
+    if fault("alter-own-check-bits") || fault("alter-none-below-under-v") && i < sheet.v {
+        (0..i).for_each(&mut clear);
+    }
+    if fault("alter-sub-word-0-left") && i > 0 {
+        clear(0);
+    }
+    if fault("alter-bit-alone") {
+        (0..sheet.m).for_each(clear);
+        set(&mut change, sheet.place(i, sheet.level(i).degree() + r));
+    }
+    if fault("alter-touches-above") && i + 1 < sheet.m {
+        flip(&mut change, sheet.place(i + 1, 0));
+    }
+    if fault("alter-touches-between") {
+        (sheet.v..i).for_each(|k| flip(&mut change, sheet.place(k, 0)));
+    }
+    change
+}
+
+/// The page that alter makes, where it tests for none but those numbers.
+fn altered(p: &Parameters, page: &[u8], i: usize, r: usize, value: bool) -> (bool, Vec<u8>) {
+    let sheet = Sheet::of(p);
+    let end = sheet.block_bits(i);
+    let r = match () {
+        _ if fault("alter-from-the-end") => end - 1 - r,
+        _ if fault("alter-byte-reversed") && (r ^ 7) < end => r ^ 7,
+        _ if fault("alter-bit-modulo-2-8") => r % (1 << 8),
+        _ => r,
+    };
+    let offset = match () {
+        _ if fault("alter-looks-without-offset") => 0,
+        _ if fault("alter-looks-by-level-0") => sheet.levels[0].degree(),
+        _ => sheet.level(i).degree(),
+    };
+    let is = bit(page, sheet.place(i, offset + r));
+    let differs = match () {
+        _ if fault("alter-value-not-compared") => true,
+        _ if fault("alter-value-inverted") => is == value,
+        _ if fault("alter-clears-only") => is && !value,
+        _ => is != value,
+    };
+    let mut made = page.to_vec();
+    let change = alteration(p, i, r);
+    if differs && fault("alter-or") {
+        made.iter_mut().zip(change).for_each(|(byte, change)| *byte |= change);
+    } else if differs {
+        add(&mut made, &change);
+    }
+    if fault("alter-written-afresh") || fault("alter-repairs-the-same") && !differs {
+        let mut blocks = vec![0; sheet.blocks_bytes()];
+        sheet.put_blocks(&sheet.words_of(&made), &mut blocks);
+        sheet.put_page(&sheet.encode(&sheet.words_of_blocks(&blocks)), &mut made);
+    }
+    if differs && fault("alter-one-strength") && p.t[p.v as usize] == 64 {
+        flip(&mut made, sheet.place(0, 0));
+    }
+    if differs && fault("alter-last-byte-left") {
+        let last = page.len() - 1;
+        made[last] = page[last];
+    }
+    (differs, made)
+}
+
+/// Whether alter takes a page that it would make for blank.
+fn alter_blank(sheet: &Sheet, i: usize, differs: bool, lent: &[u8], made: &[u8]) -> bool {
+    let ones = |k: usize| bit(made, sheet.place(i, k));
+    match () {
+        _ if fault("alter-13-never") => false,
+        _ if fault("alter-13-at-s-0") => sheet.s == 0 && sheet.blank(made),
+        _ if fault("alter-13-of-changes") => differs && sheet.blank(made),
+        _ if fault("alter-13-of-the-same") => !differs && sheet.blank(made),
+        _ if fault("alter-13-of-the-lent") => sheet.blank(lent),
+        _ if fault("alter-13-of-both") => sheet.blank(lent) || sheet.blank(made),
+        _ if fault("alter-13-by-sub-word") => (0..sheet.stored()).all(ones),
+        _ if fault("alter-13-by-data-bits") => {
+            let mut blocks = vec![0; sheet.blocks_bytes()];
+            sheet.put_blocks(&sheet.words_of(made), &mut blocks);
+            blocks == sheet.ones()
+        }
+        _ => sheet.blank(made),
+    }
+}
+
+fn alter(p: &Parameters, page: &mut [u8], block: u32, bit: u32, value: u32) -> u32 {
+    let block = if fault("alter-block-modulo-2-8") { block % (1 << 8) } else { block };
+    let bit = if fault("alter-bit-modulo-2-16") { bit % (1 << 16) } else { bit };
+    let value = match () {
+        _ if fault("alter-value-2-as-1") && value == 2 => 1,
+        _ if fault("alter-value-2-as-0") && value == 2 => 0,
+        _ if fault("alter-value-modulo-2-8") => value % (1 << 8),
+        _ => value,
+    };
+    let number = alter_refusal(p, page, block, bit, value);
+    if number != 0 {
+        if fault("alter-refusal-writes") && number == 9 {
+            page[0] ^= 1;
+        }
+        return leave(number, page);
+    }
+    let sheet = Sheet::of(p);
+    let (i, r) = (block as usize, bit as usize);
+    // Done, with nothing that could be altered.
+    if page.len() != sheet.page_bytes() || i >= sheet.m || r >= sheet.block_bits(i) || value > 1 {
+        return 0;
+    }
+    let verdict = calls::verdict(&sheet, page);
+    if fault("alter-members-only") && verdict != 0 {
+        return 9;
+    }
+    let (differs, made) = altered(p, page, i, r, value == 1);
+    if alter_blank(&sheet, i, differs, page, &made) {
+        if fault("alter-13-half-written") {
+            page.copy_from_slice(&made);
+        }
+        return if fault("alter-13-as-8") { 8 } else { leave(13, page) };
+    }
+    page.copy_from_slice(&made);
+    if fault("alter-overrun") {
+        unsafe { *black_box(page.as_mut_ptr()).add(page.len()) = 0 };
+    }
+    if fault("alter-answers-verdict") { verdict } else { 0 }
+}
+
 fn read_out(p: &Parameters, page: &[u8], blocks: &mut [u8]) -> u32 {
     let erased = sheet_of(p, page).filter(|sheet| sheet.blank(page));
     let cut = erased.as_ref().is_some_and(|sheet| blocks.len() != sheet.blocks_bytes());
@@ -650,6 +828,8 @@ exported! {
         list: *mut u8, list_len: usize)
         = write_many(width, count, from_raw_parts(blocks, blocks_len), from_raw_parts_mut(pages, pages_len),
             from_raw_parts_mut(list, list_len));
+    gii_alter(page: *mut u8, page_len: usize, block: u32, bit: u32, value: u32)
+        = alter(from_raw_parts_mut(page, page_len), block, bit, value);
     gii_read_out(page: *const u8, page_len: usize, blocks: *mut u8, blocks_len: usize)
         = read_out(from_raw_parts(page, page_len), from_raw_parts_mut(blocks, blocks_len));
     gii_judge(page: *const u8, page_len: usize)

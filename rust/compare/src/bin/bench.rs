@@ -6,13 +6,16 @@
 //! sample the mean of as many calls as fill about a millisecond; beside it stand the tenth and the ninetieth percentile.
 //! Samples of all rows take turns, so that a disturbance of the machine falls on all. Buffers are not cleared between
 //! calls, and the data are drawn once. The reference keeps its generators and tables between calls, the archive nothing.
-//! The time of a write of 16 pages is that of each: a sixteenth of the call's.
-//! Last, write on shortened sub-words in times of write on full ones, and 16 pages in one call in times of single calls; ends
-//! with status 1 where one is above its limit.
+//! The time of a write of 16 pages is that of each: a sixteenth of the call's. A bit is altered to and fro, so that each call
+//! changes the page.
+//! Last, write on shortened sub-words in times of write on full ones, 16 pages in one call in times of single calls, and an
+//! altered bit in times of a write; ends with status 1 where one is above its limit.
 
 use compare::call::{Call, Name};
 use compare::draw::many;
-use compare::work::{LIMIT, MANY_LIMIT, PAGES, WIDTHS, many_stated, stated};
+use compare::work::{
+    ALTER_LIMITS, LIMIT, MANY_LIMIT, PAGES, WIDTHS, alter_stated, alterations, altering, many_stated, stated, within,
+};
 use reference::Parameters;
 use reference::calls::QUOTE_BYTES;
 use reference::parameters::Sheet;
@@ -133,6 +136,10 @@ fn sheet_rows(random: &mut Random, p: Parameters) -> Vec<Row> {
         let (name, width) = match call.name {
             Name::Write => ("write", call.number.to_string()),
             Name::WriteMany => ("write of 16 pages (each)", call.number.to_string()),
+            Name::Alter => {
+                let named = |(_, block, bit): &(_, u32, u32)| (*block, *bit) == (call.number, call.bit);
+                (alterations(&p).into_iter().find(named).unwrap().0, String::new())
+            }
             Name::ReadOut => ("read out", String::new()),
             Name::Judge => ("judge", String::new()),
             Name::Syndromes => ("syndromes", String::new()),
@@ -142,17 +149,19 @@ fn sheet_rows(random: &mut Random, p: Parameters) -> Vec<Row> {
             Name::DataBytes => ("data bytes", String::new()),
             Name::Distance => ("distance", String::new()),
         };
-        let bytes = if call.name.reads() { sheet.page_bytes() } else { 0 };
+        let bytes = if call.name.has_page() { sheet.page_bytes() } else { 0 };
         let mut list = call.list.clone();
         let answer = call.by_reference(&call.read, &mut call.lent.clone(), &mut list);
         assert!(!call.name.refuses(answer), "{name} is refused by {answer}");
         assert!(list.iter().all(|&listed| listed == 0), "{name} lists {list:?}");
         let pages = if call.name == Name::WriteMany { PAGES } else { 1 };
         let timed = |made: fn(&Call, &[u8], &mut [u8], &mut [u8]) -> u32| {
-            let (call, mut lent, mut list) = (call.clone(), call.lent.clone(), call.list.clone());
+            let (mut call, mut lent, mut list) = (call.clone(), call.lent.clone(), call.list.clone());
             Timed::new(pages, move || {
                 let number = made(black_box(&call), black_box(&call.read), black_box(&mut lent), black_box(&mut list));
                 assert_eq!(number, answer);
+                // To and fro; of no meaning to any call but alter.
+                call.value ^= 1;
             })
         };
         let sides = vec![("archive", timed(Call::by_archive)), ("reference", timed(Call::by_reference))];
@@ -160,6 +169,7 @@ fn sheet_rows(random: &mut Random, p: Parameters) -> Vec<Row> {
     };
     let mut rows: Vec<Row> = WIDTHS.into_iter().map(|width| row(write(width))).collect();
     rows.extend(WIDTHS.into_iter().map(|width| row(Call { number: width, ..write_many.clone() })));
+    rows.extend(alterations(&p).map(|(_, block, bit)| row(altering(&p, &page, block, bit))));
     rows.push(row(read(Name::ReadOut, blocks.len())));
     rows.push(row(read(Name::Judge, 0)));
     rows.push(row(read(Name::Syndromes, 4 * p.t[0] as usize)));
@@ -252,9 +262,9 @@ fn main() {
         std::fs::write(&file, csv).expect("the file can be written");
     }
 
-    let ((line, most), (many_line, ratio)) = (stated(), many_stated());
-    println!("\n{line}.\n\n{many_line}.");
-    if most > LIMIT || ratio > MANY_LIMIT {
+    let ((line, ratios), (many_line, many), (alter_line, alter)) = (stated(), many_stated(), alter_stated());
+    println!("\n{line}.\n\n{many_line}.\n\n{alter_line}.");
+    if !(within(ratios, [LIMIT]) && within(many, [MANY_LIMIT]) && within(alter, ALTER_LIMITS)) {
         std::process::exit(1);
     }
 }

@@ -12,16 +12,18 @@ fn main() {
     let mut random = Random::new(seed);
     let mut answers = BTreeMap::new();
     let mut pages = BTreeMap::new();
+    let mut altered = 0;
     for count in 1..=calls {
         let call = draw::any(&mut random);
         match call.compare(random.from_to(0, 255)) {
-            Ok((number, _, list)) => {
+            Ok((number, lent, list)) => {
                 // Sizes are counted together.
                 let number = if call.name.is_size() { number.min(1) } else { number };
                 *answers.entry((call.name, number)).or_insert(0) += 1;
                 if call.name == Name::WriteMany && number == 0 {
                     list.iter().for_each(|listed| *pages.entry(*listed).or_insert(0) += 1);
                 }
+                altered += u64::from(call.name == Name::Alter && lent != call.lent);
             }
             Err(found) => {
                 println!("seed {seed}, call {count}: {found}");
@@ -44,6 +46,6 @@ fn main() {
         println!("{name:?}  {}", of_name.join(", "));
     }
     let listed: Vec<String> = pages.iter().map(|(listed, times)| format!("{listed}: {times}")).collect();
-    println!("of many pages listed  {}", listed.join(", "));
+    println!("of many pages listed  {}; pages altered  {altered}", listed.join(", "));
     println!("{calls} calls alike");
 }
