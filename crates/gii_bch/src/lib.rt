@@ -1,5 +1,5 @@
 // The C calls: the numbers of a sheet one by one, buffers as byte slices, the answer as a number. Each tests everything.
-ghost use Rattle.code.specs.Calls.{WrittenC, WrittenManyC, JudgedC, ReadOutC, SyndromesMadeC, NestedSyndromesMadeC, QuoteMadeC, SizeC};
+ghost use Rattle.code.specs.Calls.{AlteredC, WrittenC, WrittenManyC, JudgedC, ReadOutC, SyndromesMadeC, NestedSyndromesMadeC, QuoteMadeC, SizeC};
 ghost use Rattle.code.specs.Code.{distance};
 ghost use Rattle.code.specs.Layout.{dataBytes, pageBytes};
 ghost use Rattle.code.specs.Parameters.{sheet};
@@ -77,6 +77,38 @@ pub extern "C" fn gii_write_many(
         s,
     };
     let r = page::write_many(p, width, count, blocks, pages, list);
+    outcome_number(r)
+}
+
+// Bit `bit` of block `block` made `value` in the page.
+#[no_mangle]
+pub extern "C" fn gii_alter(
+    q: u32,
+    m: u32,
+    v: u32,
+    t0: u32,
+    t1: u32,
+    t2: u32,
+    t3: u32,
+    s: u32,
+    page: &mut [u8],
+    block: u32,
+    bit: u32,
+    value: u32,
+) -> u32
+    ensures { λ r. ⌜ AlteredC (sheet q m v t0 t1 t2 t3 s) (now (page .entry)) block bit value (now (page .exit)) r ⌝ }
+{
+    let p = Parameters {
+        q,
+        m,
+        v,
+        t0,
+        t1,
+        t2,
+        t3,
+        s,
+    };
+    let r = alter::alter(p, page, block, bit, value);
     outcome_number(r)
 }
 
