@@ -8,9 +8,8 @@ use mathlib.Core.List.{List}
 use Prim.Native.Nat.{ℕ, _+_, _*_, _%_, _^_, _<_}
 use native.Mathlib.Nat as Nat
 use lib.ListN.{length, getD}
-use Rattle.polynomial.specs.Digits.{digits, digits-value, digits-xor, value}
+use Rattle.polynomial.specs.Digits.{digits, digits-value, value}
 use Rattle.polynomial.specs.Sums.{add, at-all}
-use Rattle.polynomial.specs.Xor.{xor, xor-comm}
 use Rattle.kernels.specs.Value.{value-lt}
 use Rattle.code.specs.declared.Outcome.{Outcome}
 use Rattle.code.specs.declared.Parameters.{Parameters}
@@ -38,23 +37,16 @@ same-bytes x y b c e f =
     sym (digits-value 8 x (at-all (λ d. d < 2 ^ 8) x (λ i h. b i))) ∙ ap₂ (digits 8) e f
     ∙ digits-value 8 y (at-all (λ d. d < 2 ^ 8) y (λ i h. c i))
 
--- u with x added is the sum of both
-pub summed : (x u y : List ℕ) → Bounded8 x → Bounded8 u → Bounded8 y → length u ≡ length x → length y ≡ length u
-    → value 8 y ≡ xor (value 8 u) (value 8 x * 2 ^ 0 % 2 ^ (8 * length u)) → y ≡ add x u
-summed x u y a b c e f v =
-    sym (digits-value 8 y (at-all (λ d. d < 2 ^ 8) y (λ i h. c i)))
-    ∙ ap₂ (digits 8) (f ∙ e) (v ∙ ap (xor (value 8 u)) (ap (λ (d : ℕ). d % 2 ^ (8 * length u)) (Nat.mul-one (value 8 x))
-    ∙ Nat.mod-eq-of-lt (rw e (value-lt 8 x a))) ∙ xor-comm (value 8 u) (value 8 x))
-    ∙ digits-xor 8 (length x) (value 8 x) (value 8 u)
-    ∙ ap₂ add (digits-value 8 x (at-all (λ d. d < 2 ^ 8) x (λ i h. a i)))
-    (ap (λ (k : ℕ). digits 8 k (value 8 u)) (sym e) ∙ digits-value 8 u (at-all (λ d. d < 2 ^ 8) u (λ i h. b i)))
+-- a number that is not moved up, and not cut
+pub no-shift : (v n : ℕ) → v < 2 ^ n → v * 2 ^ 0 % 2 ^ n ≡ v
+no-shift v n h = ap (λ (d : ℕ). d % 2 ^ n) (Nat.mul-one v) ∙ Nat.mod-eq-of-lt h
 
--- the sum copied
+-- bytes copied
 pub copied : (y z : List ℕ) (n : ℕ) → Bounded8 y → Bounded8 z → length z ≡ length y → n ≡ length y
     → value 8 z ≡ value 8 y * 2 ^ 0 % 2 ^ (8 * n) → z ≡ y
 copied y z n b c e l v =
     same-bytes z y c b e
-    (v ∙ ap (λ (d : ℕ). d % 2 ^ (8 * n)) (Nat.mul-one (value 8 y)) ∙ Nat.mod-eq-of-lt (rw l (value-lt 8 y b)))
+    (v ∙ no-shift (value 8 y) (8 * n) (rw l (value-lt 8 y b)))
 
 pub added-blank : (p : Parameters) (x u y : List ℕ) → y ≡ add x u → true ≡ blank p y → Added p x u x (Outcome.Refused 13)
 added-blank p x u y e b =

@@ -1,52 +1,46 @@
-// One bit altered in a stored page. The page of that single bit is made in a room of its own, of the sub-words that it has bits in alone:
-// its own, and those below both it and v. It is added to the lent page there, so that 13 is known before a byte of that page changes.
+// One bit altered in a stored page. Of the page of that single bit only the sub-words that it has bits in are worked out: its own, and those
+// below both it and v; and all but the bit itself in sub-words as short as the sheet's rules allow. The sum with the lent page is formed
+// in a room of its own, so that 13 is known before a byte of that page changes.
 ghost use mathlib.Core.Path.{_≡_};
-ghost use Prim.Native.Nat.{_+_, _*_, _^_, _<_, min};
-ghost use lib.ListN.{length, replicate};
+ghost use Prim.Native.Nat.{_+_, _*_, _/_, _^_, _≤_, _<_, min};
+ghost use lib.Dec.{T};
+ghost use lib.ListN.{length, getD, replicate};
 ghost use Rattle.polynomial.specs.Digits.{value};
-ghost use Rattle.polynomial.specs.Sums.{add};
-ghost use Rattle.code.specs.Calls.{Altered, generators};
+ghost use Rattle.polynomial.specs.Xor.{xor};
 ghost use Rattle.code.specs.Alter.{Alterable};
-ghost use Rattle.code.specs.Layout.{blank, coefficientOf, dataBits, oneBit, pageBytes, pageOf};
-ghost use Rattle.code.specs.Parameters.{Accepted, subWordBytes};
+ghost use Rattle.code.specs.Calls.{Altered, generators};
+ghost use Rattle.code.specs.Code.{remainder};
+ghost use Rattle.code.specs.Layout.{blank, coefficientOf, dataBits, oneBit, oneBlock, pageBytes, pageClear, pageOf, wordsOf};
+ghost use Rattle.code.specs.Parameters.{Accepted, stored, subWordBytes};
 ghost use Rattle.layout.specs.Sizes.{Degrees};
 ghost use Rattle.encode.specs.Carried.{roomBytes};
 ghost use Rattle.encode.specs.Encoding.{wordAlone, wordFrom, written};
+ghost use Rattle.alter.specs.Short.{shortest};
+ghost use Rattle.alter.specs.Spread.{Adding, Spread};
 ghost use Rattle.alter.specs.Sum.{Added, unlessBlank};
 ghost use Rattle.alter.specs.Unit.{Making};
 use code::Outcome;
 use code::Parameters;
 
-// ---- the page of a single bit
+// ---- the page of one block alone
 
-// Bit r is set in s, which is 0.
-fn set_bit(s: &mut [u8], r: usize)
-    requires { ⌜ (value 8 (now s) ≡ 0) × (r < 8 * length (now s)) ⌝ }
-    ensures { λ x. ⌜ value 8 (now (s .exit)) ≡ 2 ^ r ⌝ }
-{
-    let v: u64 = 1 << (r % 8);
-    kernels::bytes::add_bytes(s, r / 8, v);
-}
-
-// Sub-word i, of bit r of block i alone, over its own check bits. The table of its level is made in t, and s, which is 0, holds the data.
+// Sub-word i, of the data d alone, over their own check bits. The table of its level is made in t.
 fn own_word(
     p: Parameters,
     rows: [[u64; 13]; 4],
     w: &[u32],
     unit: &mut [u8],
     i: usize,
-    r: usize,
+    d: &[u8],
     t: &mut [u64],
-    s: &mut [u8],
 )
-    requires { ⌜ Making p rows (now w) (now unit) (now t) (now s) × (i < p .m) × (r < dataBits p i) × (value 8 (now s) ≡ 0) ⌝ }
-    ensures { λ x. ⌜ now (unit .exit) ≡ written p (now (unit .entry)) i (wordAlone p (2 ^ r) i) ⌝ }
+    requires { ⌜ Making p rows (now w) (now unit) (now t) × (i < p .m) × (value 8 (now d) < 2 ^ dataBits p i) ⌝ }
+    ensures { λ x. ⌜ now (unit .exit) ≡ written p (now (unit .entry)) i (wordAlone p (value 8 (now (d .entry))) i) ⌝ }
 {
-    set_bit(s, r);
     let a = layout::level_of(p, i);
     let bits = layout::check_bits(p, w, i);
     levels::prepare(t, p, rows, a, bits);
-    encode::write_alone(p, w, s, unit, i, 64, t);
+    encode::write_alone(p, w, d, unit, i, 64, t);
 }
 
 // Sub-word j, before the last ones, without data: the check bits that the later sub-words ask for.
@@ -59,13 +53,13 @@ fn carried_word(
     t: &mut [u64],
     acc: &mut [u8],
 )
-    requires { ⌜ Making p rows (now w) (now unit) (now t) (now acc) × (j < p .v) ⌝ }
+    requires { ⌜ Making p rows (now w) (now unit) (now t) × (j < p .v) × (length (now acc) ≡ roomBytes p) ⌝ }
     ensures { λ x. ⌜ now (unit .exit) ≡ written p (now (unit .entry)) j (wordFrom p 0 (now (unit .entry)) j) ⌝ }
 {
     let a = layout::level_of(p, j);
     let bits = layout::check_bits(p, w, j);
     levels::prepare(t, p, rows, a, bits);
-    let none = [0u8; 1];
+    let none = [0u8; 104];
     encode::write_early(p, w, &none, unit, j, 64, t, acc);
 }
 
@@ -79,23 +73,135 @@ fn lesser(a: usize, b: usize) -> usize
     b
 }
 
-// The page of bit r of block i, made in the zero page: sub-word i, and from there down those below both i and v.
-fn bit_page(p: Parameters, rows: [[u64; 13]; 4], w: &[u32], unit: &mut [u8], i: usize, r: usize)
+// The page of the data d in block i and 0 elsewhere, made in the zero page: sub-word i, and from there down those below both i and v.
+fn block_page(p: Parameters, rows: [[u64; 13]; 4], w: &[u32], unit: &mut [u8], i: usize, d: &[u8])
     requires { ⌜ Accepted p × (rows ≡ generators p) × Degrees p (now w) × (now unit ≡ replicate (pageBytes p) 0)
-        × (i < p .m) × (r < dataBits p i) ⌝ }
-    ensures { λ x. ⌜ now (unit .exit) ≡ pageOf p (oneBit p i r) ⌝ }
+        × (i < p .m) × (value 8 (now d) < 2 ^ dataBits p i) ⌝ }
+    ensures { λ x. ⌜ now (unit .exit) ≡ pageOf p (oneBlock p i (value 8 (now (d .entry)))) ⌝ }
 {
     let mut table = [0u64; 3073];
     let mut room = [0u8; 520];
     let n = encode::room_bytes(p);
     let t = &mut table[..3072];
     let acc = &mut room[..n];
-    own_word(p, rows, w, unit, i, r, t, acc);
+    own_word(p, rows, w, unit, i, d, t);
     let mut j = lesser(i, p.v as usize);
     while 0 < j {
         j -= 1;
         carried_word(p, rows, w, unit, j, t, acc);
     }
+}
+
+// ---- the page of a single bit: x^e and its remainder y by g_v, and the page of y's data
+
+// x^e is added.
+fn add_power(s: &mut [u8], e: usize)
+    requires { ⌜ e < 8 * length (now s) ⌝ }
+    ensures { λ x. ⌜ value 8 (now (s .exit)) ≡ xor (value 8 (now (s .entry))) (2 ^ e) ⌝ }
+{
+    let v: u64 = 1 << (e % 8);
+    kernels::bytes::add_bytes(s, e / 8, v);
+}
+
+// The remainder of x^e by g_v, in y, which is 0.
+fn power_below(y: &mut [u8], p: Parameters, rows: [[u64; 13]; 4], w: &[u32], e: usize)
+    requires { ⌜ Accepted p × (rows ≡ generators p) × Degrees p (now w) × (value 8 (now y) ≡ 0) × (length (now y) ≡ 96) × (e < stored p) ⌝ }
+    ensures { λ x. ⌜ value 8 (now (y .exit)) ≡ remainder p (p .v) (2 ^ e) ⌝ }
+{
+    let mut table = [0u64; 3073];
+    let mut s = [0u8; 512];
+    let t = &mut table[..3072];
+    let v = p.v as usize;
+    let bits = layout::check_bits(p, w, 0);
+    levels::prepare(t, p, rows, v, bits);
+    add_power(&mut s, e);
+    let mut r = [0u64; 13];
+    encode::check_of(&mut r, t, &s, p, v, bits, 64);
+    kernels::bytes::store_low(y, &r, bits);
+}
+
+// The sheet with the shortest sub-words.
+fn shortest_of(p: Parameters, w: &[u32]) -> Parameters
+    requires { ⌜ Accepted p × Degrees p (now w) ⌝ }
+    ensures { λ r. ⌜ r ≡ shortest p ⌝ }
+{
+    let n = layout::length_of(p);
+    let bits = layout::check_bits(p, w, 0);
+    let s = n - bits - 1;
+    Parameters {
+        q: p.q,
+        m: p.m,
+        v: p.v,
+        t0: p.t0,
+        t1: p.t1,
+        t2: p.t2,
+        t3: p.t3,
+        s: s as u32,
+    }
+}
+
+// The page of y's data in block i, made in the zero page of the shortest sheet q, `bits` being the check bits of sub-word i.
+fn short_page(q: Parameters, short: &mut [u8], y: &[u8], i: usize, bits: usize)
+    requires { ⌜ Accepted q × (now short ≡ replicate (pageBytes q) 0) × (i < q .m) × (bits < 8192)
+        × (value 8 (now y) < 2 ^ 768) × (value 8 (now y) / 2 ^ bits < 2 ^ dataBits q i) ⌝ }
+    ensures { λ x. ⌜ now (short .exit) ≡ pageOf q (oneBlock q i (value 8 (now (y .entry)) / 2 ^ bits)) ⌝ }
+{
+    let rows = levels::rows(q);
+    let w = levels::degrees(q, rows);
+    let mut d = [0u8; 96];
+    kernels::bytes::copy_down(&mut d, y, bits);
+    block_page(q, rows, &w, short, i, &d);
+}
+
+// ---- sums
+
+// Sub-word k of a page of the sheet q is added to that of a page of p, which is no shorter.
+fn add_word(p: Parameters, sum: &mut [u8], q: Parameters, short: &[u8], k: usize)
+    requires { ⌜ Accepted p × (length (now sum) ≡ pageBytes p) × Accepted q × (length (now short) ≡ pageBytes q)
+        × (q .m ≡ p .m) × (subWordBytes q ≤ subWordBytes p) × (k < p .m) ⌝ }
+    ensures { λ x. ⌜ now (sum .exit) ≡ written p (now (sum .entry)) k
+        (xor (getD (wordsOf p (now (sum .entry))) k 0) (getD (wordsOf q (now (short .entry))) k 0)) ⌝ }
+{
+    let b = layout::sub_word_bytes(p);
+    let x = layout::sub_word(q, short, k);
+    let at = k * b;
+    let end = at + b;
+    kernels::bytes::add_up(&mut sum[at..end], x, 0);
+}
+
+// All of them.
+fn add_words(p: Parameters, sum: &mut [u8], q: Parameters, short: &[u8])
+    requires { ⌜ Accepted p × (length (now sum) ≡ pageBytes p) × Accepted q × (length (now short) ≡ pageBytes q)
+        × (q .m ≡ p .m) × (subWordBytes q ≤ subWordBytes p) ⌝ }
+    ensures { λ x. ⌜ Spread p (now (sum .entry)) (wordsOf q (now (short .entry))) (p .m) (now (sum .exit)) ⌝ }
+{
+    let m = p.m as usize;
+    let mut k: usize = 0;
+    while k < m {
+        add_word(p, sum, q, short, k);
+        k += 1;
+    }
+}
+
+// x^e and y are added to a sub-word.
+fn add_both(part: &mut [u8], y: &[u8], e: usize)
+    requires { ⌜ (e < 8 * length (now part)) × (length (now part) < 1000) × (value 8 (now y) < 2 ^ (8 * length (now part))) ⌝ }
+    ensures { λ x. ⌜ value 8 (now (part .exit)) ≡ xor (xor (value 8 (now (part .entry))) (value 8 (now (y .entry)))) (2 ^ e) ⌝ }
+{
+    kernels::bytes::add_up(part, y, 0);
+    add_power(part, e);
+}
+
+// The same in sub-word i of the page.
+fn add_at(p: Parameters, sum: &mut [u8], i: usize, y: &[u8], e: usize)
+    requires { ⌜ Accepted p × (length (now sum) ≡ pageBytes p) × (i < p .m) × (e < stored p) × (value 8 (now y) < 2 ^ stored p) ⌝ }
+    ensures { λ x. ⌜ now (sum .exit) ≡ written p (now (sum .entry)) i
+        (xor (xor (getD (wordsOf p (now (sum .entry))) i 0) (value 8 (now (y .entry)))) (2 ^ e)) ⌝ }
+{
+    let b = layout::sub_word_bytes(p);
+    let at = i * b;
+    let end = at + b;
+    add_both(&mut sum[at..end], y, e);
 }
 
 // ---- the lent page
@@ -121,7 +227,35 @@ fn keep(p: Parameters, page: &[u8]) -> Outcome
     Outcome::Done
 }
 
-// The page of bit r of block i is added to the page, unless the sum is blank: then 13, and the page is left as it is.
+// The page of bit r of block i is added to the page, unless the sum is blank: then 13, and the page is left as it is. e is the bit's place, y
+// the remainder of x^e by g_v, and short the page of y's data in block i, of the shortest sheet q.
+fn add_short(
+    p: Parameters,
+    page: &mut [u8],
+    i: usize,
+    r: usize,
+    e: usize,
+    y: &[u8],
+    q: Parameters,
+    short: &[u8],
+) -> Outcome
+    requires { ⌜ Adding p i r e (now page) (now y) q (now short) ⌝ }
+    ensures { λ o. ⌜ Added p (now (page .entry)) (pageOf p (oneBit p i r)) (now (page .exit)) o ⌝ }
+{
+    let mut room = [0u8; 4096];
+    let n = page.len();
+    let sum = &mut room[..n];
+    kernels::bytes::copy_up(sum, page, 0);
+    add_at(p, sum, i, y, e);
+    add_words(p, sum, q, short);
+    if layout::page_blank(p, sum) {
+        return Outcome::Refused(13);
+    }
+    kernels::bytes::copy_up(page, sum, 0);
+    Outcome::Done
+}
+
+// The same with all that it needs worked out first, so that no table is kept while the sum is formed.
 fn add_bit(
     p: Parameters,
     rows: [[u64; 13]; 4],
@@ -130,20 +264,20 @@ fn add_bit(
     i: usize,
     r: usize,
 ) -> Outcome
-    requires { ⌜ Accepted p × (rows ≡ generators p) × Degrees p (now w) × (length (now page) ≡ pageBytes p) × (i < p .m)
-        × (r < dataBits p i) ⌝ }
+    requires { ⌜ Accepted p × (rows ≡ generators p) × Degrees p (now w) × (length (now page) ≡ pageBytes p) × T (pageClear p (now page))
+        × (i < p .m) × (r < dataBits p i) ⌝ }
     ensures { λ o. ⌜ Added p (now (page .entry)) (pageOf p (oneBit p i r)) (now (page .exit)) o ⌝ }
 {
-    let mut room = [0u8; 4096];
-    let n = page.len();
-    let sum = &mut room[..n];
-    bit_page(p, rows, w, sum, i, r);
-    kernels::bytes::add_up(sum, page, 0);
-    if layout::page_blank(p, sum) {
-        return Outcome::Refused(13);
-    }
-    kernels::bytes::copy_up(page, sum, 0);
-    Outcome::Done
+    let bits = layout::check_bits(p, w, i);
+    let e = bits + r;
+    let mut y = [0u8; 96];
+    power_below(&mut y, p, rows, w, e);
+    let q = shortest_of(p, w);
+    let mut room = [0u8; 776];
+    let n = layout::page_bytes(q);
+    let short = &mut room[..n];
+    short_page(q, short, &y, i, bits);
+    add_short(p, page, i, r, e, &y, q, short)
 }
 
 // Bit r of block i made b, in a page that is lent as it must be.

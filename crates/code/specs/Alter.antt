@@ -1,5 +1,5 @@
 -- One bit altered: the page of a single bit, and what adding it changes.
---   units p i r           the words of the page of bit r of block i
+--   alone p i d           the words of the page of the data d in block i and 0 elsewhere; units p i r those of bit r of block i
 --   concerned p i j       sub-word j is concerned by a bit of block i: it is i, or it is below both i and v
 --   alteredBlocks p a i r b    the blocks a with bit r of block i made b
 --   Alterable p x i r b   what alter does not refuse, but for 13
@@ -31,7 +31,7 @@ use Rattle.code.specs.Code.{carried, checkBits, checked, degree, distanc
 use Rattle.code.specs.Distance.{Passing, nonzeros, pageWeight, weight-member}
 use Rattle.code.specs.Encode.{encode-member}
 use Rattle.code.specs.Layout.{Bytes, Fits, IsPage, altered, bitFrom, blank, blockBit, blockOffset, blockSizes, blocksOf}
-use Rattle.code.specs.Layout.{coefficientOf, dataBits, oneBit, pageBytes, pageClear, pageOf, single, wordsOf}
+use Rattle.code.specs.Layout.{coefficientOf, dataBits, oneBit, oneBlock, pageBytes, pageClear, pageOf, single, wordsOf}
 use Rattle.code.specs.Lists.{_orElse_, _when_, addBelow, join, lastRefusal}
 use Rattle.code.specs.Pages.{IsWords, page-has, page-is, page-words, sum-fits, sum-is-page, sum-page, sum-words, words-many}
 use Rattle.code.specs.Parameters.{Accepted, len, sheetRefusal, stored, subWordBytes}
@@ -47,7 +47,7 @@ concerned p i j = eqb j i || (ltb j i && ltb j (p .v))
 
 -- the blocks with that bit altered
 unfoldable pub alteredBlocks : Parameters → List ℕ → ℕ → ℕ → ℕ → List ℕ
-unfolding oneBit
+unfolding oneBlock
 alteredBlocks p a i r b = cond (eqb (blockBit p a i r) b) a (add a (oneBit p i r))
 
 -- ---- tests of equality
@@ -163,11 +163,86 @@ add-cancel [] ds e = refl
 add-cancel (c ∷ cs) [] e = absurd (Nat.suc-ne-zero (length cs) e)
 add-cancel (c ∷ cs) (d ∷ ds) e = ap₂ _∷_ (xor-cancel c d) (add-cancel cs ds (Nat.suc-inj e))
 
--- ---- the page of a single bit
-pub oneBit-eq : (p : Parameters) (i r : ℕ) → oneBit p i r ≡ join (blockSizes p) (single p i (2 ^ r))
-unfolding oneBit
-oneBit-eq p i r = refl
+-- ---- the page of a single block
+pub oneBlock-eq : (p : Parameters) (i d : ℕ) → oneBlock p i d ≡ join (blockSizes p) (single p i d)
+unfolding oneBlock
+oneBlock-eq p i d = refl
 
+-- the words of that page
+abbrev pub alone : Parameters → ℕ → ℕ → List ℕ
+alone p i d = encode p (single p i d)
+
+module _ (p : Parameters) (R : Rules p) (i d : ℕ) (li : i < p .m) (ld : d < 2 ^ dataBits p i) where
+  small : (j : ℕ) → j < p .m → getD (single p i d) j 0 < 2 ^ dataBits p j
+  small = single-each p i d li (λ j x. x < 2 ^ dataBits p j) (λ j. pow-pos (dataBits p j)) ld
+
+  pub block-fits : Fits p (oneBlock p i d)
+  block-fits = rw (oneBlock-eq p i d) (any-fit p R (single p i d) (single-long p i d) small)
+
+  pub block-has : blocksOf p (oneBlock p i d) ≡ single p i d
+  block-has = ap (blocksOf p) (oneBlock-eq p i d) ∙ any-has p R (single p i d) (single-long p i d) small
+
+  pub alone-words : wordsOf p (pageOf p (oneBlock p i d)) ≡ alone p i d
+  alone-words = page-has p R (oneBlock p i d) block-fits ∙ ap (encode p) block-has
+
+  pub alone-page : IsPage p (pageOf p (oneBlock p i d))
+  alone-page = page-is p R (oneBlock p i d) block-fits
+
+  pub alone-are : IsWords p (alone p i d)
+  alone-are = rw alone-words at (page-words p R (pageOf p (oneBlock p i d)) alone-page)
+
+  alone-word : (j : ℕ) → j < p .m → getD (alone p i d) j 0
+      ≡ checked p (level p j) (getD (single p i d) j 0 * 2 ^ checkBits p j) (carried (level p j) j (drop (suc j) (alone p i d)))
+  unfolding encode
+  alone-word j h =
+      encode-at p 0 j (single p i d) (rw (single-long p i d) h)
+      ∙ ap (λ (k : ℕ). checked p (level p k) (getD (single p i d) j 0 * 2 ^ checkBits p k)
+      (carried (level p k) k (drop (suc j) (encodeFrom p 0 (single p i d))))) (Nat.zero-add j)
+
+  -- the words after j, where j is not below i
+  later-none : (j : ℕ) → i ≤ j → All (λ c. c ≡ 0) (drop (suc j) (alone p i d))
+  unfolding encode
+  later-none j h =
+      later-zeros p 0 j (single p i d)
+      (λ k b c. single-else p i d k (rw (single-long p i d) at c) (λ e. Nat.lt-irrefl j (omega arith)))
+
+  -- sub-words other than i and those below both i and v are zero
+  pub alone-zero : (j : ℕ) → j < p .m → j ≢ i → (i < j) ⊎ (p .v ≤ j) → getD (alone p i d) j 0 ≡ 0
+  alone-zero j h n m =
+      alone-word j h
+      ∙ ap₂ (checked p (level p j)) (ap (λ (x : ℕ). x * 2 ^ checkBits p j) (single-else p i d j h n) ∙ Nat.zero-mul (2 ^ checkBits p j)) (nothing m)
+      ∙ checked-zero p (level p j)
+    where
+      at-zero : (a : ℕ) → a ≡ 0 → carried a j (drop (suc j) (alone p i d)) ≡ 0
+      at-zero a e = rw e (carried-zero j (drop (suc j) (alone p i d)))
+
+      nothing : (i < j) ⊎ (p .v ≤ j) → carried (level p j) j (drop (suc j) (alone p i d)) ≡ 0
+      nothing (inl l) = carried-zeros (level p j) j (drop (suc j) (alone p i d)) (later-none j (Nat.le-of-suc-le l))
+      nothing (inr l) = at-zero (level p j) (omega arith)
+
+  pub check-lt : (j f : ℕ) → remainder p (level p j) f < 2 ^ checkBits p j
+  check-lt j f = rem-lt (gen p (level p j)) (degree p (level p j)) (lawful p R .degrees (level p j) (Nat.sub-le (p .v) j)) f
+
+  -- the others but i hold check bits alone
+  alone-check : (j : ℕ) → j < p .m → j ≢ i → getD (alone p i d) j 0 < 2 ^ checkBits p j
+  alone-check j h n =
+      rw (
+        alone-word j h,
+        single-else p i d j h n,
+        Nat.zero-mul (2 ^ checkBits p j),
+        checked-eq p (level p j) 0 (carried (level p j) j (drop (suc j) (alone p i d))),
+        xor-zero-l,
+      )
+      (check-lt j _)
+
+  -- and i its data and their own check bits: nothing is carried
+  pub alone-own : getD (alone p i d) i 0 ≡ checked p (level p i) (d * 2 ^ checkBits p i) 0
+  alone-own =
+      alone-word i li
+      ∙ ap₂ (λ (x f : ℕ). checked p (level p i) (x * 2 ^ checkBits p i) f) (single-at p i d li)
+      (carried-zeros (level p i) i (drop (suc i) (alone p i d)) (later-none i (Nat.le-refl i)))
+
+-- ---- the page of a single bit
 pub altered-eq : (p : Parameters) (x : List ℕ) (i r b : ℕ)
     → altered p x i r b ≡ cond (eqb (coefficientOf p x i (checkBits p i + r)) b) x (add x (pageOf p (oneBit p i r)))
 unfolding altered
@@ -178,89 +253,34 @@ alteredBlocks-eq : (p : Parameters) (a : List ℕ) (i r b : ℕ)
 unfolding alteredBlocks
 alteredBlocks-eq p a i r b = refl
 
--- the words of that page
 abbrev pub units : Parameters → ℕ → ℕ → List ℕ
-units p i r = encode p (single p i (2 ^ r))
+units p i r = alone p i (2 ^ r)
 
 module _ (p : Parameters) (R : Rules p) (i r : ℕ) (li : i < p .m) (lr : r < dataBits p i) where
-  small : (j : ℕ) → j < p .m → getD (single p i (2 ^ r)) j 0 < 2 ^ dataBits p j
-  small = single-each p i (2 ^ r) li (λ j x. x < 2 ^ dataBits p j) (λ j. pow-pos (dataBits p j)) (pow-lt lr)
-
   pub bit-fits : Fits p (oneBit p i r)
-  bit-fits = rw (oneBit-eq p i r) (any-fit p R (single p i (2 ^ r)) (single-long p i (2 ^ r)) small)
+  bit-fits = block-fits p R i (2 ^ r) li (pow-lt lr)
 
   pub bit-has : blocksOf p (oneBit p i r) ≡ single p i (2 ^ r)
-  bit-has = ap (blocksOf p) (oneBit-eq p i r) ∙ any-has p R (single p i (2 ^ r)) (single-long p i (2 ^ r)) small
+  bit-has = block-has p R i (2 ^ r) li (pow-lt lr)
 
   pub unit-words : wordsOf p (pageOf p (oneBit p i r)) ≡ units p i r
-  unit-words = page-has p R (oneBit p i r) bit-fits ∙ ap (encode p) bit-has
+  unit-words = alone-words p R i (2 ^ r) li (pow-lt lr)
 
   pub unit-page : IsPage p (pageOf p (oneBit p i r))
-  unit-page = page-is p R (oneBit p i r) bit-fits
+  unit-page = alone-page p R i (2 ^ r) li (pow-lt lr)
 
   pub units-are : IsWords p (units p i r)
-  units-are = rw unit-words at (page-words p R (pageOf p (oneBit p i r)) unit-page)
-
-  unit-word : (j : ℕ) → j < p .m → getD (units p i r) j 0
-      ≡ checked p (level p j) (getD (single p i (2 ^ r)) j 0 * 2 ^ checkBits p j) (carried (level p j) j (drop (suc j) (units p i r)))
-  unfolding encode
-  unit-word j h =
-      encode-at p 0 j (single p i (2 ^ r)) (rw (single-long p i (2 ^ r)) h)
-      ∙ ap (λ (k : ℕ). checked p (level p k) (getD (single p i (2 ^ r)) j 0 * 2 ^ checkBits p k)
-      (carried (level p k) k (drop (suc j) (encodeFrom p 0 (single p i (2 ^ r)))))) (Nat.zero-add j)
-
-  -- the words after j, where j is not below i
-  pub later-none : (j : ℕ) → i ≤ j → All (λ c. c ≡ 0) (drop (suc j) (units p i r))
-  unfolding encode
-  later-none j h =
-      later-zeros p 0 j (single p i (2 ^ r))
-      (λ k b c. single-else p i (2 ^ r) k (rw (single-long p i (2 ^ r)) at c) (λ e. Nat.lt-irrefl j (omega arith)))
-
-  -- sub-words other than i and those below both i and v are zero
-  pub unit-zero : (j : ℕ) → j < p .m → j ≢ i → (i < j) ⊎ (p .v ≤ j) → getD (units p i r) j 0 ≡ 0
-  unit-zero j h n m =
-      unit-word j h
-      ∙ ap₂ (checked p (level p j)) (ap (λ (d : ℕ). d * 2 ^ checkBits p j) (single-else p i (2 ^ r) j h n) ∙ Nat.zero-mul (2 ^ checkBits p j)) (nothing m)
-      ∙ checked-zero p (level p j)
-    where
-      at-zero : (a : ℕ) → a ≡ 0 → carried a j (drop (suc j) (units p i r)) ≡ 0
-      at-zero a e = rw e (carried-zero j (drop (suc j) (units p i r)))
-
-      nothing : (i < j) ⊎ (p .v ≤ j) → carried (level p j) j (drop (suc j) (units p i r)) ≡ 0
-      nothing (inl l) = carried-zeros (level p j) j (drop (suc j) (units p i r)) (later-none j (Nat.le-of-suc-le l))
-      nothing (inr l) = at-zero (level p j) (omega arith)
-
-  check-lt : (j f : ℕ) → remainder p (level p j) f < 2 ^ checkBits p j
-  check-lt j f = rem-lt (gen p (level p j)) (degree p (level p j)) (lawful p R .degrees (level p j) (Nat.sub-le (p .v) j)) f
-
-  -- the others but i hold check bits alone
-  unit-check : (j : ℕ) → j < p .m → j ≢ i → getD (units p i r) j 0 < 2 ^ checkBits p j
-  unit-check j h n =
-      rw (
-        unit-word j h,
-        single-else p i (2 ^ r) j h n,
-        Nat.zero-mul (2 ^ checkBits p j),
-        checked-eq p (level p j) 0 (carried (level p j) j (drop (suc j) (units p i r))),
-        xor-zero-l,
-      )
-      (check-lt j _)
-
-  -- and i that bit and its own check bits: nothing is carried
-  pub unit-own : getD (units p i r) i 0 ≡ checked p (level p i) (2 ^ r * 2 ^ checkBits p i) 0
-  unit-own =
-      unit-word i li
-      ∙ ap₂ (λ (d f : ℕ). checked p (level p i) (d * 2 ^ checkBits p i) f) (single-at p i (2 ^ r) li)
-      (carried-zeros (level p i) i (drop (suc i) (units p i r)) (later-none i (Nat.le-refl i)))
+  units-are = alone-are p R i (2 ^ r) li (pow-lt lr)
 
   abbrev own : ℕ
   own = remainder p (level p i) (xor (2 ^ r * 2 ^ checkBits p i) 0)
 
   unit-self : getD (units p i r) i 0 ≡ xor (2 ^ r * 2 ^ checkBits p i) own
-  unit-self = unit-own ∙ checked-eq p (level p i) (2 ^ r * 2 ^ checkBits p i) 0
+  unit-self = alone-own p R i (2 ^ r) li (pow-lt lr) ∙ checked-eq p (level p i) (2 ^ r * 2 ^ checkBits p i) 0
 
   self-pos : 0 < getD (units p i r) i 0
   self-pos =
-      rw (unit-self ∙ sym (xor-is (2 ^ r * 2 ^ checkBits p i) own) ∙ xor-shifted (2 ^ r) (checkBits p i) own (check-lt i _))
+      rw (unit-self ∙ sym (xor-is (2 ^ r * 2 ^ checkBits p i) own) ∙ xor-shifted (2 ^ r) (checkBits p i) own (check-lt p R i (2 ^ r) li (pow-lt lr) i _))
       (Nat.lt-of-lt-of-le (Nat.mul-pos (pow-pos r) (pow-pos (checkBits p i))) (Nat.le-add-right (2 ^ r * 2 ^ checkBits p i) own))
 
   -- ---- the page of the blocks altered
@@ -308,7 +328,7 @@ module _ (p : Parameters) (R : Rules p) (i r : ℕ) (li : i < p .m) (lr : r < da
         → take (subWordBytes p) (drop (j * subWordBytes p) after) ≡ take (subWordBytes p) (drop (j * subWordBytes p) x)
     bytes-stay j l n m =
         same-part after x (after-page .bytes) (h .bytes) (after-page .exact ∙ sym (h .exact))
-        (after-word j ∙ ap (xor (getD (wordsOf p x) j 0)) (unit-zero j l n m) ∙ xor-zero-r (getD (wordsOf p x) j 0))
+        (after-word j ∙ ap (xor (getD (wordsOf p x) j 0)) (alone-zero p R i (2 ^ r) li (pow-lt lr) j l n m) ∙ xor-zero-r (getD (wordsOf p x) j 0))
       where
         same-part : (y z : List ℕ) → Bytes y → Bytes z → length y ≡ length z → getD (wordsOf p y) j 0 ≡ getD (wordsOf p z) j 0
             → take (subWordBytes p) (drop (j * subWordBytes p) y) ≡ take (subWordBytes p) (drop (j * subWordBytes p) z)
@@ -375,14 +395,14 @@ module _ (p : Parameters) (R : Rules p) (i r : ℕ) (li : i < p .m) (lr : r < da
       pair false c t u = absurd t
 
       self : weight (getD (units p i r) i 0) ≤ checkBits p i + 1
-      self = rw unit-self (weight-placed r (checkBits p i) own (check-lt i _))
+      self = rw unit-self (weight-placed r (checkBits p i) own (check-lt p R i (2 ^ r) li (pow-lt lr) i _))
 
       none : (j : ℕ) → j < p .m → j ≢ i → (i < j) ⊎ (p .v ≤ j) → weight (getD (units p i r) j 0) ≤ cond (concerned p i j) (checkBits p j) 0
-      none j h n m = Nat.le-trans (Nat.le-of-eq (ap weight (unit-zero j h n m) ∙ weight-zero)) zero-le
+      none j h n m = Nat.le-trans (Nat.le-of-eq (ap weight (alone-zero p R i (2 ^ r) li (pow-lt lr) j h n m) ∙ weight-zero)) zero-le
 
       below : (j : ℕ) → j < p .m → j ≢ i → Dec (j < i) → Dec (j < p .v) → weight (getD (units p i r) j 0) ≤ cond (concerned p i j) (checkBits p j) 0
       below j h n (yes l) (yes v) =
-          Nat.le-trans (weight-le (checkBits p j) (getD (units p i r) j 0) (unit-check j h n))
+          Nat.le-trans (weight-le (checkBits p j) (getD (units p i r) j 0) (alone-check p R i (2 ^ r) li (pow-lt lr) j h n))
           (Nat.le-of-eq (sym (chosen (concerned p i j) (checkBits p j)
           (right (eqb j i) (ltb j i && ltb j (p .v)) (pair (ltb j i) (ltb j (p .v)) (lt→ltb j i l) (lt→ltb j (p .v) v))))))
       below j h n (yes l) (no v) = none j h n (inr (omega arith))

@@ -12,7 +12,7 @@
 --   IsBlank p page        every coefficient of every sub-word is 1: blank, literally over the bytes
 --   coefficientOf p x i k the coefficient of x^k of sub-word i, blockBit p b i r bit r of block i: both literally, as bits of bytes
 --   single p i c          m numbers, the i-th of them c, the others 0
---   oneBit p i r          the blocks that are 0 but for bit r of block i
+--   oneBlock p i d        the blocks that are 0 but for block i, which is d; oneBit p i r: 0 but for bit r of block i
 --   altered p x i r b     the page x with bit r of block i made b: as it is or, where the bit is another, with the page of that bit added
 --   differences p x y     the number of pairs of a sub-word i and a place k at which the coefficients of two pages differ
 use mathlib.Core.Path.{_≡_}
@@ -126,12 +126,15 @@ blockBit p blocks i r = bitFrom blocks (blockOffset p i) r
 abbrev pub single : Parameters → ℕ → ℕ → List ℕ
 single p i c = set (replicate (p .m) 0) i c
 
-unfoldable pub oneBit : Parameters → ℕ → ℕ → List ℕ
+unfoldable pub oneBlock : Parameters → ℕ → ℕ → List ℕ
 unfolding join blockSizes
-oneBit p i r = join (blockSizes p) (single p i (2 ^ r))
+oneBlock p i d = join (blockSizes p) (single p i d)
+
+abbrev pub oneBit : Parameters → ℕ → ℕ → List ℕ
+oneBit p i r = oneBlock p i (2 ^ r)
 
 unfoldable pub altered : Parameters → List ℕ → ℕ → ℕ → ℕ → List ℕ
-unfolding degree pageOf oneBit
+unfolding degree pageOf oneBlock
 altered p page i r b = cond (eqb (coefficientOf p page i (checkBits p i + r)) b) page (add page (pageOf p (oneBit p i r)))
 
 unfoldable pub differences : Parameters → List ℕ → List ℕ → ℕ

@@ -104,7 +104,15 @@ fn place(part: &mut [u8], s: &[u8], bits: usize)
 }
 
 // The remainder of acc by level a's generator, of degree w, whose table is t: `width` coefficients a step with hex digits, 64 with bytes.
-fn check_of(r: &mut [u64], t: &[u64], acc: &[u8], p: Parameters, a: usize, w: usize, width: usize)
+pub fn check_of(
+    r: &mut [u64],
+    t: &[u64],
+    acc: &[u8],
+    p: Parameters,
+    a: usize,
+    w: usize,
+    width: usize,
+)
     requires { ⌜ Accepted p × (a ≤ p .v) × (w ≡ degree p a) × Loaded p a (now t) × (length (now r) ≡ 13) × (length (now acc) < 1000)
         × (1 ≤ width) × (width ≤ 64) ⌝ }
     ensures { λ x. ⌜ value 64 (now (r .exit)) ≡ remainder p a (value 8 (now (acc .entry))) ⌝ }

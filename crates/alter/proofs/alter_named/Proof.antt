@@ -52,7 +52,7 @@ returns c =
 add-bit-requires : tie.Need-add-bit-requires
 add-bit-requires c κs =
     let s = c .before .before .before .before .before .before .before in
-    (s .pre .0, s .pre .1, s .pre .2, s .pre .3 .exact, s .pre .3 .block, s .pre .3 .bit)
+    (s .pre .0, s .pre .1, s .pre .2, s .pre .3 .exact, s .pre .3 .clear, s .pre .3 .block, s .pre .3 .bit)
 
 same-length-2 : tie.Need-same-length-2
 same-length-2 c = search needs

@@ -40,9 +40,9 @@ write-early-requires c κs =
       record { accepts = s .pre .0 .accepts; degrees = s .pre .0 .degrees; exact = s .pre .0 .exact; low = lit≤ tt; high = lit≤ tt },
       omega (arith, s .pre .1, accepted (a .p) (s .pre .0 .accepts) .m-low),
       loaded-plain (a .p) _ _ (rw (l .level-of .ensures) at (k .prepare .ensures)),
-      rw no-data (pow-pos (dataBits (a .p) (a .j))),
+      rw (no-data 104) (pow-pos (dataBits (a .p) (a .j))),
       s .pre .1,
-      s .pre .0 .room,
+      s .pre .2,
     )
 
 same-length : tie.Need-same-length
@@ -59,7 +59,7 @@ returns c =
     let q = c .before .before .before .before in
     let s = q .before .before .before .before .before .before .before .before .before .before .before .before .before .before .before in
     let a = s .args in
-    q .write-early .ensures ∙ ap (λ (d : ℕ). written (a .p) (a .unit .now) (a .j) (wordFrom (a .p) d (a .unit .now) (a .j))) no-data
+    q .write-early .ensures ∙ ap (λ (d : ℕ). written (a .p) (a .unit .now) (a .j) (wordFrom (a .p) d (a .unit .now) (a .j))) (no-data 104)
 
 pub carried-word-spec : {M : Type 1} → statement M
 carried-word-spec =
