@@ -6,7 +6,7 @@
 --   dataBelow p i r     the data of y in block i
 use mathlib.Core.Path.{_≡_, refl, sym, ap, ap₂, _∙_}
 use mathlib.Core.Logic.{_≢_}
-use mathlib.Core.List.{List, [], _∷_}
+use mathlib.Core.List.{List, [], _∷_, map}
 use Prim.Native.Nat.{ℕ, zero, suc, _+_, _-_, _*_, _/_, _^_, _≤_, _<_}
 use native.Mathlib.Nat as Nat
 use native.Mathlib.Decide.{ℕ-discrete}
@@ -23,15 +23,18 @@ use Rattle.code.specs.declared.Parameters.{Parameters}
 use Rattle.code.specs.Accepted.{accepted, degree-high, degree-of, lawful, width-below}
 use Rattle.code.specs.Alter.{alone, units}
 use Rattle.code.specs.Bursts.{single-passing}
+use Rattle.code.specs.Calls.{generatorRow, generators, rowsBy}
 use Rattle.code.specs.Code.{checkBits, dataFrom, dataWords, degree, encode, gen, level, remainder}
 use Rattle.code.specs.Encode.{encode-add, encode-length, member-encode, unshortened-words}
 use Rattle.code.specs.Judge.{multiple-iff}
 use Rattle.code.specs.Layout.{dataBits, pageBytes, single}
+use Rattle.code.specs.Lists.{range}
 use Rattle.code.specs.Pages.{length-data}
 use Rattle.code.specs.Parameters.{Accepted, len, sheet, stored}
 use Rattle.code.specs.Placement.{data-at, single-at, single-else, single-long}
 use Rattle.code.specs.Shortened.{short-accepted, unshortened-accepted, unshortened-refusal}
 use Rattle.code.specs.Steps.{Divides}
+use Rattle.layout.specs.Sizes.{Degrees}
 
 abbrev pub shortest : Parameters → Parameters
 shortest p = sheet (p .q) (p .m) (p .v) (p .t0) (p .t1) (p .t2) (p .t3) (len p - degree p (p .v) - 1)
@@ -54,6 +57,14 @@ shortest-stored p A = omega (arith, width-below p (accepted p A) (p .v) (Nat.le-
 
 pub shortest-words : (p : Parameters) (ds : List ℕ) → encode (shortest p) ds ≡ encode p ds
 shortest-words p ds = unshortened-words (shortest p) ds ∙ sym (unshortened-words p ds)
+
+-- its generators are those of the sheet
+pub shortest-rows : (p : Parameters) → Accepted p → generators (shortest p) ≡ generators p
+unfolding generators gen
+shortest-rows p A = ap (λ (k : ℕ). rowsBy k (map (generatorRow p) (range 0 4))) (shortest-accepted p A ∙ sym A)
+
+pub shortest-degrees : (p : Parameters) (w : List ℕ) → Degrees p w → Degrees (shortest p) w
+shortest-degrees p w D = record { four = D .four; at = λ a h. D .at a h ∙ sym (same-degree p a); past = D .past }
 
 -- its pages are of 776 bytes at most
 pub shortest-high : (p q : Parameters) (n : ℕ) → Accepted p → q ≡ shortest p → n ≡ pageBytes q → n ≤ 776

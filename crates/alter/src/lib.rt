@@ -15,7 +15,7 @@ ghost use Rattle.code.specs.Parameters.{Accepted, stored, subWordBytes};
 ghost use Rattle.layout.specs.Sizes.{Degrees};
 ghost use Rattle.encode.specs.Carried.{roomBytes};
 ghost use Rattle.encode.specs.Encoding.{wordAlone, wordFrom, written};
-ghost use Rattle.alter.specs.Short.{shortest};
+ghost use Rattle.alter.specs.Short.{below, dataBelow, shortest};
 ghost use Rattle.alter.specs.Spread.{Adding, Spread};
 ghost use Rattle.alter.specs.Sum.{Added, unlessBlank};
 ghost use Rattle.alter.specs.Unit.{Making};
@@ -73,16 +73,23 @@ fn lesser(a: usize, b: usize) -> usize
     b
 }
 
-// The page of the data d in block i and 0 elsewhere, made in the zero page: sub-word i, and from there down those below both i and v.
-fn block_page(p: Parameters, rows: [[u64; 13]; 4], w: &[u32], unit: &mut [u8], i: usize, d: &[u8])
+// The page of the data d in block i and 0 elsewhere, made in the zero page: sub-word i, and from there down those below both i and v. Tables
+// are made in t.
+fn block_page(
+    p: Parameters,
+    rows: [[u64; 13]; 4],
+    w: &[u32],
+    unit: &mut [u8],
+    i: usize,
+    d: &[u8],
+    t: &mut [u64],
+)
     requires { ⌜ Accepted p × (rows ≡ generators p) × Degrees p (now w) × (now unit ≡ replicate (pageBytes p) 0)
-        × (i < p .m) × (value 8 (now d) < 2 ^ dataBits p i) ⌝ }
+        × (i < p .m) × (value 8 (now d) < 2 ^ dataBits p i) × (length (now t) ≡ 3072) ⌝ }
     ensures { λ x. ⌜ now (unit .exit) ≡ pageOf p (oneBlock p i (value 8 (now (d .entry)))) ⌝ }
 {
-    let mut table = [0u64; 3073];
     let mut room = [0u8; 520];
     let n = encode::room_bytes(p);
-    let t = &mut table[..3072];
     let acc = &mut room[..n];
     own_word(p, rows, w, unit, i, d, t);
     let mut j = lesser(i, p.v as usize);
@@ -103,14 +110,20 @@ fn add_power(s: &mut [u8], e: usize)
     kernels::bytes::add_bytes(s, e / 8, v);
 }
 
-// The remainder of x^e by g_v, in y, which is 0.
-fn power_below(y: &mut [u8], p: Parameters, rows: [[u64; 13]; 4], w: &[u32], e: usize)
-    requires { ⌜ Accepted p × (rows ≡ generators p) × Degrees p (now w) × (value 8 (now y) ≡ 0) × (length (now y) ≡ 96) × (e < stored p) ⌝ }
+// The remainder of x^e by g_v, in y, which is 0; its table is made in t.
+fn power_below(
+    y: &mut [u8],
+    p: Parameters,
+    rows: [[u64; 13]; 4],
+    w: &[u32],
+    e: usize,
+    t: &mut [u64],
+)
+    requires { ⌜ Accepted p × (rows ≡ generators p) × Degrees p (now w) × (value 8 (now y) ≡ 0) × (length (now y) ≡ 96) × (e < stored p)
+        × (length (now t) ≡ 3072) ⌝ }
     ensures { λ x. ⌜ value 8 (now (y .exit)) ≡ remainder p (p .v) (2 ^ e) ⌝ }
 {
-    let mut table = [0u64; 3073];
     let mut s = [0u8; 512];
-    let t = &mut table[..3072];
     let v = p.v as usize;
     let bits = layout::check_bits(p, w, 0);
     levels::prepare(t, p, rows, v, bits);
@@ -140,17 +153,48 @@ fn shortest_of(p: Parameters, w: &[u32]) -> Parameters
     }
 }
 
-// The page of y's data in block i, made in the zero page of the shortest sheet q, `bits` being the check bits of sub-word i.
-fn short_page(q: Parameters, short: &mut [u8], y: &[u8], i: usize, bits: usize)
-    requires { ⌜ Accepted q × (now short ≡ replicate (pageBytes q) 0) × (i < q .m) × (bits < 8192)
-        × (value 8 (now y) < 2 ^ 768) × (value 8 (now y) / 2 ^ bits < 2 ^ dataBits q i) ⌝ }
+// The page of y's data in block i, made in the zero page of the shortest sheet q, `bits` being the check bits of sub-word i. Tables are made
+// in t.
+fn short_page(
+    q: Parameters,
+    rows: [[u64; 13]; 4],
+    w: &[u32],
+    short: &mut [u8],
+    y: &[u8],
+    i: usize,
+    bits: usize,
+    t: &mut [u64],
+)
+    requires { ⌜ Accepted q × (rows ≡ generators q) × Degrees q (now w) × (now short ≡ replicate (pageBytes q) 0) × (i < q .m) × (bits < 8192)
+        × (value 8 (now y) < 2 ^ 768) × (value 8 (now y) / 2 ^ bits < 2 ^ dataBits q i) × (length (now t) ≡ 3072) ⌝ }
     ensures { λ x. ⌜ now (short .exit) ≡ pageOf q (oneBlock q i (value 8 (now (y .entry)) / 2 ^ bits)) ⌝ }
 {
-    let rows = levels::rows(q);
-    let w = levels::degrees(q, rows);
     let mut d = [0u8; 96];
     kernels::bytes::copy_down(&mut d, y, bits);
-    block_page(q, rows, &w, short, i, &d);
+    block_page(q, rows, w, short, i, &d, t);
+}
+
+// All that takes tables: the remainder y of x^e by g_v, e being the place of bit r of block i, and the page of y's data in the shortest
+// sheet q. Both are 0 before.
+fn work_out(
+    p: Parameters,
+    rows: [[u64; 13]; 4],
+    w: &[u32],
+    i: usize,
+    r: usize,
+    y: &mut [u8],
+    q: Parameters,
+    short: &mut [u8],
+)
+    requires { ⌜ Accepted p × (rows ≡ generators p) × Degrees p (now w) × (i < p .m) × (r < dataBits p i) × (value 8 (now y) ≡ 0)
+        × (length (now y) ≡ 96) × (q ≡ shortest p) × (now short ≡ replicate (pageBytes q) 0) ⌝ }
+    ensures { λ x. ⌜ (value 8 (now (y .exit)) ≡ below p i r) × (now (short .exit) ≡ pageOf q (oneBlock q i (dataBelow p i r))) ⌝ }
+{
+    let mut table = [0u64; 3073];
+    let t = &mut table[..3072];
+    let bits = layout::check_bits(p, w, i);
+    power_below(y, p, rows, w, bits + r, t);
+    short_page(q, rows, w, short, y, i, bits, t);
 }
 
 // ---- sums
@@ -268,15 +312,13 @@ fn add_bit(
         × (i < p .m) × (r < dataBits p i) ⌝ }
     ensures { λ o. ⌜ Added p (now (page .entry)) (pageOf p (oneBit p i r)) (now (page .exit)) o ⌝ }
 {
-    let bits = layout::check_bits(p, w, i);
-    let e = bits + r;
     let mut y = [0u8; 96];
-    power_below(&mut y, p, rows, w, e);
     let q = shortest_of(p, w);
     let mut room = [0u8; 776];
     let n = layout::page_bytes(q);
     let short = &mut room[..n];
-    short_page(q, short, &y, i, bits);
+    work_out(p, rows, w, i, r, &mut y, q, short);
+    let e = layout::check_bits(p, w, i) + r;
     add_short(p, page, i, r, e, &y, q, short)
 }
 

@@ -4,11 +4,11 @@
 use mathlib.Core.Path.{_≡_, refl, sym, ap, ap₂, _∙_}
 use mathlib.Core.List.{List, _++_}
 use Prim.Native.Nat.{ℕ, zero, suc, _+_, _-_, _*_, _/_, _%_, _^_, _≤_, _<_}
-use native.Mathlib.Nat.{mod-one, add-zero, zero-add, add-assoc, add-comm, zero-mul, add-mul, mul-assoc, mod-lt, mul-one, div-one}
+use native.Mathlib.Nat.{mod-one, add-zero, zero-add, add-assoc, add-comm, zero-mul, add-mul, mul-assoc, mod-lt, mod-eq-of-lt, lt-of-lt-of-le, mul-one, div-one}
 use native.Mathlib.Omega.{arith}
 use lib.Bits.{bitXor}
 use lib.ListN.{length, getD, take, drop, set, length-set}
-use lib.Pow.{split, pow-pos, pow-add, shr-shr, shr-lt}
+use lib.Pow.{split, pow-mono, pow-pos, pow-add, shr-shr, shr-lt}
 use Rattle.polynomial.specs.Digits.{digits, value}
 use Rattle.polynomial.specs.Division.{xor-lt}
 use Rattle.polynomial.specs.Xor.{xor-comm, xor, xor-is, xor-zero-l, xor-zero-r, xor-assoc}
@@ -110,6 +110,12 @@ part-law a₀ a a′ y i j n v h e d f =
 pub low-law : (x r j k n a₀ a₁ a₂ : ℕ) → r ≡ 8 * j → j + k ≡ n → a₁ ≡ xor a₀ (x % 2 ^ (8 * j))
     → a₂ ≡ xor a₁ (x * 1 / 2 ^ r % 2 ^ (8 * k) * 2 ^ (8 * j)) → a₂ ≡ xor a₀ (x % 2 ^ (8 * n))
 low-law x r j k n a₀ a₁ a₂ f g e₁ e₂ = part-law a₀ a₁ a₂ x j k n _ g e₁ (ap₂ (λ (y m : ℕ). y / 2 ^ m % 2 ^ (8 * k)) (mul-one x) f) e₂
+
+-- a number of l bytes is the same, cut to n or to m
+pub same-cut : (x l n m : ℕ) → x < 2 ^ (8 * l) → l ≤ n → l ≤ m → x % 2 ^ (8 * n) ≡ x % 2 ^ (8 * m)
+same-cut x l n m h a b =
+    mod-eq-of-lt (lt-of-lt-of-le h (pow-mono {i = 8 * l} {j = 8 * n} (omega arith)))
+    ∙ sym (mod-eq-of-lt (lt-of-lt-of-le h (pow-mono {i = 8 * l} {j = 8 * m} (omega arith))))
 
 pub up-none : (a₀ a x s n : ℕ) → s ≡ 0 → a ≡ xor a₀ (x % 2 ^ n) → a ≡ xor a₀ (x * 2 ^ s % 2 ^ n)
 up-none a₀ a x s n z e = e ∙ ap (λ (y : ℕ). xor a₀ (y % 2 ^ n)) (sym (ap (λ (k : ℕ). x * 2 ^ k) z ∙ mul-one x))

@@ -136,6 +136,13 @@ fn add_low(acc: &mut [u8], x: &[u8])
 {
     let c = fewer(acc.len() / 8, x.len() / 8);
     add_in(acc, x, c);
+    if x.len() < 8 * c + 8 {
+        if 8 * c + 8 <= acc.len() {
+            let v = bits_up(x, 0, 64 * c, 64);
+            add_word(acc, 8 * c, v);
+            return;
+        }
+    }
     add_rest(acc, 8 * c, x, 0, 64 * c);
 }
 

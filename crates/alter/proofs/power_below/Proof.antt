@@ -1,5 +1,5 @@
 use borrow.Author.Needs.{needs}
-use mathlib.Core.Path.{refl, sym, ap, _∙_}
+use mathlib.Core.Path.{refl, ap, _∙_}
 use native.Mathlib.Nat as Nat
 use native.Mathlib.Omega.{arith}
 use Prim.Native.Nat.{ℕ, _^_}
@@ -14,12 +14,6 @@ use Rattle.alter.specs.Unit.{no-data, put-in}
 use Rattle.alter.proofs.power_below.Statement.{statement}
 use Rattle.alter.proofs.power_below.Tie as tie
 
-array-borrow-prefix-table : tie.Need-array-borrow-prefix-table
-array-borrow-prefix-table c = search needs
-
-slice-aggregate-t : tie.Need-slice-aggregate-t
-slice-aggregate-t c = search needs
-
 cast-v : tie.Need-cast-v
 cast-v c = search needs
 
@@ -30,7 +24,7 @@ prepare-requires : tie.Need-prepare-requires
 prepare-requires c κs =
     let b = c .before in
     let s = b .before .before .before .before .before in
-    (s .pre .0, s .pre .1, Nat.le-refl _, b .check-bits .ensures ∙ ap (degree (s .args .p)) (Nat.sub-zero (s .args .p .v)), refl)
+    (s .pre .0, s .pre .1, Nat.le-refl _, b .check-bits .ensures ∙ ap (degree (s .args .p)) (Nat.sub-zero (s .args .p .v)), s .pre .6)
 
 slice-aggregate-add-power : tie.Need-slice-aggregate-add-power
 slice-aggregate-add-power c = search needs
@@ -60,14 +54,14 @@ slice-aggregate-store-low c = search needs
 
 store-low-requires : tie.Need-store-low-requires
 store-low-requires c κs =
-    let x = c .before .before .before .before in
+    let x = c .before .before .before in
     let q = x .before .before .before .before .before in
     let b = q .before .before .before .before .before .before in
     let s = b .before .before .before .before .before in
     let p = s .args .p in
     let R = accepted p (s .pre .0) in
     let e = b .check-bits .ensures ∙ ap (degree p) (Nat.sub-zero (p .v)) in (
-      omega (arith, e, degree-high p R (p .v) (Nat.le-refl (p .v))),
+      omega (arith, e, degree-high p R (p .v) (Nat.le-refl (p .v)), c .before .before .r2 .given),
       omega (arith, e, degree-high p R (p .v) (Nat.le-refl (p .v)), s .pre .4),
       rw (x .check-of .ensures, e) (rem-lt (gen p (p .v)) (degree p (p .v)) (lawful p R .degrees (p .v) (Nat.le-refl (p .v))) _),
       rw (s .pre .3) (Nat.zero-mod _),
@@ -76,10 +70,13 @@ store-low-requires c κs =
 same-length : tie.Need-same-length
 same-length c = search needs
 
+same-length-2 : tie.Need-same-length-2
+same-length-2 c = search needs
+
 returns : tie.Need-returns
 returns c =
     let l = c .before .before in
-    let x = l .before .before .before .before .before in
+    let x = l .before .before .before .before in
     let q = x .before .before .before .before .before in
     let s = q .before .before .before .before .before .before .before .before .before .before .before in
     put-in _ _ _ (l .store-low .ensures) (s .pre .3) ∙ x .check-of .ensures
@@ -89,8 +86,6 @@ pub power-below-spec : {M : Type 1} → statement M
 power-below-spec =
     tie.close
     (tie.spec
-    array-borrow-prefix-table
-    slice-aggregate-t
     cast-v
     check-bits-requires
     prepare-requires
@@ -102,4 +97,5 @@ power-below-spec =
     slice-aggregate-store-low
     store-low-requires
     same-length
+    same-length-2
     returns)
