@@ -8,8 +8,8 @@
 The first writes the tables of Own.antt, in rt fmt's layout; the second says nothing where they stand there already, else
 it names the file and ends with 1. A row has what a definition gives, as a term, and what this program works out, as
 numbers; the rows are of definitions that no compiled call gives back, and of the calls on erased pages, on shortened
-sheets and on many pages. What the calls give is compared by programs: tools/trial.py, tools/counter.py and tools/writer.py take their
-answers from here.
+sheets, on many pages and on one bit of a page. What the calls give is compared by programs: tools/trial.py, tools/counter.py and
+tools/writer.py take their answers from here.
 
 It shares no method with the definitions: generators by trying every polynomial, pages by elimination on the code's
 linear conditions, membership by evaluation at the roots, nested words by turning lists of bits, remainders by long
@@ -422,11 +422,12 @@ def broken(sheet):
     return not (1 <= used[0] < used[1] and rises and used[v] <= 64 and 2 * used[v] <= length(sheet) - 1 and not any(past))
 
 
-def refusal(sheet, width=None, blocks=None, page=None, fed=None, sub_word=None, nested_word=None, opening=None, room=None, register=None, count=None):
+def refusal(sheet, width=None, blocks=None, page=None, fed=None, sub_word=None, nested_word=None, opening=None, room=None, register=None, count=None, bit=None):
     """The first number whose condition holds among a call's parts, 0 for none.
 
     blocks and page are lists where they are read, and lengths where they are to be written; room is the length of
-    the buffer for another result, and the exact one. With a count, blocks and page are the lengths of so many.
+    the buffer for another result, and the exact one. With a count, blocks and page are the lengths of so many. bit is
+    a block's index, that of a bit in it and the bit's value to come.
     """
     q, m, v, *t, s = sheet
     times = 1 if count is None else count
@@ -446,11 +447,12 @@ def refusal(sheet, width=None, blocks=None, page=None, fed=None, sub_word=None, 
         (8, lambda: read(blocks) and stray(blocks_with_unused(sheet, blocks), block_bits(sheet))
             or read(page) and stray(words_with_spare(sheet, page), [stored(sheet)] * m)
             or fed is not None and len(bits(fed)) > width),
-        (9, lambda: sub_word is not None and sub_word >= m or nested_word is not None and nested_word >= v or opening is not None and opening > v),
+        (9, lambda: sub_word is not None and sub_word >= m or nested_word is not None and nested_word >= v or opening is not None and opening > v
+            or bit is not None and not names_bit(sheet, *bit)),
         (10, lambda: room is not None and room[0] != room[1]()),
         (11, lambda: register is not None and register[1] + width > stored(sheet)),
         (12, lambda: register is not None and (register[0] > v or len(bits(register[2])) > degree(sheet, register[0]))),
-        (13, lambda: read(blocks) and blank(sheet, page_of_blocks(sheet, blocks))),
+        (13, lambda: read(blocks) and blank(sheet, page_of_blocks(sheet, blocks)) or bit is not None and blank(sheet, altered(sheet, page, *bit))),
     ]
     return next((k for k, holds in table if holds()), 0)
 
@@ -473,6 +475,22 @@ def write_many(sheet, width, count, blocks, pages, old):
         return code, pages, old
     made = [write(sheet, width, data, page) for data, page in zip(pieces(blocks, count), pieces(pages, count))]
     return 0, [x for answer in made for x in answer[1:]], [answer[0] for answer in made]
+
+
+def names_bit(sheet, i, r, b):
+    return i < sheet[1] and r < block_bits(sheet)[i] and b in (0, 1)
+
+
+def altered(sheet, page, i, r, b):
+    """The page with bit r of block i made b: where it is the other, the one page whose blocks are this bit alone is added."""
+    if words(sheet, page)[i][check_bits(sheet, i) + r] == b:
+        return page
+    return [x ^ y for x, y in zip(page, page_of_blocks(sheet, one_bit(sheet, i, r)))]
+
+
+def alter(sheet, page, i, r, b):
+    code = refusal(sheet, page=page, bit=(i, r, b))
+    return [code] + (page if code else altered(sheet, page, i, r, b))
 
 
 def verdict(sheet, page, **lent):
@@ -1051,8 +1069,104 @@ def many_pages():
     assert made(B4, 33, some_blocks(B4), all_ones(B4), stray(B4, 1)) == [0, 0, 8]
 
 
-HEAD = '''-- Cases of our own, of definitions that no compiled call gives back, and of the calls on erased pages, on shortened sheets and
--- on many pages: each row has what a definition gives and what an independent program says.
+def ends_of_blocks(sheet):
+    """The first bit and the last of the first block, of a middle one and of the last."""
+    return [(i, r) for i in sorted({0, sheet[1] // 2, sheet[1] - 1}) for r in sorted({0, block_bits(sheet)[i] - 1})]
+
+
+def alter_refused():
+    code = lambda s, page, i, r, b: refusal(s, page=page, bit=(i, r, b))
+    whole = lambda *given: in_turn([call('alterRefusal', *g) for g in given], [code(*g) for g in given])
+    blocks = lambda s, page, indices, r, b: numbers('map (λ i. %s) %s' % (call('alterRefusal', s, page, 'i', r, b), as_list(indices)), [code(s, page, i, r, b) for i in indices])
+    places = lambda s, page, i, indices, b: numbers('map (λ r. %s) %s' % (call('alterRefusal', s, page, i, 'r', b), as_list(indices)), [code(s, page, i, r, b) for r in indices])
+    values = lambda s, page, i, r, bits: numbers('map (%s) %s' % (call('alterRefusal', s, page, i, r), as_list(bits)), [code(s, page, i, r, b) for b in bits])
+
+    table('alterRefused', 'One bit altered, refused: the numbers in their order; lengths, spare bits, and bits that are none.', 'alterRefusal pow')
+    sheets = [(5, 2, 1, 1, 2, 0, 0, U32), (4, 1, 1, 1, 2, 0, 0, U32), (4, 2, 1, 2, 2, 0, 0, U32), shortened(CLASH, U32), shortened(A, 7)]
+    whole(*[(s, [0xFF], 9, 99, 9) for s in sheets])
+    # one condition less with each, then one or two alone
+    x, clear, full = some_member(A), erased(A, (0, 0)), erased(A, (1, 1))
+    whole(*[(A, *g) for g in (([0xFF] * 5, 2, 7, 2), (full, 2, 7, 2), (clear, 2, 7, 2), (clear, 0, 6, 1), (clear, 0, 6, 0))])
+    whole(*[(A, *g) for g in ((x[:3], 0, 0, 0), ([0xFF] * 3, 0, 0, 1), ([], 0, 0, 0), ([0x00] * 64, 0, 0, 0), (x[:3], 0, 0, 2), (full, 0, 7, 1), (full, 0, 0, 1), (full, 0, 0, 0))])
+    # each spare bit, of members and of erased pages, at an equal value and at another
+    for s, base in [(A, x), (A, clear), (B4, some_member(B4)), (A6, erased(A6, (0, 0)))]:
+        strays = [flipped(s, base, (i, k)) for i in range(s[1]) for k in range(stored(s), 8 * word_bytes(s))]
+        b = below(2)
+        each('λ x. %s' % call('alterRefusal', s, 'x', 0, 0, b), strays, lambda x: code(s, x, 0, 0, b))
+    # blocks, bits and values at their ends, past them and far past them; on a blank page they go before 13
+    for s in (A, B, A6, PAIR24):
+        page = some_page(s)
+        blocks(s, page, [0, s[1] - 1, s[1], s[1] + 1, U32], 0, 1)
+        for i, b in enumerate(block_bits(s)):
+            places(s, page, i, sorted({0, b - 1, b, b + 1, 256, U32}), 0)
+        values(s, page, 0, 0, [0, 1, 2, 3, U32])
+    blocks(A, clear, [0, 1, 2, 256, 2 ** 32, U64, 2 ** 64], 0, 1)
+    places(A, clear, 0, [0, 6, 7, 8, 10, 256, 2 ** 32, U64, 2 ** 64], 1)
+    places(A, clear, 1, [0, 6, 7, 8, 10, 11, 256, 2 ** 32, U64, 2 ** 64], 1)
+    values(A, clear, 1, 10, [0, 1, 2, 256, 257, 2 ** 32, U64, 2 ** 64 + 1])
+
+    table('alterBlanks', 'A blank page, at an equal value and at another; a page that another value would make blank, and pages near it.', 'alterRefusal pow')
+    for s, ends in [(A, ends_of_blocks(A)), (A6, ends_of_blocks(A6)), (B4, [(0, 0), (2, 6)])]:
+        ones = erased(s, [0] * s[1])
+        near = [(altered(s, ones, i, r, 0), i, r) for i, r in ends]
+        assert all(bool(failing(s, page)) == (s[7] > 0) for page, i, r in near)
+        for i, r in ends:
+            values(s, ones, i, r, [0, 1])
+        for page, i, r in near:
+            values(s, page, i, r, [0, 1, 2])
+        (page, i, r), (other, j, k) = near[0], near[-1]
+        if s == A6:
+            values(s, page, j, k, [0, 1])
+            values(s, other, i, r, [0, 1])
+        values(s, flipped(s, page, (0, 0)), i, r, [1])
+
+
+def alter_made():
+    def made(s, page, i, r, b):
+        answer = alter(s, page, i, r, b)
+        row(call('alter', s, page, i, r, b), listed(answer[:1] + hexed(answer[1:])))
+        return answer[0]
+
+    def values(s, page, *places):
+        assert {made(s, page, i, r, b) for i, r in places for b in (0, 1)} == {0}
+
+    def other(s, page, i, r):
+        assert made(s, page, i, r, 1 - words(s, page)[i][check_bits(s, i) + r]) == 0
+
+    # the page of the blocks with that bit set
+    for s in CHOSEN + SHORTENED:
+        data = some_blocks(s)
+        for (i, r), b in tuples(ends_of_blocks(s), (0, 1)):
+            blocks = [x | y if b else x & ~y for x, y in zip(data, one_bit(s, i, r))]
+            code, *page = alter(s, page_of_blocks(s, data), i, r, b)
+            assert refusal(s, blocks=blocks) == code and (code or page == page_of_blocks(s, blocks))
+    table('alterMembers', 'One bit of a member altered: the number, then the page. First and last bits of blocks, both values.', 'alterRefusal altered pow')
+    values(A, some_member(A), *ends_of_blocks(A))
+    for s, i, r in [(B4, 0, 0), (B4, 1, 2), (B4, 2, 6), (DEEP, 1, 6), (DEEP, 4, 10)]:
+        other(s, some_member(s), i, r)
+
+    table('alterPages', 'Of a page that is none.', 'alterRefusal altered pow')
+    page = some_page(B)
+    assert failing(B, page)
+    values(B, page, *ends_of_blocks(B))
+    for s, i, r in [(A6, 0, 0), (A6, 1, 4), (WIDE, 2, 10), (ALIKE, 1, 0), (DEEP4, 3, 0), (PAIR24, 0, 7)]:
+        other(s, some_page(s), i, r)
+
+    table('alterRest', 'Of the zero page, of a blank one and of one that would be blank; and refused, the page as it was.', 'alterRefusal altered pow')
+    for s in (A, SMALL, B4):
+        zeros, ones = [0x00] * page_bytes(s), erased(s, [0] * s[1])
+        i, r = s[1] - 1, block_bits(s)[-1] - 1
+        values(s, zeros, (i, r))
+        assert [made(s, ones, i, r, b) for b in (0, 1)] == [0, 13]
+        assert [made(s, altered(s, ones, i, r, 0), i, r, b) for b in (0, 1)] == [0, 13]
+    x, full = some_member(A), erased(A, (1, 1))
+    refused = [(full, 1, 10, 0), (full, 1, 10, 1), (flipped(A, x, (1, 15)), 0, 0, 0), (x, 1, 11, 0), (x, 2, 0, 0), (x, 0, 0, 2), (x + [0x00], 0, 0, 0), (x[:-1], 0, 0, 1)]
+    assert [made(A, *g) for g in refused] == [8, 8, 8, 9, 9, 9, 7, 7]
+    assert made(CLASH, [0x00] * 8, 0, 0, 1) == 4 and made(shortened(A, 7), x, 0, 0, 1) == 14
+
+
+HEAD = '''-- Cases of our own, of definitions that no compiled call gives back, and of the calls on erased pages, on shortened sheets,
+-- on many pages and on one bit of a page: each row has what a definition gives and what an independent program says.
 -- Written by tools/cases.py, which works every number out by other means; see there. The calls' own cases are run: tools/trial.py.
 use mathlib.Core.Path.{_≡_, refl}
 use mathlib.Core.List.{List, [], _∷_, map}
@@ -1067,14 +1181,15 @@ use Rattle.code.specs.Lists.{range, sum}
 use Rattle.code.specs.Parameters.{sheet, sheetRefusal}
 use Rattle.code.specs.Code.{carried, combine, distance, divisor, N, newton}
 use Rattle.code.specs.Layout.{blockOffset, wordsOf, pageOf, pageBytes, dataBytes, coefficientOf, blockBit, differences}
+use Rattle.code.specs.Layout.{altered}
 use Rattle.code.specs.Refusals.{writeRefusal, wordRefusal, remainderRefusal, nestedRefusal, syndromesRefusal}
-use Rattle.code.specs.Refusals.{manyRefusal, openRefusal, feedRefusal, quoteRefusal}
+use Rattle.code.specs.Refusals.{manyRefusal, alterRefusal, openRefusal, feedRefusal, quoteRefusal}
 use Rattle.code.specs.Calls.{asBytes, empty, fed, judgeNumber, judgeValues, readNumber, readLeaves, writeLeaves, quote}
 use Rattle.code.specs.Calls.{statuses, pagesBy}
 use Rattle.code.specs.Calls.{remainderBytes, shortBytes, nestedWordBytes, syndromeList, nestedSyndromeList}
 use Rattle.code.specs.Registers.{cut, feedings}
 use Rattle.code.specs.Writer.{writer}
-use Rattle.cases.specs.Sheets.{Row, A, B, held, many}
+use Rattle.cases.specs.Sheets.{Row, A, B, held, many, alter}
 '''
 
 
@@ -1089,7 +1204,8 @@ def printed():
 def main(words):
     self_test()
     for part in (layouts, equal_form, divisors, page_differences, parts, field_sums, bytes_for_c, writings, huge_numbers, erased_pages,
-                 short_sheets, short_sizes, short_pages, short_words, short_registers, many_refused, many_pages):
+                 short_sheets, short_sizes, short_pages, short_words, short_registers, many_refused, many_pages, alter_refused,
+                 alter_made):
         part()
     if words == ['--check']:
         if (Path(__file__).resolve().parent.parent / OWN).read_text(encoding='utf-8') != printed():

@@ -17,7 +17,7 @@ import cases
 from cases import A, A3, ALIKE, B, B4, CLASH, DEEP, DEEP4, EIGHT, FIELD, LARGE, PAIR, PAIR24, SMALL, TIGHT, TWELVE, U32, WIDE
 from cases import below, exponents, largest, nesting, number, refusal, shortened, some_bytes, strength
 
-TEST, NESTING, GENERATORS, ELEMENTS, OPEN, FEED, REMAINDER, SHORT, NESTED, SYNDROMES, NESTED_SYNDROMES, JUDGE, READ_OUT, WRITE, QUOTE, WRITE_MANY = range(16)
+TEST, NESTING, GENERATORS, ELEMENTS, OPEN, FEED, REMAINDER, SHORT, NESTED, SYNDROMES, NESTED_SYNDROMES, JUDGE, READ_OUT, WRITE, QUOTE, WRITE_MANY, ALTER = range(17)
 WIDTHS = (1, 7, 8, 63, 64)
 
 BYTE = (8, 4, 2, 3, 5, 9, 0, 0)
@@ -139,7 +139,7 @@ assert ones() == other
 # ---- records
 
 given, expected = bytearray(), bytearray()
-seen = [set() for _ in range(16)]
+seen = [set() for _ in range(17)]
 
 
 def le(x, size=8):
@@ -501,6 +501,66 @@ def many_pages():
     assert listed == {0, 8, 13} and seen[WRITE_MANY] == {*range(8), 9, 10, 14}
 
 
+def alterations():
+    """One bit altered: of members and of any pages, at each block's first and last bit, at an equal value and at another; and what refuses it."""
+    def alter(s, page, i, r, b):
+        code, *after = cases.alter(s, page, i, r, b)
+        record(ALTER, s, bytes([code, *after]), page=page, u=r << 32 | i, count=b)
+        return code
+
+    def both(s, page, place):
+        return {alter(s, page, *place, b) for b in (0, 1)}
+
+    for s in SHEETS + SHORTENED:
+        m, room, small = s[1], cases.page_bytes(s), s[0] < 12
+        blocks = range(m) if small else (0, m - 1)
+        first, last = (0, 0), (m - 1, cases.block_bits(s)[-1] - 1)
+        data = cases.some_blocks(s)
+        member, page = cases.page_of_blocks(s, data), cases.some_page(s)
+        for i, r in [(i, r) for i in blocks for r in sorted({0, cases.block_bits(s)[i] - 1})] if small else (first, last):
+            for b in (0, 1):
+                code = alter(s, member, i, r, b)
+                if small:
+                    wanted = [x | y if b else x & ~y for x, y in zip(data, cases.one_bit(s, i, r))]
+                    assert code == refusal(s, blocks=wanted) and cases.altered(s, member, i, r, b) == cases.page_of_blocks(s, wanted)
+            assert alter(s, page, i, r, below(2)) == 0
+        # bits, blocks and values that are none
+        for i in blocks:
+            assert alter(s, page, i, cases.block_bits(s)[i], below(2)) == 9
+        for i, r, b in ((m, 0, 1), (0, 0, 2), (m - 1, cases.block_bits(s)[-1], 2), (U32, U32, U32)):
+            assert alter(s, page, i, r, b) == 9
+        # lengths, spare bits; blank pages with them, and without
+        for x in (page[:-1], page + [0], [255] * (room + 1)):
+            assert alter(s, x, m, 0, 0) == 7
+        clear, full, mixed = [cases.erased(s, [all_spare(s) * (spare >> i & 1) for i in range(m)]) for spare in (0, 255, 0x55)]
+        for k in ends_of_spare(s):
+            for i in blocks:
+                assert alter(s, cases.flipped(s, (member, clear)[below(2)], (i, k)), 0, 0, below(2)) == 8
+            assert alter(s, cases.flipped(s, page, (m - 1, k)), m, 0, 2) == 8
+        if cases.spare_bits(s):
+            assert both(s, full, first) | both(s, mixed, last) == {8}
+        assert alter(s, clear, m, 0, 1) == alter(s, clear, 0, 0, 2) == 9
+        for i, r in (first, last):
+            near = cases.altered(s, clear, i, r, 0)
+            assert [alter(s, x, i, r, b) for x in (clear, near) for b in (0, 1)] == [0, 13, 0, 13]
+        assert both(s, [0] * room, last) == {0}
+    # every bit, and numbers that are small in their lowest byte or two
+    for s in (A, B4, DEEP4):
+        page = cases.some_page(s)
+        for i, b in enumerate(cases.block_bits(s)):
+            for r in range(b):
+                alter(s, page, i, r, below(2))
+    for s in (A, PAIR24):
+        page = cases.some_member(s)
+        for x in (256, 65536, 2 ** 24, 2 ** 31, U32):
+            for given in ((x, 0, 1), (0, x, 0), (1, 0, x), (0, 1, x + 1 & U32), (x, x, x)):
+                alter(s, page, *given)
+    for s in REFUSED:
+        alter(s, [255], 255, 255, 255)
+        alter(s, [0] * 4, 0, 0, 1)
+    assert seen[ALTER] == {0, 1, 2, 3, 4, 7, 8, 9, 13, 14}
+
+
 if __name__ == '__main__':
     tests()
     quotes()
@@ -512,6 +572,7 @@ if __name__ == '__main__':
     blanks()
     shortened_pages()
     many_pages()
+    alterations()
     assert seen[JUDGE] == {0, 1, 2, 3, 4, 7, 8, 14, 32, 64, 96} and seen[READ_OUT] == seen[JUDGE] | {6} and seen[WRITE] == {*range(9), 13, 14}
     room = Path(sys.argv[1])
     (room / 'stdin').write_bytes(given)

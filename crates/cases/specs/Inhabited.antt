@@ -18,17 +18,17 @@ use Rattle.code.specs.declared.Outcome.{Outcome}
 use Rattle.code.specs.declared.Parameters.{Parameters}
 use Rattle.code.specs.declared.Verdict.{Verdict}
 use Rattle.code.specs.Accepted.{accepted, any-none}
-use Rattle.code.specs.Answers.{made-done, made-refused}
+use Rattle.code.specs.Answers.{judged, made-done, made-refused, read}
 use Rattle.code.specs.Blank.{blank-iff}
 use Rattle.code.specs.Chains.{either}
-use Rattle.code.specs.Demands.{Burst}
+use Rattle.code.specs.Demands.{Burst, NamesBit, SetTo}
 use Rattle.code.specs.Lists.{any, range}
 use Rattle.code.specs.Parameters.{Accepted, sheetRefusal, sheet, stored}
 use Rattle.code.specs.Code.{gen, degree, remainder, nested, combine, N, newton, IsMember, distance, verdict}
 use Rattle.code.specs.Layout.{dataBytes, pageBytes, blocksClear, blocksFull, pageClear, pageOf, blank, wordsOf, Fits, IsBlank, IsPage, Bytes}
-use Rattle.code.specs.Layout.{coefficientOf, differences}
-use Rattle.code.specs.Calls.{WrittenMany, judgeAnswer, pagesBy, statuses, verdictNumber}
-use Rattle.code.specs.Refusals.{manyRefusal, writeRefusal}
+use Rattle.code.specs.Layout.{altered, blockBit, blockOffset, coefficientOf, differences}
+use Rattle.code.specs.Calls.{Altered, Judged, ReadOut, Written, WrittenMany, judgeAnswer, pagesBy, readAnswer, readLeaves, statuses, verdictNumber}
+use Rattle.code.specs.Refusals.{alterRefusal, manyRefusal, writeRefusal}
 use Rattle.cases.specs.Sheets.{A, B}
 
 -- ---- accepted sheets
@@ -304,6 +304,82 @@ pub many-refused :
     WrittenMany A 8 2 (replicate 6 0x00) (replicate 8 0xA5) (replicate 8 0xA5) (0xFF ∷ []) (0xFF ∷ []) (Outcome.Refused 10)
 unfolding manyRefusal
 many-refused = (made-refused _ 10 _ _ refl (lit< tt) (lit≤ tt), made-refused _ 10 _ _ refl (lit< tt) (lit≤ tt))
+
+-- ---- one bit altered: bit 0 of block 0 of the page of blocks 01 01 00
+abbrev blocks-1 : List ℕ
+blocks-1 = 0x01 ∷ 0x01 ∷ 0x00 ∷ []
+
+abbrev blocks-0 : List ℕ
+blocks-0 = 0x00 ∷ 0x01 ∷ 0x00 ∷ []
+
+abbrev page-1 : List ℕ
+page-1 = 0xC2 ∷ 0x01 ∷ 0x13 ∷ 0x00 ∷ []
+
+abbrev page-0 : List ℕ
+page-0 = 0x13 ∷ 0x00 ∷ 0x13 ∷ 0x00 ∷ []
+
+-- made 0
+pub alter-other : Altered A page-1 0 0 0 page-0 Outcome.Done
+unfolding alterRefusal altered pow
+alter-other = made-done _ _ _ _ refl refl
+
+-- as it was
+pub alter-same : Altered A page-1 0 0 1 page-1 Outcome.Done
+unfolding alterRefusal altered pow
+alter-same = made-done _ _ _ _ refl refl
+
+-- a blank page, whose bit is 1 already
+pub alter-blank : Altered A cleared 0 0 1 cleared (Outcome.Refused 13)
+unfolding alterRefusal pow
+alter-blank = made-refused _ 13 _ _ refl (lit< tt) (lit≤ tt)
+
+-- what the law on members supposes: judged and read out, the blocks set, and written
+pub alter-judged : Judged A page-1 Verdict.Member
+unfolding judgeAnswer pow
+alter-judged = judged A page-1 Verdict.Member refl
+
+pub alter-read : ReadOut A page-1 (replicate 3 0xA5) blocks-1 Verdict.Member
+unfolding readAnswer readLeaves pow
+alter-read = read A page-1 (replicate 3 0xA5) Verdict.Member blocks-1 refl refl
+
+pub alter-names : NamesBit A 0 0 0
+unfolding degree
+alter-names = record { block = lit< tt; bit = lit< tt; value = zero-le }
+
+-- the blocks differ at bit k of block j, another than bit 0 of block 0
+abbrev set-wrong : ℕ → ℕ → Bool
+set-wrong j k = not (eqb (blockBit A blocks-0 j k) (blockBit A blocks-1 j k)) && not (eqb j 0 && eqb k 0)
+
+-- all bits looked at
+set-right : T (not (any (λ j. any (set-wrong j) (range 0 (stored A - degree A (A .v - j)))) (range 0 2)))
+unfolding any range degree blockOffset
+set-right = tt
+
+pub alter-set : SetTo A blocks-0 0 0 0 (blockBit A blocks-1)
+unfolding dataBytes blocksClear blockOffset
+alter-set = record {
+  fits = record { bytes = (lit< tt, (lit< tt, (lit< tt, tt))); exact = refl; clear = tt };
+  here = refl;
+  others = λ j k h l o.
+      eqb→eq (blockBit A blocks-0 j k) (blockBit A blocks-1 j k)
+      (go (eqb (blockBit A blocks-0 j k) (blockBit A blocks-1 j k)) (eqb j 0 && eqb k 0) (λ t. other j k o (both (eqb j 0) (eqb k 0) t))
+      (any-none (set-wrong j) 0 (stored A - degree A (A .v - j))
+      (any-none (λ j. any (set-wrong j) (range 0 (stored A - degree A (A .v - j)))) 0 2 set-right j zero-le h)
+      k zero-le (rw (zero-add (stored A - degree A (A .v - j))) l)));
+}
+  where
+    other : (j k : ℕ) → (j ≢ 0) ⊎ (k ≢ 0) → T (eqb j 0) × T (eqb k 0) → ⊥
+    other j k (inl n) t = n (eqb→eq j 0 (t .0))
+    other j k (inr n) t = n (eqb→eq k 0 (t .1))
+
+    go : (b q : Bool) → (T q → ⊥) → T (not (not b && not q)) → T b
+    go true q n u = tt
+    go false true n u = absurd (n tt)
+    go false false n u = absurd u
+
+pub alter-written : Written A 8 blocks-0 (replicate 4 0xA5) page-0 Outcome.Done
+unfolding writeRefusal pageOf pow
+alter-written = made-done _ _ _ _ refl refl
 
 -- ---- the equal form holds as a whole only: sheet B, page 13 00 00 00 00 00
 abbrev words-13 : List ℕ

@@ -4,13 +4,16 @@
 --   page p k b        what write leaves at L = 8 in a zeroed page of k bytes
 --   held r            a register's level, count and words
 --   many p L c b x    what a write of c pages lists, then what it leaves in the pages x
+--   alter p x i r b   what refuses bit r of block i made b, or 0, then what that leaves in the page x
 use mathlib.Core.List.{List, _∷_, _++_}
 use Prim.Native.Nat.{ℕ}
 use lib.ListN.{replicate}
 use Rattle.code.specs.declared.Parameters.{Parameters}
 use Rattle.code.specs.Register.{Register}
-use Rattle.code.specs.Calls.{pagesBy, statuses, writeLeaves}
+use Rattle.code.specs.Calls.{leaves, pagesBy, statuses, writeLeaves}
+use Rattle.code.specs.Layout.{altered}
 use Rattle.code.specs.Parameters.{sheet}
+use Rattle.code.specs.Refusals.{alterRefusal}
 
 abbrev pub Row : Type 0
 Row = List ℕ × List ℕ
@@ -29,3 +32,6 @@ held r = r .level ∷ r .count ∷ r .remainder
 
 abbrev pub many : Parameters → ℕ → ℕ → List ℕ → List ℕ → List ℕ
 many p L count blocks pages = statuses p L count blocks ++ pagesBy p (statuses p L count blocks) blocks pages
+
+abbrev pub alter : Parameters → List ℕ → ℕ → ℕ → ℕ → List ℕ
+alter p x i r b = alterRefusal p x i r b ∷ leaves (alterRefusal p x i r b) (altered p x i r b) x

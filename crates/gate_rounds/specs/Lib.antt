@@ -3,5 +3,6 @@ pub mod Answers
 pub mod Apt
 pub mod Sum
 pub mod Scratched
+pub mod Altered
 pub mod Sheets
 pub mod Singles

@@ -6,8 +6,8 @@ use mathlib.Core.Path.{_≡_, refl}
 use mathlib.Core.Bool.{Bool, true, false, _&&_}
 use mathlib.Core.List.{List, [], _∷_}
 use Prim.Native.Nat.{ℕ}
-use lib.Dec.{T, ltb, ltb→lt}
-use lib.ListN.{length, getD, replicate}
+use lib.Dec.{T, leb, leb→le, ltb, ltb→lt}
+use lib.ListN.{length, getD, replicate, set}
 use Rattle.polynomial.specs.Bits.{coefficient}
 use Rattle.polynomial.specs.Sums.{add}
 use Rattle.polynomial.specs.Xor.{xor}
@@ -15,12 +15,15 @@ use Rattle.field.specs.Field.{pow}
 use Rattle.code.specs.declared.Parameters.{Parameters}
 use Rattle.field.specs.Irreducible.{both}
 use Rattle.code.specs.Accepted.{accepted}
+use Rattle.code.specs.Alter.{alteredBlocks}
 use Rattle.code.specs.Blank.{blank-iff}
 use Rattle.code.specs.Calls.{judgeAnswer, statuses}
-use Rattle.code.specs.Layout.{Bytes, Fits, IsBlank, IsPage, blank, blocksClear, dataBytes, pageBytes, pageClear}
-use Rattle.code.specs.Parameters.{Accepted, sheet, sheetRefusal}
+use Rattle.code.specs.Demands.{NamesBit}
+use Rattle.code.specs.Layout.{Bytes, Fits, IsBlank, IsPage, blank, blockOffset, blocksClear, dataBits, dataBytes, pageBytes, pageClear}
+use Rattle.code.specs.Parameters.{Accepted, degree, sheet, sheetRefusal}
 use Rattle.cases.specs.Inhabited.{accepted-A, accepted-B}
 use Rattle.cases.specs.Sheets.{A, B}
+use Rattle.gate_rounds.specs.Altered.{Twins, twins}
 use Rattle.gate_rounds.specs.Answers.{isMember}
 use Rattle.gate_rounds.specs.Apt.{Apt, apt, apt-sum}
 
@@ -259,3 +262,31 @@ page-short-8 = page short-8 (replicate 6 0x01) tt refl tt
 pub damaged-short-8 : isMember (judgeAnswer short-8 (replicate 6 0x01)) ≡ false
 unfolding judgeAnswer pow
 damaged-short-8 = refl
+
+-- ---- blocks that differ in one bit
+names : (p : Parameters) (i r b : ℕ) → T (ltb i (p .m)) → T (ltb r (dataBits p i)) → T (leb b 1) → NamesBit p i r b
+names p i r b t u w = record { block = ltb→lt i (p .m) t; bit = ltb→lt r (dataBits p i) u; value = leb→le b 1 w }
+
+pub twins-A : Twins A (0x02 ∷ 0x01 ∷ 0x00 ∷ []) (0x42 ∷ 0x01 ∷ 0x00 ∷ []) 0 6 1 0
+unfolding dataBytes blocksClear degree alteredBlocks blockOffset xor
+twins-A =
+    twins A accepted-A (0x02 ∷ 0x01 ∷ 0x00 ∷ []) (0x42 ∷ 0x01 ∷ 0x00 ∷ []) 0 6 1 0 fits-A (fits A (0x42 ∷ 0x01 ∷ 0x00 ∷ []) tt refl tt) refl refl
+    (names A 0 6 1 tt tt tt) (names A 0 6 0 tt tt tt) refl refl
+
+pub twins-B : Twins B (0x00 ∷ 0x08 ∷ 0x01 ∷ 0x00 ∷ []) (0x00 ∷ 0x00 ∷ 0x01 ∷ 0x00 ∷ []) 1 3 0 1
+unfolding dataBytes blocksClear degree alteredBlocks blockOffset xor
+twins-B =
+    twins B accepted-B (0x00 ∷ 0x08 ∷ 0x01 ∷ 0x00 ∷ []) (0x00 ∷ 0x00 ∷ 0x01 ∷ 0x00 ∷ []) 1 3 0 1
+    (fits B (0x00 ∷ 0x08 ∷ 0x01 ∷ 0x00 ∷ []) tt refl tt) fits-B refl refl (names B 1 3 0 tt tt tt) (names B 1 3 1 tt tt tt) refl refl
+
+pub twins-short : Twins short (0x02 ∷ 0x01 ∷ []) (0x02 ∷ 0x81 ∷ []) 1 7 1 0
+unfolding dataBytes blocksClear degree alteredBlocks blockOffset xor
+twins-short =
+    twins short accepted-short (0x02 ∷ 0x01 ∷ []) (0x02 ∷ 0x81 ∷ []) 1 7 1 0 fits-short (fits short (0x02 ∷ 0x81 ∷ []) tt refl tt) refl refl
+    (names short 1 7 1 tt tt tt) (names short 1 7 0 tt tt tt) refl refl
+
+pub twins-8 : Twins (long 8) (replicate 61 0x06) (set (replicate 61 0x06) 40 0x16) 1 84 1 0
+unfolding dataBytes blocksClear degree alteredBlocks blockOffset xor
+twins-8 =
+    twins (long 8) accepted-8 (replicate 61 0x06) (set (replicate 61 0x06) 40 0x16) 1 84 1 0 fits-8
+    (fits (long 8) (set (replicate 61 0x06) 40 0x16) tt refl tt) refl refl (names (long 8) 1 84 1 tt tt tt) (names (long 8) 1 84 0 tt tt tt) refl refl

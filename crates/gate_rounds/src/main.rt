@@ -1,5 +1,5 @@
 // Pages written at several widths, judged, read out and written again, of shortened sheets too; pages with a byte changed judged; erased
-// pages judged, read out and refused; three pages written in one call and one by one.
+// pages judged, read out and refused; three pages written in one call and one by one; one bit altered in a page and in its blocks.
 // Each equality is expected as the program runs, and proved of every run:
 // from what the calls promise and the theorems on the promises, and nothing of how a page is made.
 ghost use mathlib.Core.Path.{_≡_};
@@ -15,6 +15,7 @@ ghost use Rattle.code.specs.Parameters.{Accepted};
 ghost use Rattle.code.specs.Refused.{BlocksBuffer, PageBuffer, Width};
 ghost use Rattle.code.specs.declared.Outcome.{Outcome};
 ghost use Rattle.code.specs.declared.Verdict.{Verdict};
+ghost use Rattle.gate_rounds.specs.Altered.{Twins};
 ghost use Rattle.gate_rounds.specs.Answers.{isBlank, isDone, isMember};
 ghost use Rattle.gate_rounds.specs.Apt.{Apt};
 ghost use Rattle.gate_rounds.specs.Singles.{Each, Listable, rooms};
@@ -209,6 +210,40 @@ fn scratched(p: Parameters, page: &mut [u8], k: usize, e: u8)
     page[k] = page[k] ^ e;
     let j = page::judge(p, page);
     check::expect(!member(j));
+}
+
+// Blocks a and b that differ in bit r of block i alone, which is y in a and x in b: the page of a, that bit made x, is the page of b, and
+// read out it gives b; made y again, it is the page of a.
+fn altered(
+    p: Parameters,
+    l: u32,
+    m: u32,
+    a: &[u8],
+    b: &[u8],
+    i: u32,
+    r: u32,
+    x: u32,
+    y: u32,
+    page: &mut [u8],
+    first: &mut [u8],
+    other: &mut [u8],
+    back: &mut [u8],
+)
+    requires { ⌜ Accepted p × Width l × Width m × Twins p (now a) (now b) i r x y × PageBuffer p (now page) × PageBuffer p (now first)
+        × PageBuffer p (now other) × BlocksBuffer p (now back) ⌝ }
+{
+    put(p, l, a, page);
+    put(p, m, a, first);
+    put(p, m, b, other);
+    let to = alter::alter(p, page, i, r, x);
+    check::expect(done(to));
+    check::expect(check::same(page, other));
+    let v = page::read_out(p, page, back);
+    check::expect(member(v));
+    check::expect(check::same(back, b));
+    let from = alter::alter(p, page, i, r, y);
+    check::expect(done(from));
+    check::expect(check::same(page, first));
 }
 
 // ---- many pages in one call
@@ -420,6 +455,32 @@ fn erased_rooms(p: Parameters, x: &[u8], k: usize)
     erased(p, 17, x, &mut blocks[..k], &mut again[..n], &old[..n]);
 }
 
+// And blocks a and b that differ in one bit.
+fn altered_rooms(p: Parameters, a: &[u8], b: &[u8], i: u32, r: u32, x: u32, y: u32, n: usize)
+    requires { ⌜ Accepted p × Twins p (now a) (now b) i r x y × (n ≡ pageBytes p) × (length (now a) ≤ 64) × (n ≤ 64) ⌝ }
+{
+    let k = a.len();
+    let mut page = [0x00u8; 64];
+    let mut first = [0xffu8; 64];
+    let mut other = [0x55u8; 64];
+    let mut back = [0xaau8; 64];
+    altered(
+        p,
+        8,
+        33,
+        a,
+        b,
+        i,
+        r,
+        x,
+        y,
+        &mut page[..n],
+        &mut first[..n],
+        &mut other[..n],
+        &mut back[..k],
+    );
+}
+
 // The laws on blocks a and b and on any page x. Is it a member?
 fn holds(p: Parameters, a: &[u8], b: &[u8], x: &[u8]) -> bool
     requires { ⌜ Accepted p × Apt p (now a) × Apt p (now b) × IsPage p (now x) × (length (now a) ≤ 1024) × (length (now x) ≤ 1024)
@@ -486,8 +547,73 @@ fn boards() {
     three_rooms(p, 33, &blocks, 1020, 1024);
 }
 
+// One bit of the blocks of some sheets: in the first block its last bit, in a middle one, and in the last.
+fn bits() {
+    // sheet A
+    let p = Parameters {
+        q: 4,
+        m: 2,
+        v: 1,
+        t0: 1,
+        t1: 2,
+        t2: 0,
+        t3: 0,
+        s: 0,
+    };
+    let a = [0x02u8, 0x01, 0x00];
+    let mut b = a;
+    b[0] = b[0] ^ 0x40;
+    altered_rooms(p, &a, &b, 0, 6, 1, 0, 4);
+    // sheet B
+    let p = Parameters {
+        q: 4,
+        m: 3,
+        v: 2,
+        t0: 1,
+        t1: 2,
+        t2: 3,
+        t3: 0,
+        s: 0,
+    };
+    let a = [0x00u8, 0x08, 0x01, 0x00];
+    let mut b = a;
+    b[1] = b[1] ^ 0x08;
+    altered_rooms(p, &a, &b, 1, 3, 0, 1, 6);
+    // sheet A with s 3
+    let p = Parameters {
+        q: 4,
+        m: 2,
+        v: 1,
+        t0: 1,
+        t1: 2,
+        t2: 0,
+        t3: 0,
+        s: 3,
+    };
+    let a = [0x02u8, 0x01];
+    let mut b = a;
+    b[1] = b[1] ^ 0x80;
+    altered_rooms(p, &a, &b, 1, 7, 1, 0, 4);
+    // q = 8
+    let p = Parameters {
+        q: 8,
+        m: 2,
+        v: 1,
+        t0: 1,
+        t1: 2,
+        t2: 0,
+        t3: 0,
+        s: 0,
+    };
+    let a = [0x06u8; 61];
+    let mut b = a;
+    b[40] = b[40] ^ 0x10;
+    altered_rooms(p, &a, &b, 1, 84, 1, 0, 64);
+}
+
 fn main() {
     boards();
+    bits();
     // the requirement's sheet A, with its member C2 01 13 00, its page of a failing nested word and its erased pages
     let p = Parameters {
         q: 4,

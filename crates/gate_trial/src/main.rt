@@ -1,8 +1,10 @@
 // Runs the calls on records from standard input and writes what they give.
 //   record   36 bytes: call, q, m, v, t0 to t3, index, second index, width, 0, page length, buffer length (two bytes each, low first), u,
 //            count (eight bytes each), s (four); then the page's bytes, for a writing the blocks', for a feeding the register's 96.
-//            A writing of many pages has their number in count, the length of all in the buffer's length, and the list's in u
-//   answer   the refusal's number or 0, then what the call gives, and the lent buffer whole, of many pages that and the list;
+//            A writing of many pages has their number in count, the length of all in the buffer's length, and the list's in u; an alteration
+//            the block and the bit in the lower and the upper four bytes of u, and the value in count
+//   answer   the refusal's number or 0, then what the call gives, and the lent buffer whole, of many pages that and the list, of an
+//            alteration the page;
 //            of a verdict 0, 32 or 64, then the word's index; 96 for blank
 use code::Nesting;
 use code::Outcome;
@@ -282,6 +284,12 @@ fn many_call(
     io::write_all(STDOUT_FILENO, list);
 }
 
+// One bit of the page.
+fn alter_call(p: Parameters, page: &mut [u8], block: u32, bit: u32, value: u32) {
+    let r = alter::alter(p, page, block, bit, value);
+    put_bytes(r, page);
+}
+
 // Those that give syndromes, and the quote.
 fn list_call(call: u8, p: Parameters, page: &[u8], i: usize, list: &mut [u16]) {
     if call == 14 {
@@ -337,7 +345,7 @@ fn byte(h: &[u8], k: usize) -> u32 {
     0
 }
 
-fn run(h: &[u8], page: &[u8], size: usize) {
+fn run(h: &[u8], page: &mut [u8], size: usize) {
     if h.len() < 36 {
         return;
     }
@@ -393,6 +401,15 @@ fn run(h: &[u8], page: &[u8], size: usize) {
             page,
             size,
             (u % 65536) as usize,
+        );
+    }
+    if call == 16 {
+        alter_call(
+            p,
+            page,
+            (u % 4294967296) as u32,
+            (u / 4294967296 % 4294967296) as u32,
+            (count % 4294967296) as u32,
         );
     }
 }

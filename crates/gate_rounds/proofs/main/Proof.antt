@@ -10,6 +10,9 @@ use Rattle.gate_rounds.proofs.main.Tie as tie
 boards-requires : tie.Need-boards-requires
 boards-requires c κs = search needs
 
+bits-requires : tie.Need-bits-requires
+bits-requires c κs = search needs
+
 slice-aggregate-holds : tie.Need-slice-aggregate-holds
 slice-aggregate-holds c = search needs
 
@@ -171,6 +174,7 @@ main-spec =
     tie.close
     (tie.spec
     boards-requires
+    bits-requires
     slice-aggregate-holds
     slice-aggregate-holds-2
     slice-aggregate-holds-3
