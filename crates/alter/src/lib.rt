@@ -266,7 +266,7 @@ fn keep(p: Parameters, page: &[u8]) -> Outcome
     ensures { λ o. ⌜ o ≡ unlessBlank (blank p (now (page .entry))) ⌝ }
 {
     if layout::page_blank(p, page) {
-        return Outcome::Refused(13);
+        return Outcome::Refused(13u8);
     }
     Outcome::Done
 }

@@ -30,20 +30,6 @@ page-is c =
     let l = zeros-length _ 4096 (fit n) in
     copied (s .args .page .now) _ _ (λ j. n .before .before .slice-known .given j .fits) (λ j. c .slice-known2 .given j .fits) (c .before .sum .given ∙ l) l (q .copy-up .ensures)
 
--- and the sum
-sum-is : (c : tie.After-slice-known4) → (let q = c .before .before in let s = q .before .before .before .before .before .before .before .before .before .before .before .before .before .before .before in
-    q .add-words .last .1 .0 ≡ add (s .args .page .now) (pageOf (s .args .p) (oneBit (s .args .p) (s .args .i) (s .args .r))))
-sum-is c =
-    let q = c .before .before in
-    let t = q .before .before .before .before in
-    let k = t .before .before in
-    let n = k .before .before .before .before .before .before in
-    let s = n .before .before .before in
-    let a = s .args in
-    let g = s .pre in
-    spread-sum (a .p) (g .accepts) (a .i) (a .r) (g .block) (g .bit) (a .page .now) (is n) (a .q) (a .short .now) _ _ (a .e) (value 8 (a .y .now)) (g .sheet) (g .shorted) (g .placed) (g .remains)
-    (rw (page-is k) at (t .add-at .ensures)) (q .add-words .ensures)
-
 array-borrow-prefix-room : tie.Need-array-borrow-prefix-room
 array-borrow-prefix-room c = fit c
 
@@ -62,7 +48,7 @@ add-at-requires c κs =
     let g = s .pre in (
       g .accepts,
       rw (page-is k) (g .page-exact),
-      g .block,
+      omega (arith, g .block),
       rw (g .placed) (bit-high (a .p) (g .accepts) (a .i) (a .r) (g .block) (g .bit) (a .page .now) (is n)),
       rw (g .remains) (below-stored (a .p) (g .accepts) (a .i) (a .r) (g .block) (g .bit) (a .page .now) (is n)),
     )
@@ -89,6 +75,20 @@ page-blank-requires c κs =
 
 same-length : tie.Need-same-length
 same-length c = search needs
+
+-- and the sum
+sum-is : (c : tie.After-slice-known4) → (let q = c .before .before in let s = q .before .before .before .before .before .before .before .before .before .before .before .before .before .before .before in
+    q .add-words .last .1 .0 ≡ add (s .args .page .now) (pageOf (s .args .p) (oneBit (s .args .p) (s .args .i) (s .args .r))))
+sum-is c =
+    let q = c .before .before in
+    let t = q .before .before .before .before in
+    let k = t .before .before in
+    let n = k .before .before .before .before .before .before in
+    let s = n .before .before .before in
+    let a = s .args in
+    let g = s .pre in
+    spread-sum (a .p) (g .accepts) (a .i) (a .r) (g .block) (g .bit) (a .page .now) (is n) (a .q) (a .short .now) _ _ (a .e) (value 8 (a .y .now)) (g .sheet) (g .shorted) (g .placed) (g .remains)
+    (rw (page-is k) at (t .add-at .ensures)) (q .add-words .ensures)
 
 returns : tie.Need-returns
 returns c =

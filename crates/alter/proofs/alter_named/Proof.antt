@@ -1,5 +1,5 @@
 use borrow.Author.Needs.{needs}
-use mathlib.Core.Path.{ap, sym, _∙_}
+use mathlib.Core.Path.{ap, _∙_}
 use native.Mathlib.Omega.{arith}
 use Prim.Native.Nat.{ℕ, _+_, _<_}
 use Rattle.code.specs.Layout.{coefficientOf}
@@ -46,8 +46,8 @@ returns c =
     let k = q .before .before in
     let s = k .before .before .before in
     let a = s .args in
-    kept-altered (a .p) (s .pre .0) (a .page .now) (a .i) (a .r) (a .b) (s .pre .3) (c .keep .result)
-    (sym (q .coefficient-at .ensures ∙ ap (λ (n : ℕ). coefficientOf (a .p) (a .page .now) (a .i) (n + (a .r))) (k .check-bits .ensures)) ∙ h .if1 .taken) (c .keep .ensures)
+    let e = q .coefficient-at .ensures ∙ ap (λ (n : ℕ). coefficientOf (a .p) (a .page .now) (a .i) (n + (a .r))) (k .check-bits .ensures) in
+    kept-altered (a .p) (s .pre .0) (a .page .now) (a .i) (a .r) (a .b) (s .pre .3) (c .keep .result) (omega (arith, e, h .if1 .taken)) (c .keep .ensures)
 
 add-bit-requires : tie.Need-add-bit-requires
 add-bit-requires c κs =

@@ -75,7 +75,7 @@ loop-again c =
     let l = h .before in
     let s = l .before .before .before .before .before .before .before .before .before .before .before .before .before .before .before .before in
     let a = s .args in
-    built-next (a .p) (s .pre .0) (a .i) (value 8 (a .d .now)) (s .pre .4) (s .pre .5) (l .loop .j) _ _ _ _ _ _ (l .loop .inv) (h .loop-test .taken) (q .carried-word .ensures) (t .t2 .given) (c .before .acc2 .given)
+    built-next (a .p) (s .pre .0) (a .i) (value 8 (a .d .now)) (s .pre .4) (s .pre .5) (l .loop .j) _ _ _ _ _ _ (l .loop .inv) (omega (arith, h .loop-test .taken)) (q .carried-word .ensures) (t .t2 .given) (c .before .acc2 .given)
 
 same-length : tie.Need-same-length Inv-loop μ-loop
 same-length c =
