@@ -65,8 +65,8 @@ returns-2 c =
     let k = q .before .before in
     let s = k .before .before .before in
     let a = s .args in
-    added-altered (a .p) (s .pre .0) (a .page .now) (a .i) (a .r) (a .b) (s .pre .3) _ (d .add-bit .result)
-    (λ e. h .if1 .left (q .coefficient-at .ensures ∙ ap (λ (n : ℕ). coefficientOf (a .p) (a .page .now) (a .i) (n + (a .r))) (k .check-bits .ensures) ∙ e)) (d .add-bit .ensures)
+    let e = q .coefficient-at .ensures ∙ ap (λ (n : ℕ). coefficientOf (a .p) (a .page .now) (a .i) (n + (a .r))) (k .check-bits .ensures) in
+    added-altered (a .p) (s .pre .0) (a .page .now) (a .i) (a .r) (a .b) (s .pre .3) _ (d .add-bit .result) (λ g. h .if1 .left (omega (arith, e, g))) (d .add-bit .ensures)
 
 pub alter-named-spec : {M : Type 1} → statement M
 alter-named-spec =
