@@ -19,13 +19,12 @@ use Rattle.polynomial.specs.Xor.{xor, xor-zero-l, xors}
 use Rattle.code.specs.declared.Parameters.{Parameters}
 use Rattle.code.specs.Accepted.{accepted, stored-room}
 use Rattle.code.specs.Alter.{alone, alone-words, unit-page, unit-words, units, units-are}
-use Rattle.code.specs.Code.{degree}
 use Rattle.code.specs.Layout.{IsPage, dataBits, oneBit, oneBlock, pageBytes, pageClear, pageOf, single, wordsOf}
 use Rattle.code.specs.Pages.{join-words, page-length, sum-is-page, sum-words, whole, word-lt, words-many}
 use Rattle.code.specs.Parameters.{Accepted, stored, subWordBytes}
 use Rattle.code.specs.Placement.{data-room, single-at, single-else, word-at}
 use Rattle.layout.specs.Parts.{page-parts, word-room}
-use Rattle.layout.specs.Replaced.{replaced, replaced-after, replaced-before, replaced-length, replaced-part}
+use Rattle.layout.specs.Replaced.{replaced-after, replaced-before, replaced-length, replaced-part}
 use Rattle.layout.specs.SubWords.{part-same}
 use Rattle.layout.specs.SubWords as S
 use Rattle.encode.specs.Encoding.{written}

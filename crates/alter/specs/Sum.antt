@@ -31,12 +31,6 @@ pub record Added (p : Parameters) (x u after : List ℕ) (o : Outcome) : Type 0 
 abbrev Bounded8 : List ℕ → Type 0
 Bounded8 l = (i : ℕ) → getD l i 0 < 2 ^ 8
 
--- bytes are known by their number
-same-bytes : (x y : List ℕ) → Bounded8 x → Bounded8 y → length x ≡ length y → value 8 x ≡ value 8 y → x ≡ y
-same-bytes x y b c e f =
-    sym (digits-value 8 x (at-all (λ d. d < 2 ^ 8) x (λ i h. b i))) ∙ ap₂ (digits 8) e f
-    ∙ digits-value 8 y (at-all (λ d. d < 2 ^ 8) y (λ i h. c i))
-
 -- a number that is not moved up, and not cut
 pub no-shift : (v n : ℕ) → v < 2 ^ n → v * 2 ^ 0 % 2 ^ n ≡ v
 no-shift v n h = ap (λ (d : ℕ). d % 2 ^ n) (Nat.mul-one v) ∙ Nat.mod-eq-of-lt h
@@ -45,8 +39,9 @@ no-shift v n h = ap (λ (d : ℕ). d % 2 ^ n) (Nat.mul-one v) ∙ Nat.mod-eq-of-
 pub copied : (y z : List ℕ) (n : ℕ) → Bounded8 y → Bounded8 z → length z ≡ length y → n ≡ length y
     → value 8 z ≡ value 8 y * 2 ^ 0 % 2 ^ (8 * n) → z ≡ y
 copied y z n b c e l v =
-    same-bytes z y c b e
-    (v ∙ no-shift (value 8 y) (8 * n) (rw l (value-lt 8 y b)))
+    sym (digits-value 8 z (at-all (λ d. d < 2 ^ 8) z (λ i h. c i)))
+    ∙ ap₂ (digits 8) e (v ∙ no-shift (value 8 y) (8 * n) (rw l (value-lt 8 y b)))
+    ∙ digits-value 8 y (at-all (λ d. d < 2 ^ 8) y (λ i h. b i))
 
 pub added-blank : (p : Parameters) (x u y : List ℕ) → y ≡ add x u → true ≡ blank p y → Added p x u x (Outcome.Refused 13)
 added-blank p x u y e b =

@@ -25,7 +25,7 @@ use Rattle.layout.specs.Parts.{word-room}
 use Rattle.layout.specs.Replaced.{replaced, replaced-after, replaced-before, replaced-length, replaced-part}
 use Rattle.layout.specs.Sizes.{Degrees, shifted, word-high}
 use Rattle.encode.specs.Carried.{roomBytes, zero-value}
-use Rattle.encode.specs.Encoding.{wordAlone, wordFrom, wordOf, written}
+use Rattle.encode.specs.Encoding.{wordAlone, wordFrom, written}
 use Rattle.encode.specs.Page.{Encoded, encoded-all, encoded-next}
 
 pub record Making (p : Parameters) (rows : List (List ℕ)) (w unit t : List ℕ) : Type 0 where

@@ -19,7 +19,7 @@ use Rattle.polynomial.specs.Bits.{coefficient}
 use Rattle.polynomial.specs.Coefficients.{beyond, coefficient-xor}
 use Rattle.polynomial.specs.Digits.{digits, digits-value, value}
 use Rattle.polynomial.specs.Division.{rem-lt, rem-zero, xor-lt}
-use Rattle.polynomial.specs.Sums.{All, add, add-at, all-at, all-drop, all-take, length-add}
+use Rattle.polynomial.specs.Sums.{All, add, add-at, all-at, all-drop, all-take}
 use Rattle.polynomial.specs.Xor.{bit-ind, dbl-half, dbl-odd, xor, xor-cancel, xor-is, xor-self, xor-zero-l, xor-zero-r}
 use Rattle.field.specs.Bch.{weight, weight-eq, weight-zero}
 use Rattle.field.specs.Fields.{fieldOf}
@@ -28,7 +28,7 @@ use Rattle.code.specs.Accepted.{Rules, lawful, stored-le}
 use Rattle.code.specs.Bursts.{combine-none}
 use Rattle.code.specs.Chains.{either, exact-none, exact-of, given, last, neither, off, off′, or-assoc, or-le, or-none, or-second, past, unless, when-le}
 use Rattle.code.specs.Code.{carried, checkBits, checked, degree, distance, encode, encodeFrom, gen, level, remainder}
-use Rattle.code.specs.Distance.{Passing, nonzeros, pageWeight, weight-member}
+use Rattle.code.specs.Distance.{nonzeros, pageWeight, weight-member}
 use Rattle.code.specs.Encode.{encode-member}
 use Rattle.code.specs.Layout.{Bytes, Fits, IsPage, altered, bitFrom, blank, blockBit, blockOffset, blockSizes, blocksOf}
 use Rattle.code.specs.Layout.{coefficientOf, dataBits, oneBit, oneBlock, pageBytes, pageClear, pageOf, single, wordsOf}

@@ -96,6 +96,14 @@ bytes-burst p x y i o l c w same j k h b d = (
     run = same-run (subWordBytes p) i j o l (k / 8) (omega arith) c (from (decLe _ _)) (to (decLe _ _))
 
 module _ (p : Parameters) (R : Rules p) where
+  -- a page has two sub-words at least: besides i there is another
+  pub another : (i : ℕ) → ((j : ℕ) → j < p .m → j ≢ i → ⊥) → ⊥
+  another i clash = go (ℕ-discrete i 0)
+    where
+      go : Dec (i ≡ 0) → ⊥
+      go (yes s) = clash 1 (omega (arith, R .v-low, R .m-low)) (λ e. Nat.suc-ne-zero 0 (e ∙ s))
+      go (no s) = clash 0 (omega (arith, R .v-low, R .m-low)) (λ e. s (sym e))
+
   -- every generator divides x^n + 1
   pub cyclic : (a : ℕ) → Divides p a (2 ^ len p + 1)
   cyclic a = rw (gen-eq p a, degree-eq p a, ← n-is p R) (generator-cyclic (fieldOf (p .q)) (strength p a))
@@ -239,20 +247,13 @@ module _ (p : Parameters) (R : Rules p) where
 
       -- there is another sub-word
       pub single-unblank : ¬ IsBlank p (singlePage p i c)
-      single-unblank o = go (ℕ-discrete i 0)
+      single-unblank o = another i clash
         where
-          m-two : 1 < p .m
-          m-two = omega (arith, R .v-low, R .m-low)
-
           clash : (j : ℕ) → j < p .m → j ≢ i → ⊥
           clash j h s =
               let r : 0 < stored p = omega (arith, stored-room p R 0 zero-le) in
               let z : _≡_ {A = ℕ} 0 1 = sym (single-bit j 0 h r ∙ ap (λ (f : ℕ). coefficient f 0) (single-else p i c j h s)) ∙ o j 0 h r in
               Nat.suc-ne-zero 0 (sym z)
-
-          go : Dec (i ≡ 0) → ⊥
-          go (yes s) = clash 1 m-two (λ e. Nat.suc-ne-zero 0 (e ∙ s))
-          go (no s) = clash 0 (omega arith) (λ e. s (sym e))
 
   -- ---- g_v moved up to x^a
   module _ (i a : ℕ) (l : i < p .m) (b : a + degree p (p .v) < stored p) where

@@ -174,7 +174,7 @@ same (c ∷ cs) (d ∷ ds) e z = go (xor c d) refl z (same cs ds (Nat.suc-inj e)
     go zero p z ih = ap₂ _∷_ (xor-eq-zero c d p) (ih z)
     go (suc x) p z ih = absurd (Nat.suc-ne-zero (nonzeros (add cs ds)) z)
 
-add-lt : (n : ℕ) (cs ds : List ℕ) → All (λ c. c < 2 ^ n) cs → All (λ c. c < 2 ^ n) ds → All (λ c. c < 2 ^ n) (add cs ds)
+pub add-lt : (n : ℕ) (cs ds : List ℕ) → All (λ c. c < 2 ^ n) cs → All (λ c. c < 2 ^ n) ds → All (λ c. c < 2 ^ n) (add cs ds)
 add-lt n [] ds a b = b
 add-lt n (c ∷ cs) [] a b = a
 add-lt n (c ∷ cs) (d ∷ ds) a b = (xor-lt n c d (a .0) (b .0), add-lt n cs ds (a .1) (b .1))

@@ -20,6 +20,7 @@ use Rattle.code.specs.Encode as E
 use Rattle.code.specs.Accepted.{Rules, lawful, stored-room}
 use Rattle.code.specs.Bytes.{Small, bytes-join, join-add, join-split, length-join, length-split, split-join}
 use Rattle.code.specs.Code.{dataFrom, dataWords, degree, encode}
+use Rattle.code.specs.Distance.{add-lt}
 use Rattle.code.specs.Encode.{Sized, data-encode, data-fits, encode-add, encode-length, encode-lt}
 use Rattle.code.specs.Layout.{Fits, IsPage, blockBits, blockSizes, blocksClear, blocksOf}
 use Rattle.code.specs.Layout.{dataBits, dataBytes, dataOf, pageBytes, pageClear, pageOf, storedOf, wordSizes, wordsOf}
@@ -102,11 +103,6 @@ all-small n k zero [] l e h = tt
 all-small n k zero (c ∷ cs) l e h = absurd (Nat.suc-ne-zero (length cs) e)
 all-small n k (suc m) [] l e h = absurd (Nat.suc-ne-zero m (sym e))
 all-small n k (suc m) (c ∷ cs) l e h = (Nat.lt-of-lt-of-le (h .0) (pow-mono l), all-small n k m cs l (Nat.suc-inj e) (h .1))
-
-all-add : (n : ℕ) (cs ds : List ℕ) → All (λ c. c < 2 ^ n) cs → All (λ c. c < 2 ^ n) ds → All (λ c. c < 2 ^ n) (add cs ds)
-all-add n [] ds a b = b
-all-add n (c ∷ cs) [] a b = a
-all-add n (c ∷ cs) (d ∷ ds) a b = (xor-lt n c d (a .0) (b .0), all-add n cs ds (a .1) (b .1))
 
 pub record IsWords (p : Parameters) (cs : List ℕ) : Type 0 where
   pub many : length cs ≡ p .m
@@ -239,7 +235,7 @@ module _ (p : Parameters) (R : Rules p) where
     both-words : IsWords p (add (wordsOf p x) (wordsOf p y))
     both-words = record {
       many = length-add (wordsOf p x) (wordsOf p y) (words-many p x ∙ sym (words-many p y)) ∙ words-many p x;
-      below = all-add (stored p) (wordsOf p x) (wordsOf p y) (page-words x h .below) (page-words y j .below);
+      below = add-lt (stored p) (wordsOf p x) (wordsOf p y) (page-words x h .below) (page-words y j .below);
     }
 
     pub sum-is-page : IsPage p (add x y)

@@ -34,7 +34,7 @@ use Rattle.code.specs.Alter.{data-here, data-there, set-alone, set-here,
 use Rattle.code.specs.Blank.{blank-iff, blank-stays, page-ones}
 use Rattle.code.specs.Buffers.{bytes-at, divides-up, divisor-deg, divisor-degree, divisor-times, length-syndromes}
 use Rattle.code.specs.Buffers.{nested-back, remainder-back, row-back, short-back, short-differ, short-lt, syndromes-at}
-use Rattle.code.specs.Bursts.{apart-pages, apart-places, burst-same, bytes-burst, cyclic, moved-divides, moved-lt, others-same}
+use Rattle.code.specs.Bursts.{another, apart-pages, apart-places, burst-same, bytes-burst, cyclic, moved-divides, moved-lt, others-same}
 use Rattle.code.specs.Bursts.{single-has, single-is, single-passing, single-unblank, singlePage}
 use Rattle.code.specs.Calls.{Altered, Judged, QuoteMade, ReadOut, Written, WrittenMany, asBytes, empty, judgeAnswer, leaves}
 use Rattle.code.specs.Calls.{nestedOf, nestedSyndromeList, outcome, outcomeNumber, pagesBy, quote, statuses, subWordOf, syndromeList}
@@ -772,18 +772,14 @@ module _ (p : Parameters) (A : Accepted p) where
 
   -- the page of a single bit is not blank: there is another block, whose bits are 0
   bit-unblank : (i r : ℕ) → i < p .m → r < dataBits p i → ¬ IsBlank p (pageOf p (oneBit p i r))
-  bit-unblank i r l m o = go (ℕ-discrete i 0)
+  bit-unblank i r l m o = another p R i unequal
     where
-      clash : (j : ℕ) → j < p .m → j ≢ i → ⊥
-      clash j h s =
+      unequal : (j : ℕ) → j < p .m → j ≢ i → ⊥
+      unequal j h s =
           let d : 0 < dataBits p j = omega (arith, stored-room p R (p .v - j) (Nat.sub-le (p .v) j)) in
           let z : _≡_ {A = ℕ} 0 1 = sym (bit-none p R i r l m j 0 h d (inl s)) ∙ sym (written-bit p R (oneBit p i r) (bit-fits p R i r l m) j 0 h d)
           ∙ o j (checkBits p j + 0) h (data-room p R j 0 d) in
           Nat.suc-ne-zero 0 (sym z)
-
-      go : Dec (i ≡ 0) → ⊥
-      go (yes s) = clash 1 (omega (arith, R .v-low, R .m-low)) (λ e. Nat.suc-ne-zero 0 (e ∙ s))
-      go (no s) = clash 0 m-pos (λ e. s (sym e))
 
   alter-added : (L : ℕ) (x after c old unit : List ℕ) (i r b : ℕ) (w : Outcome) → Bytes x → Altered p x i r b after Outcome.Done
       → coefficientOf p x i (checkBits p i + r) ≢ b → SetTo p c i r 1 (λ j k. 0) → Width L → PageBuffer p old → Written p L c old unit w

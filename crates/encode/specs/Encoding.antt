@@ -8,7 +8,7 @@
 --   written p x i c                            the page x with c as sub-word i
 use mathlib.Core.Path.{_≡_, sym, ap, ap₂, _∙_}
 use mathlib.Core.List.{List}
-use Prim.Native.Nat.{ℕ, suc, _+_, _-_, _*_, _/_, _^_, _≤_, _<_, zero-le}
+use Prim.Native.Nat.{ℕ, suc, _+_, _-_, _*_, _/_, _^_, _≤_, _<_}
 use native.Mathlib.Nat as Nat
 use native.Mathlib.Omega.{arith}
 use lib.Bits.{xor-shifted}
@@ -20,7 +20,7 @@ use Rattle.polynomial.specs.Sums.{at-all}
 use Rattle.polynomial.specs.Xor.{xor, xor-is}
 use Rattle.code.specs.declared.Parameters.{Parameters}
 use Rattle.code.specs.Accepted.{accepted, lawful}
-use Rattle.code.specs.Code.{carried, checkBits, checked, degree, gen, level, remainder}
+use Rattle.code.specs.Code.{carried, checkBits, checked, gen, level, remainder}
 use Rattle.code.specs.Layout.{Fits, blockOffset, blocksClear, blocksOf, dataBits, dataBytes, pageBytes, wordsOf}
 use Rattle.code.specs.Pages.{blocks-blocks}
 use Rattle.code.specs.Parameters.{Accepted, subWordBytes}

@@ -10,10 +10,10 @@ use lib.ListN.{length, getD, take, drop}
 use Rattle.polynomial.specs.Digits.{digits, value}
 use Rattle.code.specs.declared.Parameters.{Parameters}
 use Rattle.code.specs.Accepted.{accepted}
-use Rattle.code.specs.Layout.{blockOffset, blockSizes, blocksOf, dataBits, dataBytes, pageBytes, wordSizes, wordsOf}
+use Rattle.code.specs.Layout.{blockOffset, blockSizes, blocksOf, dataBits, dataBytes, pageBytes, wordSizes}
 use Rattle.code.specs.Bytes.{split-at}
 use Rattle.code.specs.Lists.{join, sum}
-use Rattle.code.specs.Pages.{blocksOf-eq, length-blocks, length-sizes, wordsOf-eq}
+use Rattle.code.specs.Pages.{blocksOf-eq, length-blocks, length-sizes}
 use Rattle.code.specs.Parameters.{Accepted, subWordBytes}
 use Rattle.code.specs.Placement.{block-size, offset-eq, offset-replicate, page-size}
 use Rattle.layout.specs.Runs.{join-parts, sum-all, sum-le, sum-next, sum-none}

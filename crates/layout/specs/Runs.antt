@@ -21,7 +21,7 @@ use Rattle.polynomial.specs.Sums.{all-drop, all-take, at-all}
 use Rattle.code.specs.Blank.{low-ones, ones-low}
 use Rattle.code.specs.Chains.{both-ways, true-false}
 use Rattle.code.specs.Layout.{Bytes}
-use Rattle.code.specs.Lists.{fitsIn, join, onesIn, split, sum}
+use Rattle.code.specs.Lists.{fitsIn, join, onesIn, sum}
 
 -- ---- offsets
 pub sum-none : (ks : List ℕ) → sum (take 0 ks) ≡ 0

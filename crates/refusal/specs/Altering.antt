@@ -1,11 +1,11 @@
 -- The chain of alter: what its tests show, link by link, and what its end shows.
 --   bitRefusal p x i r b    the chain as far as it looks at what is lent: 13 is of the page afterwards
 use mathlib.Core.Path.{_≡_, refl, sym, ap, _∙_}
-use mathlib.Core.Bool.{Bool, true, false, not, _||_}
+use mathlib.Core.Bool.{true, false, not}
 use mathlib.Core.List.{List}
 use Prim.Native.Nat.{ℕ, _≤_, _<_}
 use native.Mathlib.Nat as Nat
-use lib.Dec.{T, leb, ltb}
+use lib.Dec.{leb}
 use lib.ListN.{length}
 use borrow.Author.Tests.{le-leb, lt-leb, leb-true, le-ltb, ltb-false, not-true, not-false}
 use Rattle.code.specs.declared.Outcome.{Outcome}

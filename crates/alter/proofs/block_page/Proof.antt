@@ -1,7 +1,7 @@
 use borrow.Author.Needs.{needs}
-use mathlib.Core.Path.{_≡_, sym, _∙_}
+use mathlib.Core.Path.{sym, _∙_}
 use native.Mathlib.Omega.{arith}
-use Prim.Native.Nat.{ℕ, _-_, _<_}
+use Prim.Native.Nat.{ℕ, _-_}
 use lib.ListN.{length-replicate}
 use Rattle.polynomial.specs.Digits.{value}
 use Rattle.alter.specs.Unit.{Built, built-next, built-start, room-high, unit-done, zeros-length}
