@@ -4,18 +4,19 @@
 --   evaluate q c a   the value c(a) of a word c, by Horner's rule
 --   syndrome q c j   S_j of a word c: c(α^j)
 --   sumBelow n f     f 0 + f 1 + .. + f (n - 1) in the field
+--   element B x      the element of the number x: the class of the polynomial x, which is its value at α
 use mathlib.Core.Path.{_≡_, refl, sym, ap, ap₂, _∙_}
 use mathlib.Core.Logic.{_≢_, _↔_}
-use Prim.Native.Nat.{ℕ, zero, suc, _-_, _*_, _/_, _%_, _^_, _<_}
+use Prim.Native.Nat.{ℕ, zero, suc, _+_, _-_, _*_, _/_, _%_, _^_, _<_}
 use native.Mathlib.Nat as N
 use native.Mathlib.Omega.{arith}
 use lib.Arith.{bin-ind}
 use Rattle.polynomial.specs.Bits.{fold, fold-step, coefficient}
-use Rattle.polynomial.specs.Clmul.{clmul, clmul-zero-r}
-use Rattle.polynomial.specs.Division.{rem}
+use Rattle.polynomial.specs.Clmul.{clmul, clmul-pow, clmul-zero-r, split-bit}
+use Rattle.polynomial.specs.Division.{rem, rem-zero, rem-small, rem-xor, rem-clmul-r}
 use Rattle.polynomial.specs.Xor.{xor, odd-ind}
-use Rattle.field.specs.Eval.{eval, eval-zero, eval-eq, eval-total, total, total-zero, total-suc, bit, bit0, bit1}
-use Rattle.field.specs.Field.{Field2, zero-mul, one-mul, pow, pow-zero, pow-suc, pow-mul}
+use Rattle.field.specs.Eval.{eval, eval-zero, eval-eq, eval-sq, eval-total, eval-xor, total, total-zero, total-suc, bit, bit0, bit1}
+use Rattle.field.specs.Field.{Field2, zero-mul, one-mul, pow, pow-zero, pow-suc, pow-add, pow-mul}
 use Rattle.field.specs.Fields.{BinaryField, Known, fieldOf, fieldPolynomial, fieldOf-polynomial, fieldOf-exponent, fieldOf-length}
 
 unfoldable pub times : ℕ → ℕ → ℕ → ℕ
@@ -40,7 +41,15 @@ unfolding xor
 sumBelow zero f = 0
 sumBelow (suc n) f = xor (sumBelow n f) (f n)
 
+unfoldable pub element : (B : BinaryField) → ℕ → B .field .K
+unfolding eval
+element B x = eval (B .field) x (B .α)
+
 -- ---- the defining equations
+pub element-eq : (B : BinaryField) (x : ℕ) → element B x ≡ eval (B .field) x (B .α)
+unfolding element
+element-eq B x = refl
+
 pub times-eq : (q a b : ℕ) → times q a b ≡ rem (fieldPolynomial q) q (clmul a b)
 unfolding times
 times-eq q a b = refl
@@ -122,6 +131,18 @@ module _ (q : ℕ) (known : Known q) where
   pub power-order : (k : ℕ) → 0 < k → k < 2 ^ q - 1 → power q k ≢ 1
   power-order k h l e = order k h (omega (arith, fieldOf-length q known)) (power-one k .0 e)
 
+  pub syndrome-xor : (c d j : ℕ) → syndrome q (xor c d) j ≡ xor (syndrome q c j) (syndrome q d j)
+  syndrome-xor c d j =
+      let x = pow field α j in
+      sym (syndrome-num (xor c d) j) ∙ ap num (eval-xor field c d x) ∙ num-add (eval field c x) (eval field d x) ∙ ap₂ xor (syndrome-num c j) (syndrome-num d j)
+
+  -- S_(j + j) is the square of S_j
+  pub square : (c j : ℕ) → times q (syndrome q c j) (syndrome q c j) ≡ syndrome q c (j + j)
+  square c j =
+      let x = pow field α j in
+      sym (ap₂ (times q) (syndrome-num c j) (syndrome-num c j)) ∙ sym (times-num (eval field c x) (eval field c x))
+      ∙ ap num (sym (eval-sq field c x) ∙ ap (eval field c) (sym (pow-add field α j j))) ∙ syndrome-num c (j + j)
+
   -- ---- a syndrome is the sum of c_k α^(j k)
   num-total : (n : ℕ) (f : ℕ → K) (g : ℕ → ℕ) → ((k : ℕ) → num (f k) ≡ g k) → num (total field n f) ≡ sumBelow n g
   num-total zero f g h = ap num (total-zero field f) ∙ num-zero ∙ sym (sumBelow-zero g)
@@ -139,3 +160,35 @@ module _ (q : ℕ) (known : Known q) where
       ∙ num-total n (λ k. bit field (coefficient c k) ⊗ pow field (pow field α j) k) (λ k. coefficient c k * power q (j * k))
       (λ k. bit-times (c / 2 ^ k) (pow field (pow field α j) k)
       ∙ ap (λ (y : ℕ). coefficient c k * y) (ap num (sym (pow-mul field α j k)) ∙ power-num (j * k)))
+
+-- ---- the element of a number: for a number below 2^q the one way back
+module _ (B : BinaryField) where
+  open BinaryField B using (field, q, poly, degree, num, num-lt, num-inj, num-zero, num-one, num-add, num-mul, α, num-α)
+  open Field2 (B .field) using (K, 𝟘, 𝟙, _⊕_, _⊗_)
+
+  infixl 65 _⊕_
+  infixl 70 _⊗_
+  small-bit : (n : ℕ) → rem poly q (n % 2) ≡ num (bit field (n % 2))
+  small-bit n =
+      odd-ind (λ (c : ℕ). rem poly q c ≡ num (bit field c)) (rem-zero poly q ∙ sym (ap num (bit0 field) ∙ num-zero))
+      (rem-small poly q degree 1 (rw num-one at (num-lt 𝟙)) ∙ sym (ap num (bit1 field) ∙ num-one)) n
+
+  pub num-element : (x : ℕ) → num (element B x) ≡ rem poly q x
+  num-element x =
+      ap num (element-eq B x) ∙ bin-ind (λ (n : ℕ). num (eval field n α) ≡ rem poly q n) (ap num (eval-zero field α) ∙ num-zero ∙ sym (rem-zero poly q))
+      (λ n ih. ap num (eval-eq field n α) ∙ num-add (bit field (n % 2)) (α ⊗ eval field (n / 2) α)
+      ∙ ap₂ xor (sym (small-bit n)) (num-mul α (eval field (n / 2) α) ∙ ap₂ (λ (u v : ℕ). rem poly q (clmul u v)) num-α ih ∙ rem-clmul-r poly q degree 2 (n / 2))
+      ∙ sym (rem-xor poly q degree (n % 2) (clmul 2 (n / 2))) ∙ ap (rem poly q) (ap (xor (n % 2)) (clmul-pow 1 (n / 2)) ∙ split-bit n)) x
+
+  pub element-num : (a : K) → element B (num a) ≡ a
+  element-num a = num-inj (element B (num a)) a (num-element (num a) ∙ rem-small poly q degree (num a) (num-lt a))
+
+  pub num-of : (x : ℕ) → x < 2 ^ q → num (element B x) ≡ x
+  num-of x h = num-element x ∙ rem-small poly q degree x h
+
+  pub element-zero : element B 0 ≡ 𝟘
+  element-zero = element-eq B 0 ∙ eval-zero field α
+
+pub element-syndrome : (q : ℕ) → Known q → (c j : ℕ) → element (fieldOf q) (syndrome q c j) ≡ eval (fieldOf q .field) c (pow (fieldOf q .field) (fieldOf q .α) j)
+element-syndrome q h c j =
+    ap (element (fieldOf q)) (sym (syndrome-num q h c j)) ∙ element-num (fieldOf q) (eval (fieldOf q .field) c (pow (fieldOf q .field) (fieldOf q .α) j))

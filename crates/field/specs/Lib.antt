@@ -4,6 +4,7 @@ pub mod Eval
 pub mod Vandermonde
 pub mod Roots
 pub mod Bch
+pub mod Flips
 pub mod Irreducible
 pub mod Extension
 pub mod Fields

@@ -51,7 +51,7 @@ module _ (F : Field2) where
   divide r x c [] = simp (value-cons, value-nil, ring)
   divide r x c (d ∷ l) = divide-step r x c d l (divide r x d l)
 
-  value-zeros : (l : List K) (x : K) → Zeros l → value l x ≡ 𝟘
+  pub value-zeros : (l : List K) (x : K) → Zeros l → value l x ≡ 𝟘
   value-zeros [] x z = value-nil x
   value-zeros (c ∷ l) x z = simp (value-cons, z .0, value-zeros l x (z .1), ring)
 

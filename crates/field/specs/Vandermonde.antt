@@ -34,10 +34,10 @@ module _ (F : Field2) where
   Distinct (p ∷ l) = All (λ q. q .0 ≢ p .0) l × Distinct l
 
   -- one node taken out
-  abbrev less : K → K × K → K × K
+  abbrev pub less : K → K × K → K × K
   less x p = (p .0, p .1 ⊗ (p .0 ⊕ x))
 
-  sum-less : (x : K) (l : List (K × K)) (j : ℕ) → sum (map (less x) l) j ≡ sum l (suc j) ⊕ x ⊗ sum l j
+  pub sum-less : (x : K) (l : List (K × K)) (j : ℕ) → sum (map (less x) l) j ≡ sum l (suc j) ⊕ x ⊗ sum l j
   sum-less x [] j = simp (sum-nil, ring)
   sum-less x (p ∷ l) j = simp (sum-cons, sum-less x l j, pow-suc, ring)
 
@@ -53,7 +53,7 @@ module _ (F : Field2) where
   back x [] h z = tt
   back x (p ∷ l) h z = (mul-eq-zero F (p .1) (p .0 ⊕ x) (z .0) (λ e. h .0 (add-eq-zero F (p .0) x e)), back x l (h .1) (z .1))
 
-  sum-zero : (l : List (K × K)) (j : ℕ) → All (λ q. q .1 ≡ 𝟘) l → sum l j ≡ 𝟘
+  pub sum-zero : (l : List (K × K)) (j : ℕ) → All (λ q. q .1 ≡ 𝟘) l → sum l j ≡ 𝟘
   sum-zero [] j h = sum-nil j
   sum-zero (p ∷ l) j h = simp (sum-cons, h .0, sum-zero l j (h .1), ring)
 

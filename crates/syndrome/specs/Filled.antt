@@ -7,10 +7,8 @@ use native.Mathlib.Nat as Nat
 use native.Mathlib.Omega.{arith}
 use lib.ListN.{length, getD, set, length-map}
 use lib.Seq.{ext-getD}
-use Rattle.field.specs.Elements.{times, times-num, syndrome, syndrome-num, syndrome-lt}
-use Rattle.field.specs.Eval.{eval, eval-sq}
-use Rattle.field.specs.Field.{pow, pow-add}
-use Rattle.field.specs.Fields.{Known, fieldOf}
+use Rattle.field.specs.Elements.{times, square, syndrome, syndrome-lt}
+use Rattle.field.specs.Fields.{Known}
 use Rattle.element.specs.Fields.{size-most}
 use Rattle.code.specs.Lists.{range}
 use Rattle.code.specs.Pages.{length-range}
@@ -18,14 +16,6 @@ use Rattle.code.specs.Placement.{first-more, getD-map-range}
 
 abbrev pub Begun : ℕ → ℕ → ℕ → List ℕ → Type 0
 Begun q c k l = (i : ℕ) → i < k → getD l i 0 ≡ syndrome q c (i + 1)
-
--- S_(j + j) is the square of S_j
-pub square : (q : ℕ) → Known q → (c j : ℕ) → times q (syndrome q c j) (syndrome q c j) ≡ syndrome q c (j + j)
-square q h c j =
-    let F = fieldOf q .field in
-    let x = pow F (fieldOf q .α) j in
-    sym (ap₂ (times q) (syndrome-num q h c j) (syndrome-num q h c j)) ∙ sym (times-num q h (eval F c x) (eval F c x))
-    ∙ ap (fieldOf q .num) (sym (eval-sq F c x) ∙ ap (eval F c) (sym (pow-add F (fieldOf q .α) j j))) ∙ syndrome-num q h c (j + j)
 
 pub even-is : (q : ℕ) → Known q → (c i : ℕ) (l : List ℕ) → Begun q c i l → (i % 2 ≡ 0 → ⊥)
     → times q (getD l (i / 2) 0) (getD l (i / 2) 0) ≡ syndrome q c (i + 1)
