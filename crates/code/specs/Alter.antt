@@ -16,13 +16,14 @@ use lib.Dec.{T, eqb, leb, ltb, eqb→eq, eqb-refl, leb→le, ltb→lt, lt→ltb,
 use lib.ListN.{length, getD, take, drop, length-take, length-drop}
 use lib.Pow.{pow-add, pow-lt, pow-mono, pow-pos}
 use Rattle.polynomial.specs.Bits.{coefficient}
-use Rattle.polynomial.specs.Coefficients.{beyond, coefficient-xor}
+use Rattle.polynomial.specs.Coefficients.{beyond, coefficient-xor, pow-bit, pow-bits}
 use Rattle.polynomial.specs.Digits.{digits, digits-value, value}
 use Rattle.polynomial.specs.Division.{rem-lt, rem-zero, xor-lt}
 use Rattle.polynomial.specs.Sums.{All, add, add-at, all-at, all-drop, all-take}
 use Rattle.polynomial.specs.Xor.{bit-ind, dbl-half, dbl-odd, xor, xor-cancel, xor-is, xor-self, xor-zero-l, xor-zero-r}
 use Rattle.field.specs.Bch.{weight, weight-eq, weight-zero}
 use Rattle.field.specs.Fields.{fieldOf}
+use Rattle.field.specs.Flips.{weight-pow, weight-xor}
 use Rattle.code.specs.declared.Parameters.{Parameters}
 use Rattle.code.specs.Accepted.{Rules, lawful, stored-le}
 use Rattle.code.specs.Bursts.{combine-none}
@@ -35,7 +36,7 @@ use Rattle.code.specs.Layout.{coefficientOf, dataBits, oneBit, oneBlock,
 use Rattle.code.specs.Lists.{_orElse_, _when_, addBelow, join, lastRefusal}
 use Rattle.code.specs.Pages.{IsWords, page-has, page-is, page-words, sum-fits, sum-is-page, sum-page, sum-words, words-many}
 use Rattle.code.specs.Parameters.{Accepted, len, sheetRefusal, stored, subWordBytes}
-use Rattle.code.specs.Placement.{any-fit, any-has, block-bit, blocks-same, encode-at, single-at, single-each, single-else, single-long, word-at, written-bit}
+use Rattle.code.specs.Placement.{any-fit, any-has, block-bit, blocks-same, encode-at, single-at, single-each, single-else, same-part, single-long, word-at, written-bit}
 use Rattle.code.specs.Places.{addBelow-front, addBelow-suc, addBelow-zero, all-higher, differing, ones-weight, pages-differ}
 use Rattle.code.specs.Refusals.{alterRefusal, noBit, notExact, pageRefusal}
 use Rattle.code.specs.Refused.{page-le, page-links}
@@ -119,24 +120,10 @@ weight-le z c h =
     Nat.le-trans (Nat.le-of-eq (sym (ones-weight z c h)))
     (Nat.le-trans (addBelow-le z (λ k. coefficient c k) (λ k. 1) (λ k l. bit-le c k)) (Nat.le-of-eq (addBelow-one z)))
 
-weight-pow : (k : ℕ) → weight (2 ^ k) ≡ 1
-weight-pow zero = weight-eq 1 ∙ ap (λ (y : ℕ). 1 + y) weight-zero
-weight-pow (suc k) =
-    ap weight (Nat.pow-suc 2 k) ∙ weight-eq (2 ^ k * 2) ∙ ap₂ (λ (a b : ℕ). a + weight b) (dbl-odd (2 ^ k)) (dbl-half (2 ^ k))
-    ∙ Nat.zero-add (weight (2 ^ k)) ∙ weight-pow k
-
-weight-xor : (z a b : ℕ) → a < 2 ^ z → b < 2 ^ z → weight (xor a b) ≤ weight a + weight b
-weight-xor z a b h l =
-    Nat.le-trans (Nat.le-of-eq (sym (ones-weight z (xor a b) (xor-lt z a b h l))))
-    (Nat.le-trans (addBelow-le z (λ k. coefficient (xor a b) k) (λ k. coefficient a k + coefficient b k)
-    (λ k m. Nat.le-trans (Nat.le-of-eq (coefficient-xor a b k)) (Nat.mod-le (coefficient a k + coefficient b k) 2)))
-    (Nat.le-of-eq (addBelow-sum z (λ k. coefficient a k) (λ k. coefficient b k) ∙ ap₂ _+_ (ones-weight z a h) (ones-weight z b l))))
-
 -- one bit above w check bits
 weight-placed : (r w c : ℕ) → c < 2 ^ w → weight (xor (2 ^ r * 2 ^ w) c) ≤ w + 1
 weight-placed r w c h =
-    rw (← pow-add 2 r w) (Nat.le-trans (weight-xor (suc (r + w)) (2 ^ (r + w)) c (pow-lt (Nat.le-refl (suc (r + w))))
-    (Nat.lt-of-lt-of-le h (pow-mono (omega arith))))
+    rw (← pow-add 2 r w) (Nat.le-trans (weight-xor (2 ^ (r + w)) c)
     (Nat.le-trans (Nat.add-le-add (Nat.le-of-eq (weight-pow (r + w))) (weight-le w c h)) (Nat.le-of-eq (Nat.add-comm 1 w))))
 
 weights : (cs : List ℕ) → pageWeight cs ≡ addBelow (length cs) (λ j. weight (getD cs j 0))
@@ -327,24 +314,8 @@ module _ (p : Parameters) (R : Rules p) (i r : ℕ) (li : i < p .m) (lr : r < da
     pub bytes-stay : (j : ℕ) → j < p .m → j ≢ i → (i < j) ⊎ (p .v ≤ j)
         → take (subWordBytes p) (drop (j * subWordBytes p) after) ≡ take (subWordBytes p) (drop (j * subWordBytes p) x)
     bytes-stay j l n m =
-        same-part after x (after-page .bytes) (h .bytes) (after-page .exact ∙ sym (h .exact))
+        same-part p after x j l (after-page .bytes) (h .bytes) (after-page .exact ∙ sym (h .exact))
         (after-word j ∙ ap (xor (getD (wordsOf p x) j 0)) (alone-zero p R i (2 ^ r) li (pow-lt lr) j l n m) ∙ xor-zero-r (getD (wordsOf p x) j 0))
-      where
-        same-part : (y z : List ℕ) → Bytes y → Bytes z → length y ≡ length z → getD (wordsOf p y) j 0 ≡ getD (wordsOf p z) j 0
-            → take (subWordBytes p) (drop (j * subWordBytes p) y) ≡ take (subWordBytes p) (drop (j * subWordBytes p) z)
-        same-part y z b c e f =
-            sym (whole y b)
-            ∙ ap₂ (digits 8) (length-part y ∙ ap (λ (k : ℕ). min (subWordBytes p) (k - j * subWordBytes p)) e ∙ sym (length-part z))
-            (sym (word-at p y j l) ∙ f ∙ word-at p z j l)
-            ∙ whole z c
-          where
-            length-part : (y : List ℕ) → length (take (subWordBytes p) (drop (j * subWordBytes p) y)) ≡ min (subWordBytes p) (length y - j * subWordBytes p)
-            length-part y = length-take (subWordBytes p) (drop (j * subWordBytes p) y) ∙ ap (min (subWordBytes p)) (length-drop (j * subWordBytes p) y)
-
-            whole : (y : List ℕ) → Bytes y
-                → digits 8 (length (take (subWordBytes p) (drop (j * subWordBytes p) y))) (value 8 (take (subWordBytes p) (drop (j * subWordBytes p) y)))
-                ≡ take (subWordBytes p) (drop (j * subWordBytes p) y)
-            whole y b = digits-value 8 (take (subWordBytes p) (drop (j * subWordBytes p) y)) (all-take (λ d. d < 256) (subWordBytes p) (drop (j * subWordBytes p) y) (all-drop (λ d. d < 256) (j * subWordBytes p) y b))
 
     -- ---- how many bits change
     pub changed-weight : addBelow (p .m) (differing (stored p) (wordsOf p x) (wordsOf p after)) ≡ pageWeight (units p i r)
@@ -450,24 +421,6 @@ module _ (x u : List ℕ) (e : length x ≡ length u) (at k : ℕ) where
       go : (t : Bool) → cond t (bitFrom x at k) ((bitFrom x at k + 0) % 2) ≡ bitFrom x at k
       go true = refl
       go false = ap (λ (d : ℕ). d % 2) (Nat.add-zero (bitFrom x at k)) ∙ Nat.mod-eq-of-lt (bit-lt x at k)
-
-pow-bit : (r : ℕ) → coefficient (2 ^ r) r ≡ 1
-pow-bit r = ap (λ (d : ℕ). d % 2) (Nat.div-self (pow-pos r))
-
-pow-bits : (r k : ℕ) → k ≢ r → coefficient (2 ^ r) k ≡ 0
-pow-bits r k n = go (decLe (suc k) r)
-  where
-    go : Dec (k < r) → coefficient (2 ^ r) k ≡ 0
-    go (yes h) =
-        let e : r ≡ suc (r - k - 1) + k = omega arith in
-        ap (λ (d : ℕ). coefficient (2 ^ d) k) e
-        ∙ ap (λ (d : ℕ). d / 2 ^ k % 2) (pow-add 2 (suc (r - k - 1)) k) ∙ ap (λ (d : ℕ). d % 2) (Nat.mul-div-cancel (2 ^ suc (r - k - 1)) (pow-pos k))
-        ∙ ap (λ (d : ℕ). d % 2) (Nat.pow-suc 2 (r - k - 1)) ∙ dbl-odd (2 ^ (r - k - 1))
-    go (no h) = let u : r ≤ k = omega arith in more (Nat.eq-or-lt-of-le u)
-      where
-        more : (r ≡ k) ⊎ (r < k) → coefficient (2 ^ r) k ≡ 0
-        more (inl e) = absurd (n (sym e))
-        more (inr l) = beyond (2 ^ r) k k (pow-lt l) (Nat.le-refl k)
 
 module _ (p : Parameters) (R : Rules p) (i r : ℕ) (li : i < p .m) (lr : r < dataBits p i) where
   -- the blocks are 0 but for that bit

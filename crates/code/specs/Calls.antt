@@ -7,6 +7,7 @@
 --   judgeNumber, judgeValues, readNumber, readValues    the same behind the refusals of judge and of read out
 --   statuses, pagesBy                              the list of a write of many pages, and the pages afterwards
 --   quote p                                        the 12 numbers of the quote
+--   mendingPlaces o                                the places of flips, if there are such
 --   sizeUnless r x                                 the size x or, under the refusal r, 0
 --   Made, Named, Judged, ReadOut, ..               what a call promises, of its answer and of the buffer after it;
 --                                                  the ..C ones are the C calls'
@@ -14,6 +15,7 @@ use mathlib.Core.Path.{_≡_}
 use mathlib.Core.Bool.{cond}
 use mathlib.Core.Logic.{_≢_, _↔_}
 use mathlib.Core.List.{List, [], _∷_, _++_, map}
+use mathlib.Core.Option.{Option, none, some}
 use Prim.Native.Nat.{ℕ, zero, suc, _+_, _-_, _*_, _^_, _≤_}
 use lib.Dec.{leb, ltb}
 use lib.ListN.{length, getD, replicate}
@@ -28,8 +30,8 @@ use Rattle.code.specs.Register.{Register, Fed}
 use Rattle.code.specs.Lists.{range, part, runs, _orElse_, valuesBy, lastRefusal}
 use Rattle.code.specs.Parameters.{nestedBytes, strength, sheetRefusal}
 use Rattle.code.specs.Code.{gen, degree, remainder, nested, N, shortRemainder, syndromes, verdict, failingNumber, failingValues}
-use Rattle.code.specs.Layout.{altered, wordsOf, blank, pageBytes, pageOf, dataBits, dataBytes, dataOf}
-use Rattle.code.specs.Refusals.{writeRefusal, manyRefusal, alterRefusal, readRefusal, judgeRefusal, remainderRefusal, shortRefusal, nestedRefusal}
+use Rattle.code.specs.Layout.{altered, flipped, mending, placeList, wordsOf, blank, pageBytes, pageOf, dataBits, dataBytes, dataOf}
+use Rattle.code.specs.Refusals.{writeRefusal, manyRefusal, alterRefusal, mendRefusal, readRefusal, judgeRefusal, remainderRefusal, shortRefusal, nestedRefusal}
 use Rattle.code.specs.Refusals.{syndromesRefusal, nestedSyndromesRefusal, openRefusal, feedRefusal, quoteRefusal, nestingRefusal}
 
 -- ---- numbers and values of the answers
@@ -223,6 +225,20 @@ SyndromesMade p page i out after r = Made (syndromesRefusal 1 p page i (length o
 abbrev pub NestedSyndromesMade : Parameters → List ℕ → ℕ → List ℕ → List ℕ → Outcome → Type 0
 NestedSyndromesMade p page l out after r = Made (nestedSyndromesRefusal 1 p page l (length out)) (nestedSyndromeList p page l) out after r
 
+-- ---- mend: sub-word i with the places R flipped, the list of these places, and their number
+abbrev pub mendingPlaces : Option (List ℕ) → List ℕ
+mendingPlaces none = []
+mendingPlaces (some R) = R
+
+abbrev pub placesOf : Parameters → List ℕ → ℕ → List ℕ
+placesOf p page i = mendingPlaces (mending p page i)
+
+abbrev pub Mended : Parameters → List ℕ → List ℕ → ℕ → List ℕ → List ℕ → ℕ → ℕ → Outcome → Type 0
+Mended p page after i list listed count counted r =
+    Made (mendRefusal 1 p page i (length list)) (flipped p page i (placesOf p page i)) page after r
+    × Made (mendRefusal 1 p page i (length list)) (placeList (strength p 0) (placesOf p page i)) list listed r
+    × Made (mendRefusal 1 p page i (length list)) (length (placesOf p page i) ∷ []) (count ∷ []) (counted ∷ []) r
+
 -- ---- the C calls: the answer is the number, and a list of 16-bit numbers is bytes, two a number, low byte first
 unfoldable pub asBytes : List ℕ → List ℕ
 unfolding digits
@@ -244,6 +260,12 @@ WrittenManyC p L count blocks pages after list listed r =
 
 abbrev pub AlteredC : Parameters → List ℕ → ℕ → ℕ → ℕ → List ℕ → ℕ → Type 0
 AlteredC p page i r b after o = MadeC (alterRefusal p page i r b) (altered p page i r b) page after o
+
+abbrev pub MendedC : Parameters → List ℕ → List ℕ → ℕ → List ℕ → List ℕ → ℕ → ℕ → ℕ → Type 0
+MendedC p page after i list listed count counted r =
+    MadeC (mendRefusal 2 p page i (length list)) (flipped p page i (placesOf p page i)) page after r
+    × MadeC (mendRefusal 2 p page i (length list)) (asBytes (placeList (strength p 0) (placesOf p page i))) list listed r
+    × MadeC (mendRefusal 2 p page i (length list)) (length (placesOf p page i) ∷ []) (count ∷ []) (counted ∷ []) r
 
 pub record ReadOutC (p : Parameters) (page blocks after : List ℕ) (r : ℕ) : Type 0 where
   pub answers : r ≡ readNumber p page blocks

@@ -12,24 +12,31 @@
 --   failingNumber p cs  its number, apart from the enum: 32 + i, 64 + l, or 0; failingValues p cs its values: i, l, or none
 --   syndromes p k c     S_1 to S_k of a word
 --   divisor p l         g_(v-l) / g_0; shortRemainder p l cs is the remainder of nested word l by it
+--   tried P k z t y     of the places k, k + 1, .., z of them, the first rising list of at most t whose flips take y to a word that passes P
+--   nearest p a y       the flips that mend y at level a: the stored places to flip for a multiple of g_a, at most t_a of them; or none
+--   Flips p a y R       R are such places, rising
+--   Near p a y c        c is such a multiple: of g_a, 0 in its top s places, and other than y in at most t_a places
 --   distance p          the smallest of (v + 1)(2 t_0 + 1) and b (2 t_(v-b+1) + 1), b from 1 to v
-use mathlib.Core.Bool.{not, cond}
+use mathlib.Core.Bool.{Bool, not, cond}
 use mathlib.Core.List.{List, [], _∷_, map}
-use Prim.Native.Nat.{ℕ, zero, suc, _+_, _-_, _*_, _/_, _^_, _<_, min}
+use mathlib.Core.Option.{Option, none, some}
+use Prim.Native.Nat.{ℕ, zero, suc, _+_, _-_, _*_, _/_, _^_, _≤_, _<_, min}
 use lib.Dec.{eqb, ltb}
-use lib.ListN.{getD}
+use lib.ListN.{length, getD}
 use Rattle.polynomial.specs.Clmul.{clmul}
 use Rattle.polynomial.specs.Division.{rem, quot, deg}
 use Rattle.polynomial.specs.Multiple.{Multiple}
 use Rattle.polynomial.specs.Xor.{xor}
+use Rattle.field.specs.Bch.{weight}
 use Rattle.field.specs.Elements.{syndrome}
 use Rattle.field.specs.Fields.{fieldOf}
+use Rattle.field.specs.Flips.{Rising, flips}
 use Rattle.generator.specs.Generator.{generator}
 use Rattle.code.specs.declared.Parameters.{Parameters}
 use Rattle.code.specs.declared.Verdict.{Verdict}
 use Rattle.code.specs.declared.Verdict.the-variants.{Member, SubWord, NestedWord}
 use Rattle.code.specs.Lists.{range, first}
-use Rattle.code.specs.Parameters.{len, strength}
+use Rattle.code.specs.Parameters.{len, stored, strength}
 unfoldable pub use Rattle.code.specs.Parameters.{degree}
 
 -- ---- generators by level
@@ -160,6 +167,43 @@ divisor p l = quot (gen p 0) (degree p 0) (gen p (p .v - l))
 unfoldable pub shortRemainder : Parameters → ℕ → List ℕ → ℕ
 unfolding divisor rem nested deg
 shortRemainder p l cs = rem (divisor p l) (deg (divisor p l)) (nested p l cs)
+
+-- ---- mending: the multiple of g_a that is 0 in its top s places and within t_a flips of a word
+-- the empty list where it passes
+abbrev pub unflipped : Bool → Option (List ℕ)
+unflipped b = cond b (some []) none
+
+abbrev pub firstOf : Option (List ℕ) → Option (List ℕ) → Option (List ℕ)
+firstOf none o = o
+firstOf (some R) o = some R
+
+abbrev pub before : ℕ → Option (List ℕ) → Option (List ℕ)
+before k none = none
+before k (some R) = some (k ∷ R)
+
+unfoldable pub tried : (ℕ → Bool) → ℕ → ℕ → ℕ → ℕ → Option (List ℕ)
+unfolding xor
+tried P k zero t y = unflipped (P y)
+tried P k (suc z) zero y = unflipped (P y)
+tried P k (suc z) (suc t) y = firstOf (tried P (suc k) z (suc t) y) (before k (tried P (suc k) z t (xor y (2 ^ k))))
+
+-- the test of a multiple of g_a
+abbrev pub passes : Parameters → ℕ → ℕ → Bool
+passes p a c = eqb (remainder p a c) 0
+
+unfoldable pub nearest : Parameters → ℕ → ℕ → Option (List ℕ)
+unfolding tried rem gen degree
+nearest p a y = tried (passes p a) 0 (stored p) (strength p a) y
+
+pub record Flips (p : Parameters) (a y : ℕ) (R : List ℕ) : Type 0 where
+  pub rising : Rising 0 (stored p) R
+  pub few : length R ≤ strength p a
+  pub multiple : Multiple (gen p a) (xor y (flips R))
+
+pub record Near (p : Parameters) (a y c : ℕ) : Type 0 where
+  pub stores : c < 2 ^ stored p
+  pub multiple : Multiple (gen p a) c
+  pub near : weight (xor y c) ≤ strength p a
 
 -- ---- distance
 -- the least of (v + 1)(2 t_0 + 1) and b (2 t_(v-b+1) + 1) for b from 1 to k

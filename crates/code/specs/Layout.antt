@@ -14,19 +14,25 @@
 --   single p i c          m numbers, the i-th of them c, the others 0
 --   oneBlock p i d        the blocks that are 0 but for block i, which is d; oneBit p i r: 0 but for bit r of block i
 --   altered p x i r b     the page x with bit r of block i made b: as it is or, where the bit is another, with the page of that bit added
+--   mending p x i         the places of the flips that mend sub-word i of the page x, at level 0; or none
+--   flipped p x i R       the page x with the places R of sub-word i flipped
+--   placeList k R         the places R in a list of k numbers: 65535 from their end on
 --   differences p x y     the number of pairs of a sub-word i and a place k at which the coefficients of two pages differ
 use mathlib.Core.Path.{_≡_}
 use mathlib.Core.Bool.{Bool, not, cond}
-use mathlib.Core.List.{List, map}
+use mathlib.Core.List.{List, _++_, map}
+use mathlib.Core.Option.{Option}
 use Prim.Native.Nat.{ℕ, _+_, _-_, _*_, _/_, _%_, _^_, _<_}
 use lib.Dec.{T, eqb}
 use lib.ListN.{length, getD, set, replicate, take}
 use Rattle.polynomial.specs.Bits.{coefficient}
 use Rattle.polynomial.specs.Sums.{All, add}
+use Rattle.polynomial.specs.Xor.{xor}
+use Rattle.field.specs.Flips.{flips}
 use Rattle.code.specs.declared.Parameters.{Parameters}
 use Rattle.code.specs.Lists.{range, sum, split, join, each, fitsIn, onesIn, addBelow, countBelow}
 use Rattle.code.specs.Parameters.{stored, subWordBytes}
-use Rattle.code.specs.Code.{degree, checkBits, encode, dataWords}
+use Rattle.code.specs.Code.{degree, checkBits, encode, dataWords, nearest}
 
 -- ---- pages: m sub-words of (n - s + 7) / 8 bytes, the stored coefficients and above them 0 to 7 spare bits
 abbrev pub wordSizes : Parameters → List ℕ
@@ -136,6 +142,22 @@ oneBit p i r = oneBlock p i (2 ^ r)
 unfoldable pub altered : Parameters → List ℕ → ℕ → ℕ → ℕ → List ℕ
 unfolding degree pageOf oneBlock
 altered p page i r b = cond (eqb (coefficientOf p page i (checkBits p i + r)) b) page (add page (pageOf p (oneBit p i r)))
+
+-- ---- one sub-word mended
+unfoldable pub mending : Parameters → List ℕ → ℕ → Option (List ℕ)
+unfolding nearest wordsOf
+mending p page i = nearest p 0 (getD (wordsOf p page) i 0)
+
+unfoldable pub flipped : Parameters → List ℕ → ℕ → List ℕ → List ℕ
+unfolding join wordsOf xor flips
+flipped p page i R = join (wordSizes p) (set (wordsOf p page) i (xor (getD (wordsOf p page) i 0) (flips R)))
+
+-- what stands in a list for no place
+abbrev pub noPlace : ℕ
+noPlace = 65535
+
+unfoldable pub placeList : ℕ → List ℕ → List ℕ
+placeList k R = R ++ replicate (k - length R) noPlace
 
 unfoldable pub differences : Parameters → List ℕ → List ℕ → ℕ
 unfolding addBelow countBelow

@@ -35,5 +35,6 @@ pub mod Many
 pub mod Demands
 pub mod Bursts
 pub mod Alter
+pub mod Mend
 pub mod Theorems
 pub mod Firmware

@@ -88,4 +88,4 @@ valuesBy zero l = l
 valuesBy (suc r) l = []
 
 abbrev pub lastRefusal : ℕ
-lastRefusal = 14
+lastRefusal = 15

@@ -3,16 +3,16 @@
 use mathlib.Core.Path.{_≡_, refl, sym, ap, ap₂, _∙_}
 use mathlib.Core.List.{List, [], _∷_, _++_, map}
 use mathlib.Core.Logic.{_≢_, _⊎_, inl, inr}
-use Prim.Native.Nat.{ℕ, zero, suc, _+_, _-_, _*_, _/_, _%_, _^_, _≤_, _<_, zero-le, suc-le-suc}
+use Prim.Native.Nat.{ℕ, zero, suc, _+_, _-_, _*_, _/_, _%_, _^_, _≤_, _<_, min, zero-le, suc-le-suc}
 use native.Mathlib.Nat as Nat
 use native.Mathlib.Decide.{ℕ-discrete}
 use native.Mathlib.Omega.{arith}
 use lib.Bits as Bits
-use lib.ListN.{length, getD, set, take, drop, replicate, List·getD-append, getD-replicate, length-replicate, length-set}
+use lib.ListN.{length, getD, set, take, drop, replicate, List·getD-append, getD-replicate, length-drop, length-replicate, length-set, length-take}
 use lib.Seq.{ext-getD, getD-take, getD-drop, getD-append-add, getD-set-same, getD-set-other}
 use Rattle.polynomial.specs.Bits.{coefficient}
 use Rattle.polynomial.specs.Coefficients.{high-coefficient, same-bits}
-use Rattle.polynomial.specs.Digits.{digits, digits-coefficient, length-digits, low-coefficient, value, value-coefficient}
+use Rattle.polynomial.specs.Digits.{digits, digits-coefficient, digits-value, length-digits, low-coefficient, value, value-coefficient}
 use Rattle.polynomial.specs.Sums.{All, all-drop, all-take, at-all}
 use Rattle.polynomial.specs.Xor.{xor}
 use Rattle.field.specs.Field.{add-assoc, add-zero, zero-add, zero-mul}
@@ -23,7 +23,7 @@ use Rattle.code.specs.Code.{carried, checkBits, checked, dataFrom, dataW
 use Rattle.code.specs.Encode.{Sized, checked-data, checked-low}
 use Rattle.code.specs.Layout.{Bytes, Fits, bitFrom, blockBit, blockBits, blockOffset, blockSizes}
 use Rattle.code.specs.Layout.{blocksOf, coefficientOf, dataBits, dataOf, pageOf, single, storedOf, wordSizes, wordsOf}
-use Rattle.code.specs.Lists.{join, range, split, sum}
+use Rattle.code.specs.Lists.{join, part, range, split, sum}
 use Rattle.code.specs.Pages.{IsBlocks, blockBits-eq, blockSizes-eq, blocks-blocks, blocks-fit, blocks-join, blocksOf-eq, dataOf-eq}
 use Rattle.code.specs.Pages.{join-blocks, length-bits, length-blocks, length-data, length-sizes, page-has, page-is}
 use Rattle.code.specs.Pages.{stored-words, storedOf-eq, whole, words-many, wordsOf-eq}
@@ -134,6 +134,23 @@ module _ (p : Parameters) where
   word-at x i h =
       rw (wordsOf-eq p x) (split-at (wordSizes p) x i (rw (length-sizes p) h)
       ∙ ap₂ (λ (k o : ℕ). value 8 (take k (drop o x))) (page-size i h) (offset-replicate (p .m) (subWordBytes p) i (Nat.le-of-suc-le h)))
+
+  -- pages with the same sub-word have the same bytes of it
+  pub same-part : (y z : List ℕ) (j : ℕ) → j < p .m → Bytes y → Bytes z → length y ≡ length z → getD (wordsOf p y) j 0 ≡ getD (wordsOf p z) j 0
+      → part (subWordBytes p) j y ≡ part (subWordBytes p) j z
+  same-part y z j l b c e f =
+      sym (whole-part y b)
+      ∙ ap₂ (digits 8) (length-part y ∙ ap (λ (k : ℕ). min (subWordBytes p) (k - j * subWordBytes p)) e ∙ sym (length-part z))
+      (sym (word-at y j l) ∙ f ∙ word-at z j l)
+      ∙ whole-part z c
+    where
+      length-part : (y : List ℕ) → length (part (subWordBytes p) j y) ≡ min (subWordBytes p) (length y - j * subWordBytes p)
+      length-part y = length-take (subWordBytes p) (drop (j * subWordBytes p) y) ∙ ap (min (subWordBytes p)) (length-drop (j * subWordBytes p) y)
+
+      whole-part : (y : List ℕ) → Bytes y → digits 8 (length (part (subWordBytes p) j y)) (value 8 (part (subWordBytes p) j y)) ≡ part (subWordBytes p) j y
+      whole-part y b =
+          digits-value 8 (part (subWordBytes p) j y)
+          (all-take (λ d. d < 256) (subWordBytes p) (drop (j * subWordBytes p) y) (all-drop (λ d. d < 256) (j * subWordBytes p) y b))
 
   -- the stored coefficients of sub-word i
   pub stored-at : (x : List ℕ) (i : ℕ) → i < p .m → getD (storedOf p x) i 0 ≡ getD (wordsOf p x) i 0 % 2 ^ stored p

@@ -1,7 +1,8 @@
 -- The refusal of each call: of the conditions that it can meet, in the order of the requirement's table, the first that holds; 0 for none.
 -- A chain takes lengths where lengths suffice, and looks at nothing behind an earlier refusal.
-use mathlib.Core.Bool.{Bool, not, _||_}
+use mathlib.Core.Bool.{Bool, true, false, not, _||_}
 use mathlib.Core.List.{List}
+use mathlib.Core.Option.{Option, none, some}
 use Prim.Native.Nat.{ℕ, _+_, _-_, _*_, _^_}
 use lib.Dec.{eqb, leb, ltb}
 use lib.ListN.{length}
@@ -11,7 +12,7 @@ use Rattle.code.specs.Register.{Register}
 use Rattle.code.specs.Lists.{_when_, _orElse_}
 use Rattle.code.specs.Parameters.{full, nestedBytes, strength, sheetRefusal}
 use Rattle.code.specs.Code.{degree}
-use Rattle.code.specs.Layout.{altered, pageBytes, dataBits, dataBytes, pageClear, blank, blocksClear, pageOf}
+use Rattle.code.specs.Layout.{altered, mending, pageBytes, dataBits, dataBytes, pageClear, blank, blocksClear, pageOf}
 
 -- 5: the width L is not 1 to 64
 abbrev pub badWidth : ℕ → Bool
@@ -117,6 +118,15 @@ syndromesRefusal size p page i out = wordRefusal p page i (p .m) out (size * (2 
 
 abbrev pub nestedSyndromesRefusal : ℕ → Parameters → List ℕ → ℕ → ℕ → ℕ
 nestedSyndromesRefusal size p page l out = wordRefusal p page l (p .v) out (size * (2 * strength p (p .v - l)))
+
+-- ---- mend: the places take `size` each of a lent list of `out`; 15 where no multiple of g_0 is near enough
+abbrev pub nowhere : Option (List ℕ) → Bool
+nowhere none = true
+nowhere (some R) = false
+
+unfoldable pub mendRefusal : ℕ → Parameters → List ℕ → ℕ → ℕ → ℕ
+unfolding wordRefusal mending
+mendRefusal size p page i out = wordRefusal p page i (p .m) out (size * strength p 0) orElse 15 when nowhere (mending p page i)
 
 -- ---- the register
 unfoldable pub openRefusal : Parameters → ℕ → ℕ

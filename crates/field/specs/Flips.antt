@@ -3,11 +3,11 @@
 --   passing P k z     of the places k, k + 1, .., z of them, those that pass the test P
 --   ones z e          the places below z at which the word e has ones
 --   flips R           the word whose ones stand at the places R
-use mathlib.Core.Path.{_≡_, refl, sym, ap, _∙_}
+use mathlib.Core.Path.{_≡_, refl, sym, ap, ap₂, _∙_}
 use mathlib.Core.Bool.{Bool, true, false, cond}
 use mathlib.Core.Logic.{_⊎_, inl, inr}
 use mathlib.Core.List.{List, [], _∷_}
-use Prim.Native.Nat.{ℕ, zero, suc, _+_, _*_, _/_, _^_, _≤_, _<_, zero-le}
+use Prim.Native.Nat.{ℕ, zero, suc, _+_, _*_, _/_, _%_, _^_, _≤_, _<_, zero-le}
 use native.Mathlib.Nat as Nat
 use native.Mathlib.Numerals.{add-one}
 use native.Mathlib.Omega.{arith}
@@ -16,6 +16,7 @@ use lib.Dec.{T, eqb, lit<}
 use lib.ListN.{length}
 use lib.Pow.{pow-pos, pow-lt, shr-shr}
 use Rattle.polynomial.specs.Bits.{coefficient}
+use Rattle.polynomial.specs.Coefficients.{beyond, coefficient-xor, pow-bit, pow-bits}
 use Rattle.polynomial.specs.Clmul.{clmul-pow, clmul-xor-r, split-bit}
 use Rattle.polynomial.specs.Division.{xor-lt}
 use Rattle.polynomial.specs.Sums.{All}
@@ -67,7 +68,7 @@ unfolding flips
 flips-cons k R = refl
 
 -- ---- what passes
-rising-up : (k n : ℕ) (R : List ℕ) → Rising (suc k) n R → Rising k n R
+pub rising-up : (k n : ℕ) (R : List ℕ) → Rising (suc k) n R → Rising k n R
 rising-up k n [] r = tt
 rising-up k n (i ∷ R) r = (Nat.le-of-suc-le (r .0), r .1, r .2)
 
@@ -166,10 +167,49 @@ weight-xor a =
     bin-ind (λ (n : ℕ). (b : ℕ) → weight (xor n b) ≤ weight n + weight b) (λ b. rw (xor-zero-l b) (omega arith))
     (λ n ih b. omega (arith, weight-eq (xor n b), rw (← xor-half n b) at (ih (b / 2)), xor-odd n b, weight-eq n, weight-eq b)) a
 
-weight-power : (k : ℕ) → weight (2 ^ k) ≤ 1
-weight-power zero = omega (arith, weight-eq 1, weight-zero)
-weight-power (suc k) = rw (weight-eq (2 ^ suc k), Nat.pow-suc 2 k, dbl-half (2 ^ k), dbl-odd (2 ^ k), Nat.zero-add (weight (2 ^ k))) (weight-power k)
+pub weight-pow : (k : ℕ) → weight (2 ^ k) ≡ 1
+weight-pow zero = weight-eq 1 ∙ ap (λ (y : ℕ). 1 + y) weight-zero
+weight-pow (suc k) =
+    ap weight (Nat.pow-suc 2 k) ∙ weight-eq (2 ^ k * 2) ∙ ap₂ (λ (a b : ℕ). a + weight b) (dbl-odd (2 ^ k)) (dbl-half (2 ^ k))
+    ∙ Nat.zero-add (weight (2 ^ k)) ∙ weight-pow k
 
 pub weight-flips : (R : List ℕ) → weight (flips R) ≤ length R
 weight-flips [] = rw (flips-nil, weight-zero) zero-le
-weight-flips (k ∷ R) = rw (flips-cons k R) (omega (arith, weight-xor (2 ^ k) (flips R), weight-power k, weight-flips R))
+weight-flips (k ∷ R) = rw (flips-cons k R) (omega (arith, weight-xor (2 ^ k) (flips R), weight-pow k, weight-flips R))
+
+-- ---- rising places by the word of their flips
+module _ (n : ℕ) where
+  flips-below : (k i : ℕ) (R : List ℕ) → Rising k n R → i < k → coefficient (flips R) i ≡ 0
+  flips-below k i [] r h = ap (λ (e : ℕ). coefficient e i) flips-nil ∙ beyond 0 0 i (lit< tt) zero-le
+  flips-below k i (j ∷ R) r h =
+      ap (λ (e : ℕ). coefficient e i) (flips-cons j R) ∙ coefficient-xor (2 ^ j) (flips R) i
+      ∙ ap₂ (λ (a b : ℕ). (a + b) % 2) (pow-bits j i (λ e. Nat.lt-irrefl i (omega (arith, r .0)))) (flips-below (suc j) i R (r .2) (omega (arith, r .0)))
+
+  -- places that rise from above j, with ones at a word's places, have them with x^j added
+  above : (j e k : ℕ) (Q : List ℕ) → j < k → Rising k n Q → All (λ i. coefficient e i ≡ 1) Q → All (λ i. coefficient (xor (2 ^ j) e) i ≡ 1) Q
+  above j e k [] h q a = tt
+  above j e k (i ∷ Q) h q a = (
+    coefficient-xor (2 ^ j) e i ∙ ap₂ (λ (a b : ℕ). (a + b) % 2) (pow-bits j i (λ d. Nat.lt-irrefl j (omega (arith, q .0)))) (a .0),
+    above j e (suc i) Q (omega (arith, q .0)) (q .2) (a .1),
+  )
+
+  flips-at : (k : ℕ) (R : List ℕ) → Rising k n R → All (λ i. coefficient (flips R) i ≡ 1) R
+  flips-at k [] r = tt
+  flips-at k (j ∷ R) r =
+      rw (flips-cons j R) (
+        coefficient-xor (2 ^ j) (flips R) j
+            ∙ ap₂ (λ (a b : ℕ). (a + b) % 2) (pow-bit j) (flips-below (suc j) j R (r .2) (Nat.le-refl (suc j))),
+        above j (flips R) (suc j) R (Nat.le-refl (suc j)) (r .2) (flips-at (suc j) R (r .2)),
+      )
+
+  all-ones : (e : ℕ) (R : List ℕ) → All (λ i. coefficient e i ≡ 1) R → All (λ i. T (one e i)) R
+  all-ones e [] a = tt
+  all-ones e (i ∷ R) a = (rw (a .0) tt, all-ones e R (a .1))
+
+  pub ones-flips : (R : List ℕ) → Rising 0 n R → ones n (flips R) ≡ R
+  ones-flips R r =
+      ones-eq n (flips R) ∙ covers (one (flips R)) 0 n n R (Nat.zero-add n) r (all-ones (flips R) R (flips-at 0 R r)) .1
+      (Nat.le-trans (Nat.le-of-eq (ap length (sym (ones-eq n (flips R))) ∙ length-ones n (flips R) (flips-lt 0 n R r))) (weight-flips R))
+
+  pub flips-inj : (R Q : List ℕ) → Rising 0 n R → Rising 0 n Q → flips R ≡ flips Q → R ≡ Q
+  flips-inj R Q r q e = sym (ones-flips R r) ∙ ap (ones n) e ∙ ones-flips Q q
