@@ -14,6 +14,7 @@
 --   ManyLaws p           many pages in one call: each page and each listed byte are a single call's
 --   SetTo p c i r b old  blocks c that fit: bit r of block i is b, and every other as `old` has it
 --   AlterLaws p          one bit altered: what changes, and that a member becomes the page of the altered blocks
+--   MendLaws p           one sub-word mended: the one multiple of g_0 within t_0 flips, or nothing changed
 --   Shortening           which s are refused
 --   Demand3C p           the same of the C calls: WrittenC, ReadOutC, JudgedC, whose answers are numbers, 0 for done and member
 --   BlankC p             blank pages in C: 96 of judge and of read out, 13 of write
@@ -21,10 +22,11 @@
 --   QuotedC p            the quote of C, whose numbers are bytes
 --   ManyC p              many pages in C: a listed byte is the number of a single call
 --   AlterC p             one bit altered, in C
+--   MendC p              one sub-word mended, in C: the list is bytes
 use mathlib.Core.Path.{_≡_}
 use mathlib.Core.Logic.{_≢_, _↔_, _⊎_}
 use mathlib.Core.Bool.{_&&_, _||_, cond}
-use mathlib.Core.List.{List, [], map}
+use mathlib.Core.List.{List, [], _++_, map}
 use Prim.Native.Nat.{ℕ, suc, _+_, _-_, _*_, _/_, _%_, _^_, _≤_, _<_}
 use lib.Dec.{eqb, ltb}
 use lib.ListN.{length, getD, replicate, take, drop}
@@ -37,14 +39,15 @@ use Rattle.polynomial.specs.Multiple.{Multiple}
 use Rattle.polynomial.specs.Xor.{xor}
 use Rattle.field.specs.Elements.{power, sumBelow, syndrome}
 use Rattle.field.specs.Fields.{fieldPolynomial}
+use Rattle.field.specs.Flips as F
 use Rattle.field.specs.Irreducible.{NoFactor}
 use Rattle.code.specs.declared.Parameters.{Parameters}
 use Rattle.code.specs.declared.Outcome.{Outcome}
 use Rattle.code.specs.declared.Verdict.{Verdict}
-use Rattle.code.specs.Calls.{Altered, AlteredC, Judged, JudgedC, QuoteMade, QuoteMadeC, ReadOut, ReadOutC, Written, WrittenC, WrittenMany, WrittenManyC, asBytes}
+use Rattle.code.specs.Calls.{Altered, AlteredC, Judged, JudgedC, Mended, MendedC, QuoteMade, QuoteMadeC, ReadOut, ReadOutC, Written, WrittenC, WrittenMany, WrittenManyC, asBytes}
 use Rattle.code.specs.Calls.{empty, generators, nestedOf, nestedSyndromeList, nestedWordBytes}
 use Rattle.code.specs.Calls.{opened, outcome, pageVerdict, remainderBytes, shortBytes, subWordOf, syndromeList}
-use Rattle.code.specs.Code.{IsMember, N, carried, dataWords, degree, distance, divisor, encode, gen}
+use Rattle.code.specs.Code.{Flips, IsMember, N, Near, carried, dataWords, degree, distance, divisor, encode, gen}
 use Rattle.code.specs.Code.{nested, newton, remainder, shortRemainder, verdict}
 use Rattle.code.specs.Layout.{Bytes, Fits, IsBlank, IsPage, altered, blockBit, blockSizes, blocksClear, blocksOf, coefficientOf, dataBytes}
 use Rattle.code.specs.Layout.{dataOf, differences, pageBytes, pageClear, pageOf, storedOf, wordsOf}
@@ -435,6 +438,54 @@ pub record AlterLaws (p : Parameters) : Type 0 where
   pub most : (x after : List ℕ) (i r b : ℕ) → Bytes x → Altered p x i r b after Outcome.Done
       → differences p x after ≤ addBelow (p .m) (λ j. cond (eqb j i || (ltb j i && ltb j (p .v))) (degree p (p .v - j)) 0) + 1
 
+-- ---- one sub-word mended
+-- what mend is to be lent: a page with clear spare bits, a sub-word of it, and a list of t_0 numbers, each of `size` places
+pub record MendLent (size : ℕ) (p : Parameters) (x : List ℕ) (i k : ℕ) : Type 0 where
+  pub page : IsPage p x
+  pub sub-word : i < p .m
+  pub list : k ≡ size * strength p 0
+
+-- the flips R done to sub-word i of x: what it is afterwards, how they are listed, and their number
+pub record Mends (p : Parameters) (x after : List ℕ) (i : ℕ) (listed : List ℕ) (counted : ℕ) (R : List ℕ) : Type 0 where
+  pub flips : Flips p 0 (subWordOf p x i) R
+  pub sub-word : subWordOf p after i ≡ xor (subWordOf p x i) (F.flips R)
+  pub list : listed ≡ R ++ replicate (strength p 0 - length R) 65535
+  pub number : counted ≡ length R
+
+-- z with at most t_0 stored bits of sub-word i flipped
+pub record Damaged (p : Parameters) (z x : List ℕ) (i : ℕ) : Type 0 where
+  pub elsewhere : (j : ℕ) → j < p .m → j ≢ i → part (subWordBytes p) j x ≡ part (subWordBytes p) j z
+  pub few : differences p x z ≤ strength p 0
+
+pub record MendLaws (p : Parameters) : Type 0 where
+  -- of the multiples of g_a that are 0 in their top s places at most one is within t_a flips of a word, and by one rising list
+  pub once : (a y c d : ℕ) → a ≤ p .v → Near p a y c → Near p a y d → c ≡ d
+  pub one-list : (a y : ℕ) (R Q : List ℕ) → a ≤ p .v → y < 2 ^ stored p → Flips p a y R → Flips p a y Q → R ≡ Q
+  -- done exactly when what is to be lent is, and there is such a multiple of g_0; 15 exactly when it is and there is none
+  pub done : (x after : List ℕ) (i : ℕ) (l listed : List ℕ) (n counted : ℕ) (o : Outcome) → Bytes x → Mended p x after i l listed n counted o
+      → (o ≡ Outcome.Done) ↔ (MendLent 1 p x i (length l) × ((c : ℕ) × Near p 0 (subWordOf p x i) c))
+  pub nowhere : (x after : List ℕ) (i : ℕ) (l listed : List ℕ) (n counted : ℕ) (o : Outcome) → Bytes x → Mended p x after i l listed n counted o
+      → (o ≡ Outcome.Refused 15) ↔ (MendLent 1 p x i (length l) × ((c : ℕ) → ¬ Near p 0 (subWordOf p x i) c))
+  -- a refusal changes nothing: page, list, number
+  pub kept : (x after : List ℕ) (i : ℕ) (l listed : List ℕ) (n counted k : ℕ) → Mended p x after i l listed n counted (Outcome.Refused k)
+      → (after ≡ x) × (listed ≡ l) × (counted ≡ n)
+  -- done, sub-word i is that multiple; it came by the flips that are listed, and as many bits differ
+  pub mended : (x after : List ℕ) (i : ℕ) (l listed : List ℕ) (n counted : ℕ) → Bytes x → Mended p x after i l listed n counted Outcome.Done
+      → IsPage p after × Near p 0 (subWordOf p x i) (subWordOf p after i)
+  pub places : (x after : List ℕ) (i : ℕ) (l listed : List ℕ) (n counted : ℕ) → Bytes x → Mended p x after i l listed n counted Outcome.Done
+      → (R : List ℕ) × Mends p x after i listed counted R
+  -- whatever is answered, every byte of the other sub-words stays
+  pub elsewhere : (x after : List ℕ) (i : ℕ) (l listed : List ℕ) (n counted : ℕ) (o : Outcome) (j : ℕ) → Bytes x
+      → Mended p x after i l listed n counted o → j < p .m → j ≢ i → part (subWordBytes p) j after ≡ part (subWordBytes p) j x
+  -- a fault-free sub-word has no flips
+  pub clean : (x after : List ℕ) (i : ℕ) (l listed : List ℕ) (n counted : ℕ) (o : Outcome) → Bytes x → Mended p x after i l listed n counted o
+      → MendLent 1 p x i (length l) → Multiple (gen p 0) (subWordOf p x i)
+      → (o ≡ Outcome.Done) × (after ≡ x) × (listed ≡ replicate (strength p 0) 65535) × (counted ≡ 0)
+  -- a member with at most t_0 stored bits of one sub-word flipped comes back
+  pub back : (z x after : List ℕ) (i : ℕ) (l listed : List ℕ) (n counted : ℕ) (o : Outcome) → Bytes z → Bytes x → Judged p z Verdict.Member
+      → Damaged p z x i → MendLent 1 p x i (length l) → Mended p x after i l listed n counted o
+      → (o ≡ Outcome.Done) × (after ≡ z) × (counted ≡ differences p x z)
+
 -- ---- demand 3 of the C calls
 -- the same number and, when that is 0, the same page
 pub record AlikeC (after after′ : List ℕ) (r r′ : ℕ) : Type 0 where
@@ -554,16 +605,36 @@ pub record AlterC (p : Parameters) : Type 0 where
   pub most : (x after : List ℕ) (i r b : ℕ) → Bytes x → AlteredC p x i r b after 0
       → differences p x after ≤ addBelow (p .m) (λ j. cond (eqb j i || (ltb j i && ltb j (p .v))) (degree p (p .v - j)) 0) + 1
 
+-- ---- one sub-word mended, in C: 2 t_0 bytes hold the list
+pub record MendC (p : Parameters) : Type 0 where
+  pub done : (x after : List ℕ) (i : ℕ) (l listed : List ℕ) (n counted o : ℕ) → Bytes x → MendedC p x after i l listed n counted o
+      → (o ≡ 0) ↔ (MendLent 2 p x i (length l) × ((c : ℕ) × Near p 0 (subWordOf p x i) c))
+  pub nowhere : (x after : List ℕ) (i : ℕ) (l listed : List ℕ) (n counted o : ℕ) → Bytes x → MendedC p x after i l listed n counted o
+      → (o ≡ 15) ↔ (MendLent 2 p x i (length l) × ((c : ℕ) → ¬ Near p 0 (subWordOf p x i) c))
+  pub kept : (x after : List ℕ) (i : ℕ) (l listed : List ℕ) (n counted o : ℕ) → MendedC p x after i l listed n counted o → o ≢ 0
+      → (after ≡ x) × (listed ≡ l) × (counted ≡ n)
+  pub mended : (x after : List ℕ) (i : ℕ) (l listed : List ℕ) (n counted : ℕ) → Bytes x → MendedC p x after i l listed n counted 0
+      → IsPage p after × Near p 0 (subWordOf p x i) (subWordOf p after i)
+  pub places : (x after : List ℕ) (i : ℕ) (l listed : List ℕ) (n counted : ℕ) → Bytes x → MendedC p x after i l listed n counted 0
+      → (R numbers : List ℕ) × (listed ≡ asBytes numbers) × Mends p x after i numbers counted R
+  pub elsewhere : (x after : List ℕ) (i : ℕ) (l listed : List ℕ) (n counted o : ℕ) (j : ℕ) → Bytes x → MendedC p x after i l listed n counted o
+      → j < p .m → j ≢ i → part (subWordBytes p) j after ≡ part (subWordBytes p) j x
+  pub clean : (x after : List ℕ) (i : ℕ) (l listed : List ℕ) (n counted o : ℕ) → Bytes x → MendedC p x after i l listed n counted o
+      → MendLent 2 p x i (length l) → Multiple (gen p 0) (subWordOf p x i)
+      → (o ≡ 0) × (after ≡ x) × (listed ≡ replicate (2 * strength p 0) 255) × (counted ≡ 0)
+  pub back : (z x after : List ℕ) (i : ℕ) (l listed : List ℕ) (n counted o : ℕ) → Bytes z → Bytes x → JudgedC p z 0 → Damaged p z x i
+      → MendLent 2 p x i (length l) → MendedC p x after i l listed n counted o → (o ≡ 0) × (after ≡ z) × (counted ≡ differences p x z)
+
 -- ---- 14: of the sheets that keep every other rule, those are refused, and with 14, whose s is above n - w_v - 1
 abbrev pub Shortening : Type 0
 Shortening =
     (p : Parameters) → fullRefusal p ≡ 0
     → (Accepted p ↔ (p .s ≤ 2 ^ p .q - 1 - degree p (p .v) - 1)) × ((sheetRefusal p ≡ 14) ↔ (2 ^ p .q - 1 - degree p (p .v) - 1 < p .s))
 
--- ---- both, bursts, many pages in one call, and one bit altered, for every accepted sheet
+-- ---- both, bursts, many pages in one call, one bit altered, and one sub-word mended, for every accepted sheet
 abbrev pub Demands : Type 0
-Demands = (p : Parameters) → Accepted p → Demand2 p × Demand3 p × BurstLaws p × ManyLaws p × AlterLaws p
+Demands = (p : Parameters) → Accepted p → Demand2 p × Demand3 p × BurstLaws p × ManyLaws p × AlterLaws p × MendLaws p
 
--- ---- and, of the C calls, demand 3, blank pages, the quote, bursts, many pages and one bit altered
+-- ---- and, of the C calls, demand 3, blank pages, the quote, bursts, many pages, one bit altered and one sub-word mended
 abbrev pub DemandsC : Type 0
-DemandsC = (p : Parameters) → Accepted p → Demand3C p × BlankC p × QuotedC p × BurstC p × ManyC p × AlterC p
+DemandsC = (p : Parameters) → Accepted p → Demand3C p × BlankC p × QuotedC p × BurstC p × ManyC p × AlterC p × MendC p

@@ -1,10 +1,12 @@
--- Demand 3, blank pages, the quote, bursts, many pages and one bit altered of the C calls, from those of the calls behind them: a C call's promise is that of the call behind it, with the number of its answer.
+-- Demand 3, blank pages, the quote, bursts, many pages, one bit altered and one sub-word mended of the C calls, from those of the calls behind them: a C call's promise is that of the call behind it, with the number of its answer.
 use mathlib.Core.Path.{_≡_, refl, sym, ap, _∙_}
 use mathlib.Core.Logic.{_↔_, _⊎_, inl, inr}
-use mathlib.Core.List.{List}
-use Prim.Native.Nat.{ℕ, _+_}
+use mathlib.Core.List.{List, [], _∷_}
+use Prim.Native.Nat.{ℕ, zero, suc, _+_, _-_, _*_}
 use native.Mathlib.Nat as Nat
-use lib.ListN.{length, getD}
+use native.Mathlib.Omega.{arith}
+use lib.ListN.{length, getD, replicate}
+use Rattle.polynomial.specs.Digits.{digits}
 use Rattle.polynomial.specs.Sums.{add}
 use Rattle.code.specs.declared.Outcome.{Outcome}
 use Rattle.code.specs.declared.Parameters.{Parameters}
@@ -12,16 +14,19 @@ use Rattle.code.specs.declared.Verdict.{Verdict}
 use Rattle.code.specs.Accepted.{accepted}
 use Rattle.code.specs.Answers.{judged, judged-blanks, judged-zero, leaves-refused, made-of, outcome-number, read, read-as-judge, read-zero}
 use Rattle.code.specs.Buffers.{bytes-at}
-use Rattle.code.specs.Calls.{Altered, AlteredC, Judged, JudgedC, QuoteMadeC, ReadOut, ReadOutC, Written, WrittenC, WrittenMany, WrittenManyC, asBytes, judgeAnswer}
-use Rattle.code.specs.Calls.{leaves, outcome, outcomeNumber, quote, readAnswer, verdictNumber}
-use Rattle.code.specs.Demands.{AlterC, AlteredMemberC, NamesBit, SetTo}
+use Rattle.code.specs.Calls.{Altered, AlteredC, Judged, JudgedC, MendedC, QuoteMadeC, ReadOut, ReadOutC, Written, WrittenC, WrittenMany, WrittenManyC, asBytes, judgeAnswer}
+use Rattle.code.specs.Calls.{leaves, outcome, outcomeNumber, placesOf, quote, readAnswer, subWordOf, verdictNumber}
+use Rattle.code.specs.Code.{Near}
+use Rattle.code.specs.Demands.{AlterC, AlteredMemberC, MendC, Mends, NamesBit, SetTo}
 use Rattle.code.specs.Demands.{AlikeC, AlikeManyC, BlankC, BlankWriteLaws, BurstC, Demand3C, DemandsC, ManyC, QuoteLaws, QuotedC, RewritesC, SumsC, numberAt}
-use Rattle.code.specs.Layout.{Bytes, Fits, IsBlank, IsPage, altered, blockBit, pageOf}
-use Rattle.code.specs.Parameters.{Accepted}
+use Rattle.code.specs.Layout.{Bytes, Fits, IsBlank, IsPage, altered, blockBit, differences, noPlace, pageOf, placeList}
+use Rattle.code.specs.Mend.{places-eq}
+use Rattle.code.specs.Parameters.{Accepted, strength}
 use Rattle.code.specs.Quote.{quote-length, quote-none, quote-small}
-use Rattle.code.specs.Refusals.{alterRefusal, manyRefusal, quoteRefusal, writeRefusal}
-use Rattle.code.specs.Refused.{BlocksBuffer, PageBuffer, Width}
+use Rattle.code.specs.Refusals.{alterRefusal, manyRefusal, mendRefusal, quoteRefusal, writeRefusal}
+use Rattle.code.specs.Refused.{BlocksBuffer, PageBuffer, Width, judged-page}
 use Rattle.code.specs.Theorems.{alters, bursts, demand2, demand3, many, quote-numbers, whole-13}
+use Rattle.code.specs.Theorems.{member-multiple, mend-15-iff, mend-clean, mend-stays, mend-zero-iff, mends-of, number-of, undamaged}
 
 module _ (p : Parameters) (A : Accepted p) where
   abbrev refusal : ℕ → List ℕ → List ℕ → ℕ
@@ -283,5 +288,57 @@ module _ (p : Parameters) (A : Accepted p) where
     most = λ x after i r b y M. alters p A .most x after i r b y (altered-done x after i r b M);
   }
 
+  -- ---- one sub-word mended
+  bytes-ones : (k : ℕ) → asBytes (replicate k noPlace) ≡ replicate (2 * k) 255
+  unfolding asBytes digits
+  bytes-ones zero = refl
+  bytes-ones (suc k) =
+      let e : 2 * suc k ≡ suc (suc (2 * k)) = omega arith in
+      ap (λ (l : List ℕ). 255 ∷ 255 ∷ l) (bytes-ones k) ∙ sym (ap (λ (n : ℕ). replicate {A = ℕ} n 255) e)
+
+  pub mend-c : MendC p
+  mend-c = record {
+    done = λ x after i l listed n counted o y M.
+        (let d = mend-zero-iff p A 2 x i (length l) y in ((λ e. d .0 (sym (M .0 .answers) ∙ e)), (λ s. M .0 .answers ∙ d .1 s)));
+    nowhere = λ x after i l listed n counted o y M.
+        (let d = mend-15-iff p A 2 x i (length l) y in ((λ e. d .0 (sym (M .0 .answers) ∙ e)), (λ s. M .0 .answers ∙ d .1 s)));
+    kept = λ x after i l listed n counted o M m.
+        (let b = Nat.pos-of-ne-zero (λ z. m (M .0 .answers ∙ z)) in (
+          M .0 .buffer ∙ leaves-refused (mendRefusal 2 p x i (length l)) _ x b,
+          M .1 .buffer ∙ leaves-refused (mendRefusal 2 p x i (length l)) _ l b,
+          number-of p A counted n (M .2 .buffer ∙ leaves-refused (mendRefusal 2 p x i (length l)) _ (n ∷ []) b),
+        ));
+    mended = λ x after i l listed n counted y M. (let s = all-of x after i l listed n counted y M in (s .0, s .1));
+    places = λ x after i l listed n counted y M.
+        (let z = sym (M .0 .answers) in
+        let s = all-of x after i l listed n counted y M in
+        (s .2 .0, placeList (strength p 0) (placesOf p x i), rw z at (M .1 .buffer), s .2 .1));
+    elsewhere = λ x after i l listed n counted o j y M. mend-stays p A 2 x after i (length l) j y (M .0 .buffer);
+    clean = λ x after i l listed n counted o y M g m.
+        (let s = mend-clean p A 2 x i (length l) g m in (
+          M .0 .answers ∙ s .0,
+          rw (s .0) at (M .0 .buffer) ∙ s .2,
+          rw (s .0) at (M .1 .buffer) ∙ ap asBytes (ap (placeList (strength p 0)) (s .1) ∙ places-eq (strength p 0) [] ∙ ap (λ (k : ℕ). replicate k noPlace) (Nat.sub-zero (strength p 0)))
+              ∙ bytes-ones (strength p 0),
+          number-of p A counted 0 (rw (s .0) at (M .2 .buffer) ∙ ap (λ (Q : List ℕ). length Q ∷ []) (s .1)),
+        ));
+    back = λ z x after i l listed n counted o bz y J D g M.
+        (let e = sym (member-c z J .answers) in
+        let u = judged-page p z e bz in
+        let s = undamaged p A z x i (g .page) (g .sub-word) u D (member-multiple p A z u e i (g .sub-word)) 2 (length l) g in (
+          M .0 .answers ∙ s .0,
+          rw (s .0) at (M .0 .buffer) ∙ s .1,
+          number-of p A counted (differences p x z) (rw (s .0) at (M .2 .buffer) ∙ ap (λ (k : ℕ). k ∷ []) (s .2)),
+        ));
+  }
+    where
+      all-of : (x after : List ℕ) (i : ℕ) (l listed : List ℕ) (n counted : ℕ) → Bytes x → MendedC p x after i l listed n counted 0
+          → IsPage p after × Near p 0 (subWordOf p x i) (subWordOf p after i)
+          × ((Q : List ℕ) × Mends p x after i (placeList (strength p 0) (placesOf p x i)) counted Q)
+      all-of x after i l listed n counted y M =
+          let z : mendRefusal 2 p x i (length l) ≡ 0 = sym (M .0 .answers) in
+          mends-of p A 2 x after i (length l) (placeList (strength p 0) (placesOf p x i)) counted y z (rw z at (M .0 .buffer)) refl
+          (number-of p A counted (length (placesOf p x i)) (rw z at (M .2 .buffer)))
+
 pub demands-c : DemandsC
-demands-c p A = (demand3-c p A, blank-c p A, quote-c p A, burst-c p A, many-c p A, alter-c p A)
+demands-c p A = (demand3-c p A, blank-c p A, quote-c p A, burst-c p A, many-c p A, alter-c p A, mend-c p A)

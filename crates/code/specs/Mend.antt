@@ -1,21 +1,22 @@
 -- One sub-word mended: at most one multiple is near, and the flips that lead to it are what is tried and found.
 --   Found P k n t y R    R rises from k on, below n, has at most t places, and their flips take y to a word that passes P
---   set-else, set-here   the words of a page with one of them changed
---   Mendable p x i k t   what mend does not refuse, but for 15: t is the exact length of the list, k its length
+--   Mendable p x i k t   what mend does not refuse, but for 15: k is the length of the list, t what it is to be
 use mathlib.Core.Path.{_≡_, refl, sym, ap, ap₂, _∙_}
 use mathlib.Core.Logic.{_≢_, _↔_, _⊎_, inl, inr}
 use mathlib.Core.Bool.{Bool, true, false, not, cond}
-use mathlib.Core.List.{List, [], _∷_}
+use mathlib.Core.List.{List, [], _∷_, _++_}
 use mathlib.Core.Option.{Option, none, some}
 use Prim.Native.Nat.{ℕ, zero, suc, _+_, _-_, _*_, _^_, _≤_, _<_, zero-le, suc-le-suc}
 use native.Mathlib.Nat as Nat
 use native.Mathlib.Decide.{ℕ-discrete}
 use native.Mathlib.Omega.{arith}
-use lib.Dec.{T, eqb, eqb→eq}
-use lib.ListN.{length, getD}
+use lib.Dec.{T, eqb, eqb→eq, leb, leb→le, lit≤, lit<, nleb→lt, not-T}
+use lib.ListN.{length, getD, set, replicate, List·getD-append, getD-replicate, length-append, length-replicate, length-set}
 use lib.Pow.{pow-mono}
+use lib.Seq.{ext-getD, getD-append-add, getD-set-other, getD-set-same}
 use Rattle.polynomial.specs.Division.{xor-lt}
 use Rattle.polynomial.specs.Multiple.{Multiple}
+use Rattle.polynomial.specs.Sums.{at-all}
 use Rattle.polynomial.specs.Xor.{xor, xors, xor-cancel, xor-eq-zero, xor-self, xor-zero-r}
 use Rattle.field.specs.Bch.{bch, weight}
 use Rattle.field.specs.Eval.{eval, eval-xor}
@@ -24,9 +25,16 @@ use Rattle.field.specs.Fields.{fieldOf}
 use Rattle.field.specs.Flips.{Rising, flips, flips-cons, flips-inj, flips-lt, flips-nil, flips-ones, length-ones, ones, ones-flips, ones-rising, rising-up, weight-flips, weight-xor}
 use Rattle.code.specs.declared.Parameters.{Parameters}
 use Rattle.code.specs.Accepted.{Rules, lawful, stored-le}
+use Rattle.code.specs.Chains.{exact-none, exact-of, given, last, off, off′, or-assoc, or-le, or-none, or-second, past, unless, when-le}
 use Rattle.code.specs.Code.{Flips, Near, before, firstOf, gen, nearest, passes, remainder, tried, unflipped}
 use Rattle.code.specs.Judge.{multiple-iff}
-use Rattle.code.specs.Parameters.{len, stored, strength}
+use Rattle.code.specs.Layout.{IsPage, flipped, mending, noPlace, pageBytes, pageClear, placeList, wordSizes, wordsOf}
+use Rattle.code.specs.Lists.{_orElse_, _when_, join, lastRefusal, part}
+use Rattle.code.specs.Pages.{IsWords, join-words, word-lt, words-join, words-many, words-page}
+use Rattle.code.specs.Parameters.{Accepted, len, sheetRefusal, stored, strength, subWordBytes}
+use Rattle.code.specs.Placement.{same-part}
+use Rattle.code.specs.Refusals.{mendRefusal, notExact, nowhere, pageRefusal, wordRefusal}
+use Rattle.code.specs.Refused.{page-links, word-le}
 
 -- ---- options
 some-inj : (R Q : List ℕ) → some R ≡ some Q → R ≡ Q
@@ -218,3 +226,199 @@ module _ (p : Parameters) (R : Rules p) (a : ℕ) (av : a ≤ p .v) (y : ℕ) wh
 
     pub nearest-clean : Multiple (gen p a) y → nearest p a y ≡ some []
     nearest-clean m = nearest-iff [] .1 (record { rising = tt; few = zero-le; multiple = rw (flips-nil, xor-zero-r y) m })
+
+-- ---- pages with places of sub-word i flipped
+module _ (p : Parameters) (R : Rules p) (x : List ℕ) (h : IsPage p x) (i : ℕ) (li : i < p .m) where
+  abbrev pub word : ℕ
+  word = getD (wordsOf p x) i 0
+
+  pub word-low : word < 2 ^ stored p
+  word-low = word-lt p R x h i li
+
+  module _ (Q : List ℕ) (r : Rising 0 (stored p) Q) where
+    abbrev words : List ℕ
+    words = set (wordsOf p x) i (xor word (flips Q))
+
+    flipped-eq : flipped p x i Q ≡ join (wordSizes p) words
+    unfolding flipped
+    flipped-eq = refl
+
+    long : i < length (wordsOf p x)
+    long = rw (words-many p x) li
+
+    words-here : getD words i 0 ≡ xor word (flips Q)
+    words-here = getD-set-same (wordsOf p x) i (xor word (flips Q)) 0 long
+
+    words-else : (j : ℕ) → j ≢ i → getD words j 0 ≡ getD (wordsOf p x) j 0
+    words-else j n = getD-set-other (wordsOf p x) i j (xor word (flips Q)) 0 n
+
+    words-are : IsWords p words
+    words-are = record {
+      many = size;
+      below = at-all (λ c. c < 2 ^ stored p) words (λ j l. go j (rw size at l) (ℕ-discrete j i));
+    }
+      where
+        size : length words ≡ p .m
+        size = length-set (wordsOf p x) i (xor word (flips Q)) ∙ words-many p x
+
+        go : (j : ℕ) → j < p .m → Dec (j ≡ i) → getD words j 0 < 2 ^ stored p
+        go j l (yes e) = rw (e, words-here) (xor-lt (stored p) word (flips Q) word-low (flips-lt 0 (stored p) Q r))
+        go j l (no n) = rw (words-else j n) (word-lt p R x h j l)
+
+    pub flipped-page : IsPage p (flipped p x i Q)
+    flipped-page = rw flipped-eq (words-page p R words words-are)
+
+    flipped-words : wordsOf p (flipped p x i Q) ≡ words
+    flipped-words = ap (wordsOf p) flipped-eq ∙ words-join p R words words-are
+
+    pub flipped-here : getD (wordsOf p (flipped p x i Q)) i 0 ≡ xor word (flips Q)
+    flipped-here = ap (λ (l : List ℕ). getD l i 0) flipped-words ∙ words-here
+
+    pub flipped-else : (j : ℕ) → j ≢ i → getD (wordsOf p (flipped p x i Q)) j 0 ≡ getD (wordsOf p x) j 0
+    flipped-else j n = ap (λ (l : List ℕ). getD l j 0) flipped-words ∙ words-else j n
+
+    pub flipped-stay : (j : ℕ) → j < p .m → j ≢ i → part (subWordBytes p) j (flipped p x i Q) ≡ part (subWordBytes p) j x
+    flipped-stay j l n =
+        same-part p (flipped p x i Q) x j l (flipped-page .bytes) (h .bytes) (flipped-page .exact ∙ sym (h .exact)) (flipped-else j n)
+
+    -- a page with these words is this page
+    pub flipped-is : (z : List ℕ) → IsPage p z → getD (wordsOf p z) i 0 ≡ xor word (flips Q)
+        → ((j : ℕ) → j < p .m → j ≢ i → getD (wordsOf p z) j 0 ≡ getD (wordsOf p x) j 0) → flipped p x i Q ≡ z
+    flipped-is z g e o =
+        flipped-eq
+        ∙ ap (join (wordSizes p)) (ext-getD 0 words (wordsOf p z) (words-are .many ∙ sym (words-many p z)) (λ j l. go j (rw (words-are .many) at l) (ℕ-discrete j i)))
+        ∙ join-words p R z g
+      where
+        go : (j : ℕ) → j < p .m → Dec (j ≡ i) → getD words j 0 ≡ getD (wordsOf p z) j 0
+        go j l (yes w) = rw w (words-here ∙ sym e)
+        go j l (no n) = words-else j n ∙ sym (o j l n)
+
+  -- none flipped
+  pub flipped-none : flipped p x i [] ≡ x
+  flipped-none = flipped-is [] tt x h (sym (ap (xor word) flips-nil ∙ xor-zero-r word)) (λ j l n. refl)
+
+-- ---- the list
+pub places-eq : (k : ℕ) (Q : List ℕ) → placeList k Q ≡ Q ++ replicate (k - length Q) noPlace
+unfolding placeList
+places-eq k Q = refl
+
+pub places-long : (k : ℕ) (Q : List ℕ) → length Q ≤ k → length (placeList k Q) ≡ k
+places-long k Q h =
+    ap length (places-eq k Q) ∙ length-append Q (replicate (k - length Q) noPlace)
+    ∙ ap (λ (d : ℕ). length Q + d) (length-replicate (k - length Q) noPlace) ∙ Nat.add-sub-of-le h
+
+pub places-front : (k : ℕ) (Q : List ℕ) (j : ℕ) → j < length Q → getD (placeList k Q) j 0 ≡ getD Q j 0
+places-front k Q j l = ap (λ (d : List ℕ). getD d j 0) (places-eq k Q) ∙ List·getD-append Q (replicate (k - length Q) noPlace) 0 j l
+
+pub places-rest : (k : ℕ) (Q : List ℕ) (j : ℕ) → length Q ≤ j → j < k → getD (placeList k Q) j 0 ≡ noPlace
+places-rest k Q j g l =
+    let e : length Q + (j - length Q) ≡ j = Nat.add-sub-of-le g in
+    ap₂ (λ (d : List ℕ) (o : ℕ). getD d o 0) (places-eq k Q) (sym e) ∙ getD-append-add Q (replicate (k - length Q) noPlace) (j - length Q) 0
+    ∙ getD-replicate (k - length Q) (j - length Q) noPlace 0 (omega arith)
+
+-- ---- the refusal
+pub record Mendable (p : Parameters) (x : List ℕ) (i out wants : ℕ) : Type 0 where
+  pub exact : length x ≡ pageBytes p
+  pub clear : T (pageClear p x)
+  pub sub-word : i < p .m
+  pub room : out ≡ wants
+
+module _ (size : ℕ) (p : Parameters) (x : List ℕ) (i out : ℕ) where
+  abbrev wants : ℕ
+  wants = size * strength p 0
+
+  abbrev from-15 : ℕ
+  from-15 = 15 when nowhere (mending p x i)
+
+  pub mend-chain : mendRefusal size p x i out ≡ (wordRefusal p x i (p .m) out wants orElse from-15)
+  unfolding mendRefusal
+  mend-chain = refl
+
+  word-chain : wordRefusal p x i (p .m) out wants ≡ (pageRefusal p x orElse 9 when leb (p .m) i orElse 10 when notExact out wants)
+  unfolding wordRefusal
+  word-chain = refl
+
+  word-links : wordRefusal p x i (p .m) out wants
+      ≡ (sheetRefusal p orElse 7 when notExact (length x) (pageBytes p) orElse 8 when not (pageClear p x) orElse 9 when leb (p .m) i orElse 10 when notExact out wants)
+  word-links =
+      let e = 9 when leb (p .m) i orElse 10 when notExact out wants in
+      word-chain ∙ ap (λ (k : ℕ). k orElse e) (page-links p x)
+      ∙ or-assoc (sheetRefusal p) (7 when notExact (length x) (pageBytes p) orElse 8 when not (pageClear p x)) e
+      ∙ ap (λ (k : ℕ). sheetRefusal p orElse k) (or-assoc (7 when notExact (length x) (pageBytes p)) (8 when not (pageClear p x)) e)
+
+  pub mend-le : mendRefusal size p x i out ≤ lastRefusal
+  mend-le = rw mend-chain (or-le (wordRefusal p x i (p .m) out wants) from-15 (word-le p x i (p .m) out wants) (when-le 15 (nowhere (mending p x i)) (lit≤ tt)))
+
+  -- what the tests before 15 show
+  word-none : Accepted p → Mendable p x i out wants → wordRefusal p x i (p .m) out wants ≡ 0
+  word-none A s =
+      word-links ∙ or-second (sheetRefusal p) _ A
+      ∙ or-second (7 when notExact (length x) (pageBytes p)) _ (exact-none 7 (length x) (pageBytes p) (s .exact))
+      ∙ or-second (8 when not (pageClear p x)) _ (off 8 (pageClear p x) (s .clear))
+      ∙ or-second (9 when leb (p .m) i) _ (off′ 9 (leb (p .m) i) (not-T (leb (p .m) i) (λ t. Nat.not-le-of-lt (s .sub-word) (leb→le (p .m) i t))))
+      ∙ exact-none 10 out wants (s .room)
+
+  pub word-mendable : wordRefusal p x i (p .m) out wants ≡ 0 → Accepted p × Mendable p x i out wants
+  word-mendable z =
+      let a = or-none (sheetRefusal p) _ (sym word-links ∙ z) in
+      let c = or-none (7 when notExact (length x) (pageBytes p)) _ (a .1) in
+      let d = or-none (8 when not (pageClear p x)) _ (c .1) in
+      let e = or-none (9 when leb (p .m) i) (10 when notExact out wants) (d .1) in (
+        a .0,
+        record {
+          exact = exact-of 6 (length x) (pageBytes p) (c .0);
+          clear = unless 7 (pageClear p x) (d .0);
+          sub-word = nleb→lt (p .m) i (last 8 (leb (p .m) i) (e .0));
+          room = exact-of 9 out wants (e .1);
+        },
+      )
+
+  pub mend-left : Accepted p → Mendable p x i out wants → mendRefusal size p x i out ≡ from-15
+  mend-left A s = mend-chain ∙ or-second (wordRefusal p x i (p .m) out wants) from-15 (word-none A s)
+
+  mend-links : mendRefusal size p x i out
+      ≡ (sheetRefusal p orElse 7 when notExact (length x) (pageBytes p) orElse 8 when not (pageClear p x) orElse 9 when leb (p .m) i
+      orElse 10 when notExact out wants orElse from-15)
+  mend-links =
+      let seven = 7 when notExact (length x) (pageBytes p) in
+      let eight = 8 when not (pageClear p x) in
+      let nine = 9 when leb (p .m) i in
+      let ten = 10 when notExact out wants in
+      mend-chain ∙ ap (λ (k : ℕ). k orElse from-15) word-links
+      ∙ or-assoc (sheetRefusal p) (seven orElse eight orElse nine orElse ten) from-15
+      ∙ ap (λ (k : ℕ). sheetRefusal p orElse k) (or-assoc seven (eight orElse nine orElse ten) from-15
+      ∙ ap (λ (k : ℕ). seven orElse k) (or-assoc eight (nine orElse ten) from-15 ∙ ap (λ (k : ℕ). eight orElse k) (or-assoc nine ten from-15)))
+
+  -- what no refusal shows, and 15
+  pub mend-none : mendRefusal size p x i out ≡ 0 → Mendable p x i out wants × ((Q : List ℕ) × (mending p x i ≡ some Q))
+  mend-none z =
+      let a = or-none (wordRefusal p x i (p .m) out wants) from-15 (sym mend-chain ∙ z) in
+      (word-mendable (a .0) .1, go (mending p x i) refl (last 14 (nowhere (mending p x i)) (a .1)))
+    where
+      go : (o : Option (List ℕ)) → mending p x i ≡ o → T (not (nowhere (mending p x i))) → (Q : List ℕ) × (mending p x i ≡ some Q)
+      go (some Q) e t = (Q, e)
+      go none e t = absurd (rw e at t)
+
+  pub mend-15 : Accepted p → mendRefusal size p x i out ≡ 15 → Mendable p x i out wants × (mending p x i ≡ none)
+  mend-15 A z =
+      let a = sym (or-second (sheetRefusal p) _ A) ∙ sym mend-links ∙ z in
+      let c = past 6 (notExact (length x) (pageBytes p)) _ 15 (lit< tt) a in
+      let d = past 7 (not (pageClear p x)) _ 15 (lit< tt) (c .1) in
+      let e = past 8 (leb (p .m) i) _ 15 (lit< tt) (d .1) in
+      let f = past 9 (notExact out wants) from-15 15 (lit< tt) (e .1) in (
+        record {
+          exact = exact-of 6 (length x) (pageBytes p) (c .0);
+          clear = unless 7 (pageClear p x) (d .0);
+          sub-word = nleb→lt (p .m) i (last 8 (leb (p .m) i) (e .0));
+          room = exact-of 9 out wants (f .0);
+        },
+        go (mending p x i) refl (given 14 (nowhere (mending p x i)) (f .1)),
+      )
+    where
+      go : (o : Option (List ℕ)) → mending p x i ≡ o → T (nowhere (mending p x i)) → mending p x i ≡ none
+      go none e t = e
+      go (some Q) e t = absurd (rw e at t)
+
+pub mending-eq : (p : Parameters) (x : List ℕ) (i : ℕ) → mending p x i ≡ nearest p 0 (getD (wordsOf p x) i 0)
+unfolding mending
+mending-eq p x i = refl

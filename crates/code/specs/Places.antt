@@ -1,6 +1,6 @@
 -- The number of pairs of a word and a place at which two pages differ is the weight of their sum.
 use mathlib.Core.Path.{_≡_, refl, sym, ap, ap₂, _∙_}
-use mathlib.Core.Logic.{_≢_}
+use mathlib.Core.Logic.{_≢_, _⊎_, inl, inr}
 use mathlib.Core.Bool.{Bool, not, cond}
 use mathlib.Core.List.{List, [], _∷_}
 use Prim.Native.Nat.{ℕ, zero, suc, _+_, _/_, _%_, _^_, _≤_, _<_, zero-le, suc-le-suc}
@@ -51,6 +51,17 @@ pub addBelow-none : (n : ℕ) (f : ℕ → ℕ) → ((k : ℕ) → k < n → f k
 addBelow-none zero f h = addBelow-zero f
 addBelow-none (suc n) f h = addBelow-suc n f ∙ ap₂ _+_ (addBelow-none n f (λ k l. h k (Nat.le-step l))) (h n (Nat.le-refl (suc n)))
 
+-- one term alone
+pub addBelow-single : (n i : ℕ) (f : ℕ → ℕ) → i < n → ((j : ℕ) → j < n → j ≢ i → f j ≡ 0) → addBelow n f ≡ f i
+addBelow-single zero i f h o = absurd (Nat.not-suc-le-zero h)
+addBelow-single (suc n) i f h o =
+    addBelow-suc n f ∙ go (Nat.eq-or-lt-of-le (Nat.le-of-suc-le-suc h)) (λ l. addBelow-single n i f l (λ j k d. o j (Nat.le-step k) d))
+  where
+    go : (i ≡ n) ⊎ (i < n) → (i < n → addBelow n f ≡ f i) → addBelow n f + f n ≡ f i
+    go (inl e) ih =
+        ap₂ _+_ (addBelow-none n f (λ k l. o k (Nat.le-step l) (λ d. Nat.lt-irrefl n (rw (d ∙ e) at l)))) (ap f (sym e)) ∙ Nat.zero-add (f i)
+    go (inr l) ih = ap₂ _+_ (ih l) (o n (Nat.le-refl (suc n)) (λ d. Nat.lt-irrefl n (rw (sym d) at l))) ∙ Nat.add-zero (f i)
+
 pub addBelow-front : (n : ℕ) (f : ℕ → ℕ) → addBelow (suc n) f ≡ f 0 + addBelow n (λ k. f (suc k))
 addBelow-front zero f = addBelow-suc 0 f ∙ rw (addBelow-zero f, addBelow-zero (λ k. f (suc k))) (omega arith)
 addBelow-front (suc n) f =
@@ -71,7 +82,7 @@ unequal a b h l =
     bit-ind (λ (a : ℕ). cond (not (eqb a b)) 1 0 ≡ (a + b) % 2) (bit-ind (λ (b : ℕ). cond (not (eqb 0 b)) 1 0 ≡ (0 + b) % 2) refl refl b l)
     (bit-ind (λ (b : ℕ). cond (not (eqb 1 b)) 1 0 ≡ (1 + b) % 2) refl refl b l) a h
 
-words-differ : (n c d : ℕ) → c < 2 ^ n → d < 2 ^ n → countBelow n (λ k. not (eqb (coefficient c k) (coefficient d k))) ≡ weight (xor c d)
+pub words-differ : (n c d : ℕ) → c < 2 ^ n → d < 2 ^ n → countBelow n (λ k. not (eqb (coefficient c k) (coefficient d k))) ≡ weight (xor c d)
 words-differ n c d h l =
     countBelow-eq n (λ k. not (eqb (coefficient c k) (coefficient d k)))
     ∙ addBelow-ext n (λ k. cond (not (eqb (coefficient c k) (coefficient d k))) 1 0) (λ k. coefficient (xor c d) k)

@@ -1,24 +1,28 @@
 -- THE THEOREM: demands 2 and 3 hold for all accepted parameters, judge finds every burst, many pages in one call are those of single calls, and
--- a member with one bit altered is the page of its blocks with that bit altered.
+-- a member with one bit altered is the page of its blocks with that bit altered, and one sub-word is mended by the only multiple near it.
 use mathlib.Core.Path.{_≡_, refl, sym, ap, ap₂, _∙_}
 use mathlib.Core.Logic.{_≢_, _↔_, _⊎_, inl, inr}
 use mathlib.Core.Bool.{Bool, true, false, not, cond}
-use mathlib.Core.List.{List}
+use mathlib.Core.List.{List, [], _∷_}
+use mathlib.Core.Option.{Option, none, some}
 use Prim.Native.Nat.{ℕ, zero, suc, _+_, _-_, _*_, _^_, _≤_, _<_, zero-le, suc-le-suc}
 use native.Mathlib.Nat as Nat
 use native.Mathlib.Decide.{ℕ-discrete}
 use native.Mathlib.Omega.{arith}
 use lib.Dec.{T, eqb, eqb-refl, lit≤, not-T, T-not}
-use lib.ListN.{length, getD, take, drop}
+use lib.ListN.{length, getD, take, drop, replicate}
 use lib.Pow.{pow-mono, pow-pos}
 use Rattle.polynomial.specs.Bits.{coefficient}
 use Rattle.polynomial.specs.Coefficients.{beyond}
 use Rattle.polynomial.specs.Digits.{value}
-use Rattle.polynomial.specs.Division.{rem-lt, rem-zero}
-use Rattle.polynomial.specs.Sums.{All, add, at-all}
+use Rattle.polynomial.specs.Division.{rem-lt, rem-zero, xor-lt}
+use Rattle.polynomial.specs.Sums.{All, add, all-at, at-all}
 use Rattle.polynomial.specs.Multiple.{Multiple, multiple-same, rem-differ}
+use Rattle.polynomial.specs.Xor.{xor, xor-cancel, xor-self}
+use Rattle.field.specs.Bch.{weight, weight-zero}
 use Rattle.field.specs.Elements.{power-full, power-order, syndrome, syndrome-iff, syndrome-lt, syndrome-sum}
 use Rattle.field.specs.Fields.{BinaryField, fieldOf, irreducible, polynomial-degree, polynomial-irreducible}
+use Rattle.field.specs.Flips.{flips, flips-ones, length-ones, ones, ones-rising}
 use Rattle.generator.specs.Generator.{HasRoots, generator-is}
 use Rattle.generator.specs.Distinct.{member}
 use Rattle.code.specs.declared.Parameters.{Parameters}
@@ -36,32 +40,34 @@ use Rattle.code.specs.Buffers.{bytes-at, divides-up, divisor-deg, diviso
 use Rattle.code.specs.Buffers.{nested-back, remainder-back, row-back, short-back, short-differ, short-lt, syndromes-at}
 use Rattle.code.specs.Bursts.{another, apart-pages, apart-places, burst-same, bytes-burst, cyclic, moved-divides, moved-lt, others-same}
 use Rattle.code.specs.Bursts.{single-has, single-is, single-passing, single-unblank, singlePage}
-use Rattle.code.specs.Calls.{Altered, Judged, QuoteMade, ReadOut, Written, WrittenMany, asBytes, empty, judgeAnswer, leaves}
-use Rattle.code.specs.Calls.{nestedOf, nestedSyndromeList, outcome, outcomeNumber, pagesBy, quote, statuses, subWordOf, syndromeList}
+use Rattle.code.specs.Calls.{Altered, Judged, Mended, QuoteMade, ReadOut, Written, WrittenMany, asBytes, empty, judgeAnswer, leaves}
+use Rattle.code.specs.Calls.{mendingPlaces, nestedOf, nestedSyndromeList, outcome, outcomeNumber, pagesBy, placesOf, quote, statuses, subWordOf, syndromeList}
 use Rattle.code.specs.Chains.{off′, on}
-use Rattle.code.specs.Code.{IsMember, checkBits, degree, distance, gen, least, nested, newton, remainder, syndromes, verdict}
+use Rattle.code.specs.Code.{Flips, IsMember, Near, checkBits, degree, distance, gen, least, nested, newton, remainder, syndromes, verdict}
 use Rattle.code.specs.Degrees.{degree-exact}
-use Rattle.code.specs.Demands.{AlterLaws, AlteredMember, NamesBit, SetTo}
+use Rattle.code.specs.Demands.{AlterLaws, AlteredMember, Damaged, MendLaws, MendLent, Mends, NamesBit, SetTo}
 use Rattle.code.specs.Demands.{Alike, AlikeMany, BlankReadLaws, BlankWriteLaws, BufferLaws, Burst, BurstLaws, Demand2, Demand3, Demands, GeneratorLaws, GeneratorOf}
 use Rattle.code.specs.Demands.{JudgeLaws, ManyLaws, QuoteLaws, QuotedPage, RegisterLaws, Rewrites, ShortLaws, ShortenedLaws, Smallest}
 use Rattle.code.specs.Demands.{Shortening, StoredLaws, Sums, Vanishes, WholeLaws, WriteLaws}
 use Rattle.code.specs.Distance.{Passing, least-few, least-many, pageWeight}
 use Rattle.code.specs.Encode.{N-above, encode-member, member-encode}
 use Rattle.code.specs.Judge.{member-passing, multiple-iff, passing-member, verdict-member, verdict-nested, verdict-sub}
-use Rattle.code.specs.Layout.{altered, blockBit, oneBit}
+use Rattle.code.specs.Layout.{altered, blockBit, flipped, mending, noPlace, oneBit, placeList}
 use Rattle.code.specs.Layout.{Bytes, Fits, IsBlank, IsPage, blank, blocksOf, coefficientOf, dataBits, dataBytes, dataOf, differences}
 use Rattle.code.specs.Layout.{pageBytes, pageClear, pageOf, storedOf, wordSizes, wordsOf}
 use Rattle.code.specs.Lists.{_when_, addBelow, countBelow, join, part, sum}
 use Rattle.code.specs.Many.{each-written, length-by, length-statuses, many-alike, many-lent, many-none, part-length, runs-are}
 use Rattle.code.specs.Many.{status-at, status-left, statuses-alike}
+use Rattle.code.specs.Mend.{Mendable, flipped-here, flipped-is, flipped-none, flipped-page, flipped-stay, flips-near, flips-once, mend-15, mend-left}
+use Rattle.code.specs.Mend.{mend-none, mending-eq, near-once, nearest-clean, nearest-iff, nearest-none, nearest-word, places-eq}
 use Rattle.code.specs.Newton.{nesteds-of, newtons-of}
 use Rattle.code.specs.Pages.{IsWords, again-from, again-to, data-fit, dataBytes-eq, join-words}
-use Rattle.code.specs.Pages.{page-back, page-has, page-is, page-words, sum-fits, sum-page, word-lt}
+use Rattle.code.specs.Pages.{page-back, page-has, page-is, page-words, sum-fits, sum-page, word-lt, words-many}
 use Rattle.code.specs.Parameters.{Accepted, full, len, stored, strength, subWordBytes}
-use Rattle.code.specs.Placement.{all-places, any-fit, any-has, blocks-same, check-bits, data-room, place-bit, read-bit, sub-word-bit, written-bit}
-use Rattle.code.specs.Places.{addBelow-ext, addBelow-none, countBelow-eq, countBelow-ext, distance-places}
+use Rattle.code.specs.Placement.{all-places, any-fit, any-has, blocks-same, check-bits, data-room, place-bit, read-bit, sub-word-bit, word-at, written-bit}
+use Rattle.code.specs.Places.{addBelow-ext, addBelow-none, addBelow-single, countBelow-eq, countBelow-ext, differing, distance-places, words-differ}
 use Rattle.code.specs.Quote.{quote-bits, quote-degree, quote-length, quote-none, quote-past-m, quote-past-v}
-use Rattle.code.specs.Refusals.{alterRefusal, manyRefusal, quoteRefusal, writeRefusal}
+use Rattle.code.specs.Refusals.{alterRefusal, manyRefusal, mendRefusal, nowhere, quoteRefusal, writeRefusal}
 use Rattle.code.specs.Refused.{BlocksBuffer, PageBuffer, Width, blank-judgeable, judge-is, judge-stray, judged-blank, judged-else, judged-page}
 use Rattle.code.specs.Refused.{page-judgeable, read-leaves, verdict-blank, verdict-else, write-alike, write-done, write-keeps}
 use Rattle.code.specs.Refused.{write-13, write-leaves, write-left, write-refused}
@@ -884,8 +890,194 @@ module _ (p : Parameters) (A : Accepted p) where
     most = alter-most;
   }
 
+  -- ---- one sub-word mended
+  mend-given : (size : ℕ) (x : List ℕ) (i k : ℕ) → Bytes x → Mendable p x i k (size * strength p 0) → MendLent size p x i k
+  mend-given size x i k y s = record { page = record { bytes = y; exact = s .exact; clear = s .clear }; sub-word = s .sub-word; list = s .room }
+
+  given-mend : (size : ℕ) (x : List ℕ) (i k : ℕ) → MendLent size p x i k → Mendable p x i k (size * strength p 0)
+  given-mend size x i k g = record { exact = g .page .exact; clear = g .page .clear; sub-word = g .sub-word; room = g .list }
+
+  -- the word of sub-word i
+  module _ (x : List ℕ) (i : ℕ) (h : IsPage p x) (li : i < p .m) where
+    sub-low : subWordOf p x i < 2 ^ stored p
+    sub-low = word-lt p R x h i li
+
+    mending-iff : (Q : List ℕ) → (mending p x i ≡ some Q) ↔ Flips p 0 (subWordOf p x i) Q
+    mending-iff Q = let n = nearest-iff p R 0 zero-le (subWordOf p x i) sub-low Q in ((λ e. n .0 (sym (mending-eq p x i) ∙ e)), (λ f. mending-eq p x i ∙ n .1 f))
+
+    mending-none : (mending p x i ≡ none) ↔ ((c : ℕ) → ¬ Near p 0 (subWordOf p x i) c)
+    mending-none = let n = nearest-none p R 0 zero-le (subWordOf p x i) sub-low in ((λ e. n .0 (sym (mending-eq p x i) ∙ e)), (λ f. mending-eq p x i ∙ n .1 f))
+
+    mending-some : (c : ℕ) → Near p 0 (subWordOf p x i) c → mending p x i ≡ some (ones (stored p) (xor (subWordOf p x i) c))
+    mending-some c N = mending-eq p x i ∙ nearest-word p R 0 zero-le (subWordOf p x i) sub-low c N
+
+  -- by the refusal, for a list whose numbers take `size` places
+  module _ (size : ℕ) (x : List ℕ) (i k : ℕ) (y : Bytes x) where
+    pub mend-zero-iff : (mendRefusal size p x i k ≡ 0) ↔ (MendLent size p x i k × ((c : ℕ) × Near p 0 (subWordOf p x i) c))
+    mend-zero-iff = (
+      (λ z. (let s = mend-none size p x i k z in
+          let g = mend-given size x i k y (s .0) in
+          let f = mending-iff x i (g .page) (g .sub-word) (s .1 .0) .0 (s .1 .1) in
+          (g, (xor (subWordOf p x i) (flips (s .1 .0)), flips-near p R 0 zero-le (subWordOf p x i) (sub-low x i (g .page) (g .sub-word)) (s .1 .0) f)))),
+      (λ s. mend-left size p x i k A (given-mend size x i k (s .0))
+          ∙ ap (λ (o : Option (List ℕ)). 15 when nowhere o) (mending-some x i (s .0 .page) (s .0 .sub-word) (s .1 .0) (s .1 .1))),
+    )
+
+    pub mend-15-iff : (mendRefusal size p x i k ≡ 15) ↔ (MendLent size p x i k × ((c : ℕ) → ¬ Near p 0 (subWordOf p x i) c))
+    mend-15-iff = (
+      (λ z. (let s = mend-15 size p x i k A z in
+          let g = mend-given size x i k y (s .0) in
+          (g, mending-none x i (g .page) (g .sub-word) .0 (s .1)))),
+      (λ s. mend-left size p x i k A (given-mend size x i k (s .0))
+          ∙ ap (λ (o : Option (List ℕ)). 15 when nowhere o) (mending-none x i (s .0 .page) (s .0 .sub-word) .1 (s .1))),
+    )
+
+    -- no refusal: the places, and what they make
+    mend-found : mendRefusal size p x i k ≡ 0
+        → MendLent size p x i k × ((Q : List ℕ) × (mending p x i ≡ some Q) × Flips p 0 (subWordOf p x i) Q)
+    mend-found z =
+        let s = mend-none size p x i k z in
+        let g = mend-given size x i k y (s .0) in
+        (g, (s .1 .0, s .1 .1, mending-iff x i (g .page) (g .sub-word) (s .1 .0) .0 (s .1 .1)))
+
+  places-of : (x : List ℕ) (i : ℕ) (Q : List ℕ) → mending p x i ≡ some Q → placesOf p x i ≡ Q
+  places-of x i Q e = ap mendingPlaces e
+
+  pub number-of : (n k : ℕ) → n ∷ [] ≡ k ∷ [] → n ≡ k
+  number-of n k e = ap (λ (l : List ℕ). getD l 0 0) e
+
+  pub mends-of : (size : ℕ) (x after : List ℕ) (i k : ℕ) (numbers : List ℕ) (counted : ℕ) → Bytes x → mendRefusal size p x i k ≡ 0
+      → after ≡ flipped p x i (placesOf p x i) → numbers ≡ placeList (strength p 0) (placesOf p x i) → counted ≡ length (placesOf p x i)
+      → IsPage p after × Near p 0 (subWordOf p x i) (subWordOf p after i) × ((Q : List ℕ) × Mends p x after i numbers counted Q)
+  mends-of size x after i k numbers counted y z e f g =
+      let s = mend-found size x i k y z in
+      let h = s .0 .page in
+      let li = s .0 .sub-word in
+      let Q = s .1 .0 in
+      let t = places-of x i Q (s .1 .1) in
+      let r = s .1 .2 .rising in
+      let a : after ≡ flipped p x i Q = e ∙ ap (flipped p x i) t in
+      let w : subWordOf p after i ≡ xor (subWordOf p x i) (flips Q) = ap (λ (b : List ℕ). subWordOf p b i) a ∙ flipped-here p R x h i li Q r in (
+        rw a (flipped-page p R x h i li Q r),
+        rw w (flips-near p R 0 zero-le (subWordOf p x i) (sub-low x i h li) Q (s .1 .2)),
+        (
+          Q,
+          record {
+            flips = s .1 .2;
+            sub-word = w;
+            list = f ∙ ap (placeList (strength p 0)) t ∙ places-eq (strength p 0) Q;
+            number = g ∙ ap length t;
+          },
+        ),
+      )
+
+  pub mend-stays : (size : ℕ) (x after : List ℕ) (i k j : ℕ) → Bytes x → after ≡ leaves (mendRefusal size p x i k) (flipped p x i (placesOf p x i)) x
+      → j < p .m → j ≢ i → part (subWordBytes p) j after ≡ part (subWordBytes p) j x
+  mend-stays size x after i k j y e l n = go (mendRefusal size p x i k) refl e
+    where
+      go : (r : ℕ) → mendRefusal size p x i k ≡ r → after ≡ leaves r (flipped p x i (placesOf p x i)) x → part (subWordBytes p) j after ≡ part (subWordBytes p) j x
+      go zero z e =
+          let s = mend-found size x i k y z in
+          ap (part (subWordBytes p) j) (e ∙ ap (flipped p x i) (places-of x i (s .1 .0) (s .1 .1)))
+          ∙ flipped-stay p R x (s .0 .page) i (s .0 .sub-word) (s .1 .0) (s .1 .2 .rising) j l n
+      go (suc r) z e = ap (part (subWordBytes p) j) e
+
+  -- no fault: done, and no flips
+  pub mend-clean : (size : ℕ) (x : List ℕ) (i k : ℕ) → MendLent size p x i k → Multiple (gen p 0) (subWordOf p x i)
+      → (mendRefusal size p x i k ≡ 0) × (placesOf p x i ≡ []) × (flipped p x i (placesOf p x i) ≡ x)
+  mend-clean size x i k g m =
+      let e : mending p x i ≡ some [] = mending-eq p x i ∙ nearest-clean p R 0 zero-le (subWordOf p x i) (sub-low x i (g .page) (g .sub-word)) m in
+      let t = places-of x i [] e in (
+        mend-left size p x i k A (given-mend size x i k g) ∙ ap (λ (o : Option (List ℕ)). 15 when nowhere o) e,
+        t,
+        ap (flipped p x i) t ∙ flipped-none p R x (g .page) i (g .sub-word),
+      )
+
+  -- a damaged member
+  module _ (z x : List ℕ) (i : ℕ) (h : IsPage p x) (li : i < p .m) (u : IsPage p z) (D : Damaged p z x i) where
+    same-word : (j : ℕ) → j < p .m → j ≢ i → subWordOf p z j ≡ subWordOf p x j
+    same-word j l n = word-at p z j l ∙ ap (value 8) (sym (D .elsewhere j l n)) ∙ sym (word-at p x j l)
+
+    damage : differences p x z ≡ weight (xor (subWordOf p x i) (subWordOf p z i))
+    damage =
+        differences-are x z h u
+        ∙ addBelow-single (p .m) i (differing (stored p) (wordsOf p x) (wordsOf p z)) li (λ j l n. none-at j l n)
+        ∙ words-differ (stored p) (subWordOf p x i) (subWordOf p z i) (sub-low x i h li) (sub-low z i u li)
+      where
+        none-at : (j : ℕ) → j < p .m → j ≢ i → differing (stored p) (wordsOf p x) (wordsOf p z) j ≡ 0
+        none-at j l n =
+            words-differ (stored p) (subWordOf p x j) (subWordOf p z j) (sub-low x j h l) (sub-low z j u l)
+            ∙ ap (λ (c : ℕ). weight (xor (subWordOf p x j) c)) (same-word j l n) ∙ ap weight (xor-self (subWordOf p x j)) ∙ weight-zero
+
+    pub undamaged : Multiple (gen p 0) (subWordOf p z i) → (size k : ℕ) → MendLent size p x i k
+        → (mendRefusal size p x i k ≡ 0) × (flipped p x i (placesOf p x i) ≡ z) × (length (placesOf p x i) ≡ differences p x z)
+    undamaged m size k g =
+        let c = subWordOf p z i in
+        let w : Near p 0 (subWordOf p x i) c = record { stores = sub-low z i u li; multiple = m; near = rw (← damage) (D .few) } in
+        let e = mending-some x i h li c w in
+        let Q = ones (stored p) (xor (subWordOf p x i) c) in
+        let b : xor (subWordOf p x i) c < 2 ^ stored p = xor-lt (stored p) (subWordOf p x i) c (sub-low x i h li) (sub-low z i u li) in
+        let t = places-of x i Q e in (
+          mend-left size p x i k A (given-mend size x i k g) ∙ ap (λ (o : Option (List ℕ)). 15 when nowhere o) e,
+          ap (flipped p x i) t
+              ∙ flipped-is p R x h i li Q (ones-rising (stored p) (xor (subWordOf p x i) c)) z u
+              (sym (ap (xor (subWordOf p x i)) (flips-ones (stored p) (xor (subWordOf p x i) c) b) ∙ xor-cancel (subWordOf p x i) c))
+              (λ j l n. same-word j l n),
+          ap length t ∙ length-ones (stored p) (xor (subWordOf p x i) c) b ∙ sym damage,
+        )
+
+  pub member-multiple : (z : List ℕ) → IsPage p z → judgeAnswer p z ≡ Verdict.Member → (i : ℕ) → i < p .m → Multiple (gen p 0) (subWordOf p z i)
+  member-multiple z u e i li =
+      multiple-iff p R 0 zero-le (subWordOf p z i) .0
+      (all-at (λ c. Divides p 0 c) (wordsOf p z) (judged-passing z u e .words) i (rw (words-many p z) li))
+
+  pub mends : MendLaws p
+  mends = record {
+    once = λ a y c d h. near-once p R a h y c d;
+    one-list = λ a y Q S h l. flips-once p R a h y l Q S;
+    done = λ x after i l listed n counted o y M. (
+      (λ e. mend-zero-iff 1 x i (length l) y .0 (sym (M .0 .number) ∙ ap outcomeNumber e)),
+      (λ s. M .0 .answers ∙ ap outcome (mend-zero-iff 1 x i (length l) y .1 s)),
+    );
+    nowhere = λ x after i l listed n counted o y M. (
+      (λ e. mend-15-iff 1 x i (length l) y .0 (sym (M .0 .number) ∙ ap outcomeNumber e)),
+      (λ s. M .0 .answers ∙ ap outcome (mend-15-iff 1 x i (length l) y .1 s)),
+    );
+    kept = λ x after i l listed n counted k M.
+        (let b = refused-pos k (mendRefusal 1 p x i (length l)) (M .0 .answers) in (
+          M .0 .buffer ∙ leaves-refused (mendRefusal 1 p x i (length l)) _ x b,
+          M .1 .buffer ∙ leaves-refused (mendRefusal 1 p x i (length l)) _ l b,
+          number-of counted n (M .2 .buffer ∙ leaves-refused (mendRefusal 1 p x i (length l)) _ (n ∷ []) b),
+        ));
+    mended = λ x after i l listed n counted y M. (let s = all-of x after i l listed n counted y M in (s .0, s .1));
+    places = λ x after i l listed n counted y M. (let s = all-of x after i l listed n counted y M in s .2);
+    elsewhere = λ x after i l listed n counted o j y M. mend-stays 1 x after i (length l) j y (M .0 .buffer);
+    clean = λ x after i l listed n counted o y M g m.
+        (let s = mend-clean 1 x i (length l) g m in (
+          M .0 .answers ∙ ap outcome (s .0),
+          rw (s .0) at (M .0 .buffer) ∙ s .2,
+          rw (s .0) at (M .1 .buffer) ∙ ap (placeList (strength p 0)) (s .1) ∙ places-eq (strength p 0) [] ∙ ap (λ (k : ℕ). replicate k noPlace) (Nat.sub-zero (strength p 0)),
+          number-of counted 0 (rw (s .0) at (M .2 .buffer) ∙ ap (λ (Q : List ℕ). length Q ∷ []) (s .1)),
+        ));
+    back = λ z x after i l listed n counted o bz y J D g M.
+        (let e : judgeAnswer p z ≡ Verdict.Member = sym (J .answers) in
+        let u = judged-page p z e bz in
+        let s = undamaged z x i (g .page) (g .sub-word) u D (member-multiple z u e i (g .sub-word)) 1 (length l) g in (
+          M .0 .answers ∙ ap outcome (s .0),
+          rw (s .0) at (M .0 .buffer) ∙ s .1,
+          number-of counted (differences p x z) (rw (s .0) at (M .2 .buffer) ∙ ap (λ (k : ℕ). k ∷ []) (s .2)),
+        ));
+  }
+    where
+      all-of : (x after : List ℕ) (i : ℕ) (l listed : List ℕ) (n counted : ℕ) → Bytes x → Mended p x after i l listed n counted Outcome.Done
+          → IsPage p after × Near p 0 (subWordOf p x i) (subWordOf p after i) × ((Q : List ℕ) × Mends p x after i listed counted Q)
+      all-of x after i l listed n counted y M =
+          let z : mendRefusal 1 p x i (length l) ≡ 0 = sym (M .0 .number) in
+          mends-of 1 x after i (length l) listed counted y z (rw z at (M .0 .buffer)) (rw z at (M .1 .buffer))
+          (number-of counted (length (placesOf p x i)) (rw z at (M .2 .buffer)))
+
 pub shortening : Shortening
 shortening p z = (short-accepted p z, short-refused p z)
 
 pub demands : Demands
-demands p A = (demand2 p A, demand3 p A, bursts p A, many p A, alters p A)
+demands p A = (demand2 p A, demand3 p A, bursts p A, many p A, alters p A, mends p A)
