@@ -21,54 +21,13 @@ use Rattle.code.specs.Accepted.{accepted, stored-room}
 use Rattle.code.specs.Alter.{alone, alone-words, unit-page, unit-words, units, units-are}
 use Rattle.code.specs.Layout.{IsPage, dataBits, oneBit, oneBlock, pageBytes, pageClear, pageOf, single, wordsOf}
 use Rattle.code.specs.Pages.{join-words, page-length, sum-is-page, sum-words, whole, word-lt, words-many}
+use Rattle.code.specs.Lists.{part}
 use Rattle.code.specs.Parameters.{Accepted, stored, subWordBytes}
 use Rattle.code.specs.Placement.{data-room, single-at, single-else, word-at}
 use Rattle.layout.specs.Parts.{page-parts, word-room}
-use Rattle.layout.specs.Replaced.{replaced-after, replaced-before, replaced-length, replaced-part}
-use Rattle.layout.specs.SubWords.{part-same}
 use Rattle.layout.specs.SubWords as S
-use Rattle.encode.specs.Encoding.{written}
+use Rattle.layout.specs.Written.{written, written-here, written-length, written-there}
 use Rattle.alter.specs.Short.{below, below-lt, data-below, dataBelow, place, shortest, shortest-accepted, shortest-stored, shortest-words, unit-split}
-
-abbrev partOf : Parameters → List ℕ → ℕ → List ℕ
-partOf p x j = take (subWordBytes p) (drop (j * subWordBytes p) x)
-
--- ---- a page with another word in the place of word k
-module _ (p : Parameters) (x : List ℕ) (k c : ℕ) (e : length x ≡ pageBytes p) (h : k < p .m) where
-  room : k * subWordBytes p + length (digits 8 (subWordBytes p) c) ≤ length x
-  room = rw (length-digits 8 (subWordBytes p) c, e) (word-room p k h)
-
-  pub written-length : length (written p x k c) ≡ pageBytes p
-  written-length = replaced-length x (k * subWordBytes p) (digits 8 (subWordBytes p) c) room ∙ e
-
-  pub written-here : partOf p (written p x k c) k ≡ digits 8 (subWordBytes p) c
-  written-here =
-      ap (λ (n : ℕ). take n (drop (k * subWordBytes p) (written p x k c))) (sym (length-digits 8 (subWordBytes p) c))
-      ∙ replaced-part x (k * subWordBytes p) (digits 8 (subWordBytes p) c) room
-
-  pub written-there : (j : ℕ) → j ≢ k → partOf p (written p x k c) j ≡ partOf p x j
-  written-there j n = go (decLe (suc j) k)
-    where
-      go : Dec (j < k) → partOf p (written p x k c) j ≡ partOf p x j
-      go (yes u) =
-          replaced-before x (k * subWordBytes p) (digits 8 (subWordBytes p) c) room (j * subWordBytes p) (subWordBytes p)
-          (rw (← Nat.suc-mul j (subWordBytes p)) (Nat.mul-le-mul-right (subWordBytes p) u))
-      go (no u) = more (Nat.eq-or-lt-of-le (let z : k ≤ j = omega arith in z))
-        where
-          more : (k ≡ j) ⊎ (k < j) → partOf p (written p x k c) j ≡ partOf p x j
-          more (inl d) = absurd (n (sym d))
-          more (inr l) =
-              ap (take (subWordBytes p)) (replaced-after x (k * subWordBytes p) (digits 8 (subWordBytes p) c) room (j * subWordBytes p)
-              (rw (length-digits 8 (subWordBytes p) c, ← Nat.suc-mul k (subWordBytes p)) (Nat.mul-le-mul-right (subWordBytes p) l)))
-
--- the part that the program takes, and the one that comes back
-pub part-word : (p : Parameters) → Accepted p → (x : List ℕ) (i k : ℕ) → k ≡ subWordBytes p → i < p .m
-    → value 8 (take (i * k + k - i * k) (drop (i * k) x)) ≡ getD (wordsOf p x) i 0
-part-word p A x i k e h = ap (value 8) (part-same p A x i k e) ∙ sym (word-at p x i h)
-
-pub part-made : (p : Parameters) (y : List ℕ) (n k : ℕ) → ((j : ℕ) → getD y j 0 < 2 ^ 8) → length y ≡ k → k ≡ subWordBytes p → value 8 y ≡ n
-    → y ≡ digits 8 (subWordBytes p) n
-part-made p y n k b l e v = sym (digits-value 8 y (at-all (λ d. d < 2 ^ 8) y (λ j h. b j))) ∙ ap₂ (digits 8) (l ∙ e) v
 
 -- a word of a sheet with shorter sub-words has its place
 pub word-fits : (p q : Parameters) → Accepted q → (x : List ℕ) (k n : ℕ) → ((j : ℕ) → getD x j 0 < 2 ^ 8) → length x ≡ pageBytes q → k < q .m
@@ -78,8 +37,8 @@ word-fits p q A x k n b e h l = Nat.lt-of-lt-of-le (S.word-lt q A x b e k h) (po
 -- ---- word by word
 pub record Spread (p : Parameters) (x cs : List ℕ) (k : ℕ) (y : List ℕ) : Type 0 where
   pub exact : length y ≡ pageBytes p
-  pub made : (j : ℕ) → j < k → j < p .m → partOf p y j ≡ digits 8 (subWordBytes p) (xor (getD (wordsOf p x) j 0) (getD cs j 0))
-  pub left : (j : ℕ) → k ≤ j → j < p .m → partOf p y j ≡ partOf p x j
+  pub made : (j : ℕ) → j < k → j < p .m → part (subWordBytes p) j y ≡ digits 8 (subWordBytes p) (xor (getD (wordsOf p x) j 0) (getD cs j 0))
+  pub left : (j : ℕ) → k ≤ j → j < p .m → part (subWordBytes p) j y ≡ part (subWordBytes p) j x
 
 pub spread-start : (p : Parameters) (x cs : List ℕ) → length x ≡ pageBytes p → Spread p x cs 0 x
 spread-start p x cs e = record { exact = e; made = λ j h l. absurd (Nat.not-suc-le-zero h); left = λ j h l. refl }
@@ -99,7 +58,7 @@ spread-next p x cs y z k S h e = rw e (record {
     same-word = word-at p y k h ∙ ap (value 8) (S .left k (Nat.le-refl k) h) ∙ sym (word-at p x k h)
 
     made : (j : ℕ) → j < k + 1 → j < p .m → Dec (j ≡ k)
-        → partOf p (written p y k c) j ≡ digits 8 (subWordBytes p) (xor (getD (wordsOf p x) j 0) (getD cs j 0))
+        → part (subWordBytes p) j (written p y k c) ≡ digits 8 (subWordBytes p) (xor (getD (wordsOf p x) j 0) (getD cs j 0))
     made j l m (yes d) =
         rw d (written-here p y k c (S .exact) h ∙ ap (λ (f : ℕ). digits 8 (subWordBytes p) (xor f (getD cs k 0))) same-word)
     made j l m (no n) = written-there p y k c (S .exact) h j n ∙ S .made j (less (Nat.eq-or-lt-of-le (Nat.le-of-suc-le-suc (omega arith)))) m

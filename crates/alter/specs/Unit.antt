@@ -25,7 +25,8 @@ use Rattle.layout.specs.Parts.{word-room}
 use Rattle.layout.specs.Replaced.{replaced, replaced-after, replaced-before, replaced-length, replaced-part}
 use Rattle.layout.specs.Sizes.{Degrees, shifted, word-high}
 use Rattle.encode.specs.Carried.{roomBytes, zero-value}
-use Rattle.encode.specs.Encoding.{wordAlone, wordFrom, written}
+use Rattle.layout.specs.Written.{written}
+use Rattle.encode.specs.Encoding.{wordAlone, wordFrom}
 use Rattle.encode.specs.Page.{Encoded, encoded-all, encoded-next}
 
 pub record Making (p : Parameters) (rows : List (List ℕ)) (w unit t : List ℕ) : Type 0 where
@@ -42,19 +43,7 @@ pub record Built (p : Parameters) (i d j : ℕ) (unit t acc : List ℕ) : Type 0
   pub table : length t ≡ 3072
   pub room : length acc ≡ roomBytes p
 
--- ---- a bit added
-pub bit-room : (r n v : ℕ) → r < 8 * n → v ≡ 1 * 2 ^ (r % 8) % 2 ^ 64 → (r / 8 ≤ n) × (v < 2 ^ (8 * (n - r / 8)))
-bit-room r n v h e =
-    let b : r % 8 < 8 = Nat.mod-lt r (suc-le-suc zero-le) in
-    (omega arith, rw (e ∙ shifted (r % 8) (omega arith)) (pow-lt (omega (arith, b))))
-
-pub bit-set : (r v x y : ℕ) → v ≡ 1 * 2 ^ (r % 8) % 2 ^ 64 → y ≡ xor x (v * 2 ^ (8 * (r / 8))) → y ≡ xor x (2 ^ r)
-bit-set r v x y e f =
-    let b : r % 8 < 8 = Nat.mod-lt r (suc-le-suc zero-le) in
-    let s : r % 8 + 8 * (r / 8) ≡ r = omega arith in
-    f ∙ ap (xor x) (ap (λ (c : ℕ). c * 2 ^ (8 * (r / 8))) (e ∙ shifted (r % 8) (omega arith))
-    ∙ sym (pow-add 2 (r % 8) (8 * (r / 8))) ∙ ap (λ (k : ℕ). 2 ^ k) s)
-
+-- ---- numbers moved
 -- put into zeros
 pub put-in : (x y z : ℕ) → y ≡ x + z → x ≡ 0 → y ≡ z
 put-in x y z e h = omega arith

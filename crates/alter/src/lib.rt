@@ -14,7 +14,8 @@ ghost use Rattle.code.specs.Layout.{blank, coefficientOf, dataBits, oneBit, one
 ghost use Rattle.code.specs.Parameters.{Accepted, stored, subWordBytes};
 ghost use Rattle.layout.specs.Sizes.{Degrees};
 ghost use Rattle.encode.specs.Carried.{roomBytes};
-ghost use Rattle.encode.specs.Encoding.{wordAlone, wordFrom, written};
+ghost use Rattle.layout.specs.Written.{written};
+ghost use Rattle.encode.specs.Encoding.{wordAlone, wordFrom};
 ghost use Rattle.alter.specs.Short.{below, dataBelow, shortest};
 ghost use Rattle.alter.specs.Spread.{Adding, Spread};
 ghost use Rattle.alter.specs.Sum.{Added, unlessBlank};
@@ -101,15 +102,6 @@ fn block_page(
 
 // ---- the page of a single bit: x^e and its remainder y by g_v, and the page of y's data
 
-// x^e is added.
-fn add_power(s: &mut [u8], e: usize)
-    requires { ⌜ e < 8 * length (now s) ⌝ }
-    ensures { λ x. ⌜ value 8 (now (s .exit)) ≡ xor (value 8 (now (s .entry))) (2 ^ e) ⌝ }
-{
-    let v: u64 = 1 << (e % 8);
-    kernels::bytes::add_bytes(s, e / 8, v);
-}
-
 // The remainder of x^e by g_v, in y, which is 0; its table is made in t.
 fn power_below(
     y: &mut [u8],
@@ -127,7 +119,7 @@ fn power_below(
     let v = p.v as usize;
     let bits = layout::check_bits(p, w, 0);
     levels::prepare(t, p, rows, v, bits);
-    add_power(&mut s, e);
+    layout::flip(&mut s, e);
     let mut r = [0u64; 13];
     encode::check_of(&mut r, t, &s, p, v, bits, 64);
     kernels::bytes::store_low(y, &r, bits);
@@ -233,7 +225,7 @@ fn add_both(part: &mut [u8], y: &[u8], e: usize)
     ensures { λ x. ⌜ value 8 (now (part .exit)) ≡ xor (xor (value 8 (now (part .entry))) (value 8 (now (y .entry)))) (2 ^ e) ⌝ }
 {
     kernels::bytes::add_up(part, y, 0);
-    add_power(part, e);
+    layout::flip(part, e);
 }
 
 // The same in sub-word i of the page.

@@ -5,7 +5,6 @@
 --   wordFrom p d x i                           sub-word i from its data d and the later sub-words of the page x
 --   wordAlone p d i                            the same where the later sub-words are 0
 --   wordOf p b x i                             sub-word i from its block and the later sub-words of the page x
---   written p x i c                            the page x with c as sub-word i
 use mathlib.Core.Path.{_≡_, sym, ap, ap₂, _∙_}
 use mathlib.Core.List.{List}
 use Prim.Native.Nat.{ℕ, suc, _+_, _-_, _*_, _/_, _^_, _≤_, _<_}
@@ -64,9 +63,6 @@ wordAlone p d i = checked p (level p i) (d * 2 ^ checkBits p i) 0
 
 abbrev pub wordOf : Parameters → List ℕ → List ℕ → ℕ → ℕ
 wordOf p blocks page i = wordFrom p (getD (blocksOf p blocks) i 0) page i
-
-abbrev pub written : Parameters → List ℕ → ℕ → ℕ → List ℕ
-written p page i c = replaced page (i * subWordBytes p) (digits 8 (subWordBytes p) c)
 
 -- ---- blocks
 module _ (p : Parameters) (w blocks : List ℕ) (R : Ready p w blocks) (b : (i : ℕ) → getD blocks i 0 < 2 ^ 8) where

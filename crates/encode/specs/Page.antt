@@ -22,7 +22,8 @@ use Rattle.code.specs.Placement.{encode-at, word-at}
 use Rattle.layout.specs.Parts.{page-parts, word-room}
 use Rattle.layout.specs.Replaced.{replaced, replaced-after, replaced-length, replaced-part}
 use Rattle.encode.specs.Carried.{roomBytes}
-use Rattle.encode.specs.Encoding.{wordOf, written}
+use Rattle.layout.specs.Written.{written}
+use Rattle.encode.specs.Encoding.{wordOf}
 use Rattle.encode.specs.Loaded.{Loaded}
 
 pub record Encoded (p : Parameters) (blocks : List ℕ) (i : ℕ) (x : List ℕ) : Type 0 where

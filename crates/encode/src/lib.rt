@@ -11,7 +11,8 @@ ghost use Rattle.encode.specs.Carried.{roomBytes};
 ghost use Rattle.encode.specs.Horner.{Over, Sums};
 ghost use Rattle.encode.specs.Loaded.{Loaded};
 ghost use Rattle.encode.specs.Page.{Encoded, Span};
-ghost use Rattle.encode.specs.Encoding.{Putting, Writing, wordAlone, wordFrom, wordOf, written};
+ghost use Rattle.layout.specs.Written.{written};
+ghost use Rattle.encode.specs.Encoding.{Putting, Writing, wordAlone, wordFrom, wordOf};
 use code::Parameters;
 
 // The room in which a rule is summed: whole words, with 8 bytes above a sub-word.

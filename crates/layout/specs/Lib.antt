@@ -5,3 +5,4 @@ pub mod Parts
 pub mod Tested
 pub mod Replaced
 pub mod SubWords
+pub mod Written

@@ -3,6 +3,7 @@ ghost use mathlib.Core.Path.{_≡_};
 ghost use Prim.Native.Nat.{_+_, _-_, _*_, _/_, _%_, _^_, _≤_, _<_};
 ghost use lib.ListN.{length, take, drop};
 ghost use Rattle.polynomial.specs.Digits.{value};
+ghost use Rattle.polynomial.specs.Xor.{xor};
 ghost use Rattle.code.specs.Parameters.{Accepted, len, stored, subWordBytes, nestedBytes, full};
 ghost use Rattle.code.specs.Code.{level, checkBits};
 ghost use Rattle.code.specs.Layout.{pageBytes, dataBits, dataBytes, blockOffset, blockBits, blocksOf, blocksClear, blocksFull, wordsOf, pageClear, blank};
@@ -148,6 +149,15 @@ pub fn sub_word(p: Parameters, page: &[u8], i: usize) -> &[u8]
     let at = i * b;
     let end = at + b;
     &page[at..end]
+}
+
+// x^e is added: the coefficient of x^e is flipped.
+pub fn flip(s: &mut [u8], e: usize)
+    requires { ⌜ e < 8 * length (now s) ⌝ }
+    ensures { λ x. ⌜ value 8 (now (s .exit)) ≡ xor (value 8 (now (s .entry))) (2 ^ e) ⌝ }
+{
+    let v: u64 = 1 << (e % 8);
+    kernels::bytes::add_bytes(s, e / 8, v);
 }
 
 // ---- bits of runs: a run is as many bytes as b bits take

@@ -12,7 +12,7 @@ use Rattle.code.specs.Parameters.{stored, subWordBytes}
 use Rattle.layout.specs.Replaced.{put-is, middle-bytes, part-length}
 use Rattle.layout.specs.Sizes.{word-high}
 use Rattle.layout.specs.SubWords.{part-room, part-small}
-use Rattle.alter.specs.Spread.{part-made, part-word}
+use Rattle.layout.specs.Written.{part-made, part-word}
 use Rattle.alter.proofs.add_at.Statement.{statement}
 use Rattle.alter.proofs.add_at.Tie as tie
 

@@ -12,8 +12,8 @@ use Rattle.alter.proofs.add_both.Tie as tie
 add-up-requires : tie.Need-add-up-requires
 add-up-requires c κs = let s = c .before .before .before in omega (arith, s .pre .1)
 
-add-power-requires : tie.Need-add-power-requires
-add-power-requires c κs =
+flip-requires : tie.Need-flip-requires
+flip-requires c κs =
     let k = c .before .before in
     let s = k .before .before .before .before .before in
     omega (arith, s .pre .0, k .part .given)
@@ -27,7 +27,7 @@ returns c =
     let k = q .before .before .before .before in
     let s = k .before .before .before .before in
     let a = s .args in
-    q .add-power .ensures ∙ ap (λ (f : ℕ). xor f (2 ^ (a .e))) (k .add-up .ensures ∙ ap (xor (value 8 (a .part .now))) (no-shift (value 8 (a .y .now)) (8 * length (a .part .now)) (s .pre .2)))
+    q .flip .ensures ∙ ap (λ (f : ℕ). xor f (2 ^ (a .e))) (k .add-up .ensures ∙ ap (xor (value 8 (a .part .now))) (no-shift (value 8 (a .y .now)) (8 * length (a .part .now)) (s .pre .2)))
 
 pub add-both-spec : {M : Type 1} → statement M
-add-both-spec = tie.close (tie.spec add-up-requires add-power-requires same-length returns)
+add-both-spec = tie.close (tie.spec add-up-requires flip-requires same-length returns)

@@ -11,7 +11,8 @@ use Rattle.code.specs.Placement.{word-at}
 use Rattle.layout.specs.Replaced.{put-is, middle-bytes, part-length}
 use Rattle.layout.specs.Sizes.{word-high}
 use Rattle.layout.specs.SubWords.{part-room, part-small}
-use Rattle.alter.specs.Spread.{part-made, part-word, word-fits}
+use Rattle.layout.specs.Written.{part-made, part-word}
+use Rattle.alter.specs.Spread.{word-fits}
 use Rattle.alter.specs.Sum.{no-shift}
 use Rattle.alter.proofs.add_word.Statement.{statement}
 use Rattle.alter.proofs.add_word.Tie as tie

@@ -7,7 +7,8 @@ use lib.Pow.{pow-pos}
 use Rattle.code.specs.Accepted.{accepted}
 use Rattle.code.specs.Layout.{dataBits}
 use Rattle.layout.specs.Sizes.{level-low}
-use Rattle.encode.specs.Encoding.{wordFrom, written}
+use Rattle.layout.specs.Written.{written}
+use Rattle.encode.specs.Encoding.{wordFrom}
 use Rattle.encode.specs.Loaded.{loaded-plain}
 use Rattle.alter.specs.Unit.{no-data}
 use Rattle.alter.proofs.carried_word.Statement.{statement}

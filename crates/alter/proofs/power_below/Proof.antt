@@ -26,11 +26,11 @@ prepare-requires c κs =
     let s = b .before .before .before .before .before in
     (s .pre .0, s .pre .1, Nat.le-refl _, b .check-bits .ensures ∙ ap (degree (s .args .p)) (Nat.sub-zero (s .args .p .v)), s .pre .6)
 
-slice-aggregate-add-power : tie.Need-slice-aggregate-add-power
-slice-aggregate-add-power c = search needs
+slice-aggregate-flip : tie.Need-slice-aggregate-flip
+slice-aggregate-flip c = search needs
 
-add-power-requires : tie.Need-add-power-requires
-add-power-requires c κs =
+flip-requires : tie.Need-flip-requires
+flip-requires c κs =
     let s = c .before .before .before .before .before .before .before .before .before .before in
     omega (arith, s .pre .5, stored-high (s .args .p) (s .pre .0))
 
@@ -80,7 +80,7 @@ returns c =
     let q = x .before .before .before .before .before in
     let s = q .before .before .before .before .before .before .before .before .before .before .before in
     put-in _ _ _ (l .store-low .ensures) (s .pre .3) ∙ x .check-of .ensures
-    ∙ ap (remainder (s .args .p) (s .args .p .v)) (q .add-power .ensures ∙ ap (λ (f : ℕ). xor f (2 ^ (s .args .e))) (no-data 512) ∙ xor-zero-l _)
+    ∙ ap (remainder (s .args .p) (s .args .p .v)) (q .flip .ensures ∙ ap (λ (f : ℕ). xor f (2 ^ (s .args .e))) (no-data 512) ∙ xor-zero-l _)
 
 pub power-below-spec : {M : Type 1} → statement M
 power-below-spec =
@@ -89,8 +89,8 @@ power-below-spec =
     cast-v
     check-bits-requires
     prepare-requires
-    slice-aggregate-add-power
-    add-power-requires
+    slice-aggregate-flip
+    flip-requires
     slice-aggregate-check-of
     slice-aggregate-check-of-2
     check-of-requires

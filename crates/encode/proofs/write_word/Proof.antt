@@ -6,7 +6,8 @@ use lib.ListN.{length, take, drop}
 use Rattle.polynomial.specs.Digits.{value}
 use Rattle.code.specs.Layout.{dataBits}
 use Rattle.layout.specs.Parts.{block-room, bytes-high}
-use Rattle.encode.specs.Encoding.{block-lt, block-part, late-word, putting, wordFrom, written}
+use Rattle.layout.specs.Written.{written}
+use Rattle.encode.specs.Encoding.{block-lt, block-part, late-word, putting, wordFrom}
 use Rattle.encode.proofs.write_word.Statement.{statement}
 use Rattle.encode.proofs.write_word.Tie as tie
 

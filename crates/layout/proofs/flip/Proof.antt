@@ -1,8 +1,8 @@
 use borrow.Author.Needs.{needs}
 use mathlib.Core.Path.{refl}
-use Rattle.alter.specs.Unit.{bit-room, bit-set}
-use Rattle.alter.proofs.add_power.Statement.{statement}
-use Rattle.alter.proofs.add_power.Tie as tie
+use Rattle.layout.specs.Written.{bit-room, bit-set}
+use Rattle.layout.proofs.flip.Statement.{statement}
+use Rattle.layout.proofs.flip.Tie as tie
 
 shl-v : tie.Need-shl-v
 shl-v c = search needs
@@ -18,5 +18,5 @@ returns c =
     let k = c .before .before in
     bit-set (k .before .before .before .args .e) _ _ _ refl (k .add-bytes .ensures)
 
-pub add-power-spec : {M : Type 1} → statement M
-add-power-spec = tie.close (tie.spec shl-v add-bytes-requires same-length returns)
+pub flip-spec : {M : Type 1} → statement M
+flip-spec = tie.close (tie.spec shl-v add-bytes-requires same-length returns)
