@@ -1,7 +1,7 @@
 // Berlekamp's and Massey's algorithm on lists of 16-bit numbers, by lent tables of powers and logs.
 ghost use mathlib.Core.Path.{_≡_};
-ghost use Prim.Native.Nat.{ℕ, suc, _+_, _*_, _<_, _≤_, _^_};
-ghost use lib.ListN.{length, getD};
+ghost use Prim.Native.Nat.{suc, _*_, _<_, _≤_, _^_};
+ghost use lib.ListN.{length};
 ghost use Rattle.field.specs.Elements.{times};
 ghost use Rattle.element.specs.Lent.{Tables};
 ghost use Rattle.massey.specs.Entries.{Below, Product, Dot, Added};

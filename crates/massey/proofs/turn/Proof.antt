@@ -52,7 +52,7 @@ same-length-5 : tie.Need-same-length-5
 same-length-5 c = search needs
 
 returns-3 : tie.Need-returns-3
-returns-3 c = let d = c .before .before .before in let s = d .before .before .before .before .before .before .before in turned-off _ (c .if3 .taken) (step-far (s .pre .0 .field .known) (s .pre .8) (omega arith) (d .discrepancy .ensures) (c .before .before .if1 .left) (c .before .if2 .left))
+returns-3 c = let d = c .before .before .before in let s = d .before .before .before .before .before .before .before in turned-off (s .args .l) (omega (arith, c .if3 .taken)) (step-far (s .pre .0 .field .known) (s .pre .8) (omega arith) (d .discrepancy .ensures) (c .before .before .if1 .left) (c .before .if2 .left))
 
 inverse-requires : tie.Need-inverse-requires
 inverse-requires c κs = search needs
