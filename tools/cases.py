@@ -8,22 +8,23 @@
 The first writes the tables of Own.antt, in rt fmt's layout; the second says nothing where they stand there already, else
 it names the file and ends with 1. A row has what a definition gives, as a term, and what this program works out, as
 numbers; the rows are of definitions that no compiled call gives back, and of the calls on erased pages, on shortened
-sheets, on many pages and on one bit of a page. What the calls give is compared by programs: tools/trial.py, tools/counter.py and
-tools/writer.py take their answers from here.
+sheets, on many pages, on one bit of a page and on a sub-word to mend. What the calls give is compared by programs: tools/trial.py,
+tools/counter.py and tools/writer.py take their answers from here.
 
 It shares no method with the definitions: generators by trying every polynomial, pages by elimination on the code's
 linear conditions, membership by evaluation at the roots, nested words by turning lists of bits, remainders by long
-division. Degrees are counted as the requirement says, and tested against those generators. Nothing is drawn at random but from the fixed sequence of `below`.
+division, near multiples of g_0 by looking at every multiple. Degrees are counted as the requirement says, and tested against those generators. Nothing is drawn at random but from the fixed sequence of `below`.
 """
 import sys
 from functools import lru_cache
-from itertools import product as tuples
+from itertools import combinations, product as tuples
 from pathlib import Path
 
 OWN = 'crates/cases/specs/Own.antt'
 
 FIELD = {4: 19, 8: 285, 12: 4179}
 BLANK = 96                                 # the number of the answer blank
+NO_PLACE = 65535                           # what stands in a list for no place
 
 
 # ---- polynomials over 0 and 1: lists of bits, the coefficient of x^0 first
@@ -422,12 +423,12 @@ def broken(sheet):
     return not (1 <= used[0] < used[1] and rises and used[v] <= 64 and 2 * used[v] <= length(sheet) - 1 and not any(past))
 
 
-def refusal(sheet, width=None, blocks=None, page=None, fed=None, sub_word=None, nested_word=None, opening=None, room=None, register=None, count=None, bit=None):
+def refusal(sheet, width=None, blocks=None, page=None, fed=None, sub_word=None, nested_word=None, opening=None, room=None, register=None, count=None, bit=None, mending=False):
     """The first number whose condition holds among a call's parts, 0 for none.
 
     blocks and page are lists where they are read, and lengths where they are to be written; room is the length of
     the buffer for another result, and the exact one. With a count, blocks and page are the lengths of so many. bit is
-    a block's index, that of a bit in it and the bit's value to come.
+    a block's index, that of a bit in it and the bit's value to come. With mending, the sub-word must have a multiple near it.
     """
     q, m, v, *t, s = sheet
     times = 1 if count is None else count
@@ -453,6 +454,7 @@ def refusal(sheet, width=None, blocks=None, page=None, fed=None, sub_word=None, 
         (11, lambda: register is not None and register[1] + width > stored(sheet)),
         (12, lambda: register is not None and (register[0] > v or len(bits(register[2])) > degree(sheet, register[0]))),
         (13, lambda: read(blocks) and blank(sheet, page_of_blocks(sheet, blocks)) or bit is not None and blank(sheet, altered(sheet, page, *bit))),
+        (15, lambda: mending and faults(sheet, page, sub_word) is None),
     ]
     return next((k for k, holds in table if holds()), 0)
 
@@ -491,6 +493,32 @@ def altered(sheet, page, i, r, b):
 def alter(sheet, page, i, r, b):
     code = refusal(sheet, page=page, bit=(i, r, b))
     return [code] + (page if code else altered(sheet, page, i, r, b))
+
+
+@lru_cache(None)
+def multiples(sheet):
+    """Every multiple of g_0 that is 0 in its top s places, as a number."""
+    out = [0]
+    for k in range(stored(sheet) - degree(sheet, 0)):
+        out += [x ^ number(gen(sheet, 0)) << k for x in out]
+    return out
+
+
+def faults(sheet, page, i):
+    """The places, rising, at which sub-word i differs from the multiple of g_0 within t_0 places of it; None where there is no such multiple."""
+    word = number(words(sheet, page)[i])
+    near = [c for c in multiples(sheet) if bin(c ^ word).count('1') <= strength(sheet, 0)]
+    assert len(near) <= 1
+    return [k for k, b in enumerate(bits(near[0] ^ word)) if b] if near else None
+
+
+def mend(sheet, page, i, places, count):
+    """The call's number, the page, the list of places and their number."""
+    code = refusal(sheet, page=page, sub_word=i, room=(len(places), lambda: strength(sheet, 0)), mending=True)
+    if code:
+        return code, page, places, count
+    found = faults(sheet, page, i)
+    return 0, flipped(sheet, page, *[(i, k) for k in found]), found + [NO_PLACE] * (len(places) - len(found)), len(found)
 
 
 def verdict(sheet, page, **lent):
@@ -579,14 +607,20 @@ def flipped(sheet, page, *places):
     return page
 
 
+def some_places(sheet, count):
+    """So many different stored places, rising."""
+    left = list(range(stored(sheet)))
+    return sorted(left.pop(below(len(left))) for _ in range(count))
+
+
 # ---- the tables as text
 
 TABLES = []
 
 
-def table(name, about, unfolding):
-    """Declares a table; rows go to the last one declared."""
-    TABLES.append((name, about, unfolding, []))
+def table(name, about, unfolding, apart=False):
+    """Declares a table; rows go to the last one declared. Rows apart are equations of their own, the quicker form where a row is long to compute."""
+    TABLES.append((name, about, unfolding, [], apart))
 
 
 def hexed(xs):
@@ -650,6 +684,15 @@ def laid(name, rows):
     return '\n'.join(out + ['    ∷ []'])
 
 
+def equations(rows):
+    """Rows as equations, in rt fmt's layout: a long one is broken before `≡`."""
+    out = []
+    for term, expected in rows:
+        line = '(%s ≡ %s)' % (term, expected)
+        out.append(line if len(line) < WIDTH - 6 else '(%s\n    ≡ %s)' % (term, expected))
+    return '\n    × '.join(out)
+
+
 def call(name, *arguments):
     """A call's text: sheets by name, lists as bytes, numbers as they are."""
     text = [named(a) if isinstance(a, tuple) else data(a) if isinstance(a, list) else str(a) for a in arguments]
@@ -672,15 +715,17 @@ ALIKE = (4, 2, 1, 4, 5, 0, 0, 0)           # g_1 = g_0
 WIDE = (4, 5, 2, 1, 2, 2, 0, 0)            # x^(l i) with l i above 3
 DEEP = (4, 5, 3, 1, 2, 2, 2, 0)
 TIGHT = (4, 3, 2, 2, 5, 7, 0, 0)           # two blocks of one bit
+TWO = (4, 3, 1, 2, 3, 0, 0, 0)             # t_0 = 2 and 3
+THREE = (4, 2, 1, 3, 7, 0, 0, 0)
 SMALL = (4, 3, 2, 6, 7, 7, 0, 0)           # all blocks of one bit, g_0 = g_1 = g_2
 CLASH = (4, 4, 2, 1, 2, 3, 0, 0)
 EIGHT = (8, 8, 3, 1, 2, 2, 2, 0)
 PAIR = (8, 2, 1, 1, 2, 0, 0, 0)
 TWELVE = (12, 3, 2, 1, 2, 3, 0, 0)
 LARGE = (12, 8, 3, 28, 32, 39, 58, 0)
-CHOSEN = [A, B, ALIKE, WIDE, DEEP, TIGHT, SMALL, (4, 4, 1, 1, 2, 0, 0, 0), (4, 5, 1, 1, 2, 0, 0, 0), (4, 3, 1, 2, 3, 0, 0, 0),
-          (4, 2, 1, 3, 7, 0, 0, 0), (4, 3, 2, 1, 3, 3, 0, 0), (4, 4, 3, 1, 2, 2, 2, 0)]
-A3, A6, B4, DEEP4 = shortened(A, 3), shortened(A, 6), shortened(B, 4), shortened(DEEP, 4)
+CHOSEN = [A, B, ALIKE, WIDE, DEEP, TIGHT, SMALL, (4, 4, 1, 1, 2, 0, 0, 0), (4, 5, 1, 1, 2, 0, 0, 0), TWO, THREE,
+          (4, 3, 2, 1, 3, 3, 0, 0), (4, 4, 3, 1, 2, 2, 2, 0)]
+A3, A6, B4, DEEP4, TWO4 = shortened(A, 3), shortened(A, 6), shortened(B, 4), shortened(DEEP, 4), shortened(TWO, 4)
 PAIR24, PAIR25 = shortened(PAIR, 231), shortened(PAIR, 230)     # 24 coefficients stored, with no spare bit, and 25, with seven
 SHORTENED = [A3, A6, B4, DEEP4, PAIR24, PAIR25]
 U32, U64 = 2 ** 32 - 1, 2 ** 64 - 1
@@ -1165,8 +1210,109 @@ def alter_made():
     assert made(CLASH, [0x00] * 8, 0, 0, 1) == 4 and made(shortened(A, 7), x, 0, 0, 1) == 14
 
 
+def faults_test(sheet):
+    """Near multiples again, by flipping every choice of at most t_0 stored places and looking at the roots: of words drawn, and of multiples
+    with 0 to t_0 + 2 places flipped."""
+    t, places = strength(sheet, 0), range(stored(sheet))
+    drawn = [some_page(sheet)] + [flipped(sheet, some_member(sheet), *[(0, k) for k in some_places(sheet, f)]) for f in range(t + 3)]
+    for page in drawn:
+        tries = [list(chosen) for f in range(t + 1) for chosen in combinations(places, f)]
+        good = [R for R in tries if has_roots(sheet[0], words(sheet, flipped(sheet, page, *[(0, k) for k in R]))[0], t)]
+        assert good == [faults(sheet, page, 0)] or not good and faults(sheet, page, 0) is None
+
+
+def mend_refused():
+    code = lambda s, page, i, size, unit=1: refusal(s, page=page, sub_word=i, room=(size, lambda: unit * strength(s, 0)), mending=True)
+    whole = lambda *given: in_turn([call('mendRefusal', 1, *g) for g in given], [code(*g) for g in given])
+    indices = lambda s, page, places: numbers('map (λ i. %s) %s' % (call('mendRefusal', 1, s, page, 'i', strength(s, 0)), as_list(places)), [code(s, page, i, strength(s, 0)) for i in places])
+    sizes = lambda s, page, unit, lengths: numbers('map (%s) %s' % (call('mendRefusal', unit, s, page, 0), as_list(lengths)), [code(s, page, 0, k, unit) for k in lengths])
+
+    table('mendRefused', 'A sub-word to mend, refused: the numbers in their order; lengths, spare bits, indices, and lists of numbers and of bytes.', 'mendRefusal pow')
+    sheets = [(5, 2, 1, 1, 2, 0, 0, U32), (4, 1, 1, 1, 2, 0, 0, U32), (4, 2, 1, 2, 2, 0, 0, U32), shortened(CLASH, U32), shortened(A, 7)]
+    whole(*[(s, [0xFF], 9, 9) for s in sheets])
+    # one condition less with each, then one or two alone
+    short, ones = shortened(A, 1), [0xFF] * 4
+    clear = erased(short, (0, 0))
+    assert code(short, clear, 1, 1) == 15
+    whole(*[(short, *g) for g in ((ones + [0xFF], 2, 0), (ones, 2, 0), (clear, 2, 0), (clear, 1, 0), (clear, 1, 1), ([0x00] * 4, 1, 1))])
+    x = some_page(A)
+    whole(*[(A, *g) for g in ((x[:3], 0, 1), ([], 0, 1), ([0xFF] * 5, 0, 1), (ones, 1, 1), (ones, 2, 1), (x, 2, 2), (x, 0, 2), (x, 0, 1))])
+    # each spare bit, of any page and of a blank one
+    for s, base in [(A, x), (A, erased(A, (0, 0))), (B4, some_page(B4)), (short, clear)]:
+        strays = [flipped(s, base, (i, k)) for i in range(s[1]) for k in range(stored(s), 8 * word_bytes(s))]
+        each('λ x. %s' % call('mendRefusal', 1, s, 'x', 0, 1), strays, lambda x: code(s, x, 0, 1))
+    for s in (A, B, TWO, THREE, PAIR24):
+        page = some_member(s)
+        indices(s, page, [0, s[1] - 1, s[1], s[1] + 1, 256, 2 ** 32, U64, 2 ** 64])
+        t = strength(s, 0)
+        for unit in (1, 2):
+            sizes(s, page, unit, sorted({0, t - 1, t, t + 1, 2 * t - 1, 2 * t, 2 * t + 1, 4 * t, 256, U64}))
+
+    table('mendNowhere', 'Words drawn, and each pair of neighbours alone: 15 where no multiple of g_0 is near, else 0.', 'mendRefusal pow', apart=True)
+    answers = set()
+    neighbours = lambda s: [flipped(s, [0x00] * page_bytes(s), (0, k), (0, k + 1)) for k in range(stored(s) - 1)]
+    for s, pages in [(A6, neighbours(A6)), (B4, neighbours(B4))] + [(s, [some_page(s) for _ in range(count)]) for s, count in ((A6, 12), (B4, 10), (TWO, 4), (TWO4, 6))]:
+        for page in pages:
+            answers.add(code(s, page, 0, strength(s, 0)))
+            row(call('mendRefusal', 1, s, page, 0, strength(s, 0)), str(code(s, page, 0, strength(s, 0))))
+    assert answers == {0, 15}
+
+
+def mend_made():
+    def made(s, page, i, places=None):
+        """The row, with a list and a number that are no results."""
+        places, count = [258 + k for k in range(strength(s, 0))] if places is None else places, below(256)
+        code, after, listing, counted = mend(s, page, i, places, count)
+        row(call('mend', s, page, i, as_list(places) if places else '[]', count), listed([code] + hexed(after) + listing + [counted]))
+        return code, counted
+
+    def damaged(s, count, i):
+        """A member with so many flips in sub-word i, and one in each other."""
+        return flipped(s, some_member(s), *[(j, k) for j in range(s[1]) for k in some_places(s, count if j == i else 1)])
+
+    for s in (A, TWO, THREE, ALIKE, A3, A6, B4, TWO4, PAIR24):
+        faults_test(s)
+    table('mendMembers', 'A member with flips, 0 to t_0 of them, in one sub-word, and one in each other: the number, then page, list and number of flips.',
+          'mendRefusal mending flipped placeList pow', apart=True)
+    for s in (A, A3, B4, TWO, TWO4, THREE, ALIKE):
+        for f in range(strength(s, 0) + 1 if s != ALIKE else 2):
+            i = below(s[1])
+            assert made(s, damaged(s, f, i), i) == (0, f)
+    # the ends of a word and of a byte, of the first sub-word and of the last
+    for i, s, places in [(0, A, (0,)), (1, A, (14,)), (0, A6, (8,)), (1, A6, (7,)), (0, TWO, (0, 14)), (2, TWO, (7, 8)), (2, TWO4, (0, 10)), (0, PAIR24, (23,)), (1, PAIR24, (16,))]:
+        assert made(s, flipped(s, some_member(s), *[(i, k) for k in places]), i) == (0, len(places))
+
+    table('mendPages', 'More flips than t_0, any page, pages of zeros and of ones: a multiple, or 15 and nothing changed.', 'mendRefusal mending flipped placeList pow', apart=True)
+    answers = set()
+    for s in (A, A6, B4, TWO, TWO4):
+        for page in [damaged(s, strength(s, 0) + f, 0) for f in (1, 2)] + [some_page(s)]:
+            answers.add(made(s, page, 0)[0])
+    assert answers == {0, 15}
+    for s in (A, A3, TWO, THREE):
+        assert made(s, [0x00] * page_bytes(s), s[1] - 1) == (0, 0)
+        assert (made(s, erased(s, [0] * s[1]), 0) == (0, 0)) == (s[7] == 0)
+    # a multiple with ones in its top s places, these left out: near without s alone
+    for s, top in [(A3, 12), (A3, 14), (TWO4, 11)]:
+        whole = shortened(s, 0)
+        word = next(c for c in multiples(whole) if c >> stored(s) == 1 << top - stored(s))
+        page = page_of_words(s, [bits(word % 2 ** stored(s), 15)] + [[0] * 15] * (s[1] - 1))
+        assert faults(whole, page_of_words(whole, words(s, page)), 0) == [top]
+        assert made(s, page, 0)[0] == 15 and made(whole, page_of_words(whole, words(s, page)), 0) == (0, 1)
+    x, clear = some_page(A), erased(A, (0, 1))
+    given = [(x[:-1], 0, [1]), (x + [0x00], 0, [1]), (flipped(A, x, (1, 15)), 0, [1]), (clear, 0, [1]), (x, 2, [1]), (x, 0, []), (x, 0, [1, 2])]
+    assert [made(A, *g)[0] for g in given] == [7, 7, 8, 8, 9, 10, 10]
+    assert made(CLASH, [0x00] * 8, 0)[0] == 4 and made(shortened(A, 7), x, 0)[0] == 14
+
+    table('flippedPlaces', 'Places flipped in a sub-word, and places in lists: 65535 from their end on.', 'flipped placeList pow')
+    for s in (A, TWO4, PAIR24):
+        page, i, R = some_page(s), below(s[1]), some_places(s, 3)
+        row(call('flipped', s, page, i, as_list(R)), listed(hexed(flipped(s, page, *[(i, k) for k in R]))))
+    for k, R in [(1, []), (1, [14]), (2, [3]), (3, [0, 9]), (6, [4094]), (2, [0, 1])]:
+        numbers('placeList %d %s' % (k, as_list(R)), R + [NO_PLACE] * (k - len(R)))
+
+
 HEAD = '''-- Cases of our own, of definitions that no compiled call gives back, and of the calls on erased pages, on shortened sheets,
--- on many pages and on one bit of a page: each row has what a definition gives and what an independent program says.
+-- on many pages, on one bit of a page and on a sub-word to mend: each row has what a definition gives and what an independent program says.
 -- Written by tools/cases.py, which works every number out by other means; see there. The calls' own cases are run: tools/trial.py.
 use mathlib.Core.Path.{_≡_, refl}
 use mathlib.Core.List.{List, [], _∷_, map}
@@ -1181,21 +1327,24 @@ use Rattle.code.specs.Lists.{range, sum}
 use Rattle.code.specs.Parameters.{sheet, sheetRefusal}
 use Rattle.code.specs.Code.{carried, combine, distance, divisor, N, newton}
 use Rattle.code.specs.Layout.{blockOffset, wordsOf, pageOf, pageBytes, dataBytes, coefficientOf, blockBit, differences}
-use Rattle.code.specs.Layout.{altered}
+use Rattle.code.specs.Layout.{altered, flipped, mending, placeList}
 use Rattle.code.specs.Refusals.{writeRefusal, wordRefusal, remainderRefusal, nestedRefusal, syndromesRefusal}
-use Rattle.code.specs.Refusals.{manyRefusal, alterRefusal, openRefusal, feedRefusal, quoteRefusal}
+use Rattle.code.specs.Refusals.{manyRefusal, alterRefusal, mendRefusal, openRefusal, feedRefusal, quoteRefusal}
 use Rattle.code.specs.Calls.{asBytes, empty, fed, judgeNumber, judgeValues, readNumber, readLeaves, writeLeaves, quote}
 use Rattle.code.specs.Calls.{statuses, pagesBy}
 use Rattle.code.specs.Calls.{remainderBytes, shortBytes, nestedWordBytes, syndromeList, nestedSyndromeList}
 use Rattle.code.specs.Registers.{cut, feedings}
 use Rattle.code.specs.Writer.{writer}
-use Rattle.cases.specs.Sheets.{Row, A, B, held, many, alter}
+use Rattle.cases.specs.Sheets.{Row, A, B, held, many, alter, mend}
 '''
 
 
 def printed():
     out = [HEAD]
-    for name, about, unfolding, rows in TABLES:
+    for name, about, unfolding, rows, apart in TABLES:
+        if apart:
+            out.append('-- %s\npub %s :\n    %s\nunfolding %s\n%s = (%s)\n' % (about, name, equations(rows), unfolding, name, ', '.join(['refl'] * len(rows))))
+            continue
         out.append('-- %s\npub %s : List Row\n%s\n' % (about, name, laid(name, rows)))
         out.append('pub %s-hold : map (λ r. r .0) %s ≡ map (λ r. r .1) %s\nunfolding %s %s\n%s-hold = refl\n' % (name, name, name, name, unfolding, name))
     return '\n'.join(out)
@@ -1205,7 +1354,7 @@ def main(words):
     self_test()
     for part in (layouts, equal_form, divisors, page_differences, parts, field_sums, bytes_for_c, writings, huge_numbers, erased_pages,
                  short_sheets, short_sizes, short_pages, short_words, short_registers, many_refused, many_pages, alter_refused,
-                 alter_made):
+                 alter_made, mend_refused, mend_made):
         part()
     if words == ['--check']:
         if (Path(__file__).resolve().parent.parent / OWN).read_text(encoding='utf-8') != printed():

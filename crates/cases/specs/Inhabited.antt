@@ -1,4 +1,4 @@
--- The theorems' hypotheses hold of something, and seven statements that go further than the theorems are false. All by computation.
+-- The theorems' hypotheses hold of something, and nine statements that go further than the theorems are false. All by computation.
 use mathlib.Core.Path.{_≡_, refl, sym, ap, _∙_}
 use mathlib.Core.Logic.{_≢_, _⊎_, inl, inr}
 use mathlib.Core.Bool.{Bool, true, false, not, _&&_, _||_}
@@ -12,7 +12,9 @@ use Rattle.polynomial.specs.Clmul.{clmul}
 use Rattle.polynomial.specs.Division.{rem}
 use Rattle.polynomial.specs.Multiple.{Multiple}
 use Rattle.polynomial.specs.Xor.{xor}
+use Rattle.field.specs.Bch.{weight}
 use Rattle.field.specs.Field.{pow}
+use Rattle.field.specs.Flips.{flips}
 use Rattle.field.specs.Irreducible.{both}
 use Rattle.code.specs.declared.Outcome.{Outcome}
 use Rattle.code.specs.declared.Parameters.{Parameters}
@@ -21,14 +23,15 @@ use Rattle.code.specs.Accepted.{accepted, any-none}
 use Rattle.code.specs.Answers.{judged, made-done, made-refused, read}
 use Rattle.code.specs.Blank.{blank-iff}
 use Rattle.code.specs.Chains.{either}
-use Rattle.code.specs.Demands.{Burst, NamesBit, SetTo}
-use Rattle.code.specs.Lists.{any, range}
-use Rattle.code.specs.Parameters.{Accepted, sheetRefusal, sheet, stored}
-use Rattle.code.specs.Code.{gen, degree, remainder, nested, combine, N, newton, IsMember, distance, verdict}
+use Rattle.code.specs.Demands.{Burst, Damaged, MendLent, NamesBit, SetTo}
+use Rattle.code.specs.Lists.{any, part, range}
+use Rattle.code.specs.Parameters.{Accepted, sheetRefusal, sheet, stored, strength}
+use Rattle.code.specs.Code.{gen, degree, remainder, nested, combine, N, newton, Flips, IsMember, Near, distance, verdict}
 use Rattle.code.specs.Layout.{dataBytes, pageBytes, blocksClear, blocksFull, pageClear, pageOf, blank, wordsOf, Fits, IsBlank, IsPage, Bytes}
-use Rattle.code.specs.Layout.{altered, blockBit, blockOffset, coefficientOf, differences}
-use Rattle.code.specs.Calls.{Altered, Judged, ReadOut, Written, WrittenMany, judgeAnswer, pagesBy, readAnswer, readLeaves, statuses, verdictNumber}
-use Rattle.code.specs.Refusals.{alterRefusal, manyRefusal, writeRefusal}
+use Rattle.code.specs.Layout.{altered, blockBit, blockOffset, coefficientOf, differences, flipped, mending, placeList}
+use Rattle.code.specs.Calls.{Altered, Judged, Mended, ReadOut, Written, WrittenMany}
+use Rattle.code.specs.Calls.{judgeAnswer, pagesBy, readAnswer, readLeaves, statuses, verdictNumber}
+use Rattle.code.specs.Refusals.{alterRefusal, manyRefusal, mendRefusal, writeRefusal}
 use Rattle.cases.specs.Sheets.{A, B}
 
 -- ---- accepted sheets
@@ -380,6 +383,94 @@ alter-set = record {
 pub alter-written : Written A 8 blocks-0 (replicate 4 0xA5) page-0 Outcome.Done
 unfolding writeRefusal pageOf pow
 alter-written = made-done _ _ _ _ refl refl
+
+-- ---- one sub-word mended: the page of blocks 01 01 00 with place 3 of sub-word 0 flipped
+abbrev page-3 : List ℕ
+page-3 = 0xCA ∷ 0x01 ∷ 0x13 ∷ 0x00 ∷ []
+
+pub mend-done : Mended A page-3 page-1 0 (7 ∷ []) (3 ∷ []) 9 1 Outcome.Done
+unfolding mendRefusal mending flipped placeList pow
+mend-done = (made-done _ _ _ _ refl refl, made-done _ _ _ _ refl refl, made-done _ _ _ _ refl refl)
+
+-- free of faults
+pub mend-clean : Mended A page-1 page-1 0 (7 ∷ []) (65535 ∷ []) 9 0 Outcome.Done
+unfolding mendRefusal mending flipped placeList pow
+mend-clean = (made-done _ _ _ _ refl refl, made-done _ _ _ _ refl refl, made-done _ _ _ _ refl refl)
+
+-- places 0 and 3 of the shortened zero page flipped: no multiple is near
+pub mend-nowhere :
+    Mended short (0x09 ∷ 0x00 ∷ 0x00 ∷ 0x00 ∷ []) (0x09 ∷ 0x00 ∷ 0x00 ∷ 0x00 ∷ []) 0 (7 ∷ []) (7 ∷ []) 9 9 (Outcome.Refused 15)
+unfolding mendRefusal pow
+mend-nowhere = (
+  made-refused _ 15 _ _ refl (lit< tt) (lit≤ tt),
+  made-refused _ 15 _ _ refl (lit< tt) (lit≤ tt),
+  made-refused _ 15 _ _ refl (lit< tt) (lit≤ tt),
+)
+
+-- what the law on members supposes, beside the judged page above: flips in one sub-word, and what mend is to be lent
+pub mend-damaged : Damaged A page-1 page-3 0
+unfolding differences
+mend-damaged = record { elsewhere = go; few = lit≤ tt }
+  where
+    go : (j : ℕ) → j < 2 → j ≢ 0 → part 2 j page-3 ≡ part 2 j page-1
+    go zero h n = absurd (n refl)
+    go (suc zero) h n = refl
+    go (suc (suc j)) h n = absurd (not-suc-le-zero (le-of-suc-le-suc (le-of-suc-le-suc h)))
+
+pub mend-lent : MendLent 1 A page-3 0 1
+unfolding pageClear
+mend-lent = record {
+  page = record { bytes = (lit< tt, (lit< tt, (lit< tt, (lit< tt, tt)))); exact = refl; clear = tt };
+  sub-word = lit< tt;
+  list = refl;
+}
+
+-- what the laws on words suppose: the multiple near, and the flips
+pub mend-near : Near A 0 0x1CA 0x1C2
+unfolding clmul gen pow xor rem weight
+mend-near = record { stores = lit< tt; multiple = (0x1E, refl); near = lit≤ tt }
+
+pub mend-flips : Flips A 0 0x1CA (3 ∷ [])
+unfolding clmul gen pow xor rem flips
+mend-flips = record { rising = (zero-le, lit< tt, tt); few = lit≤ tt; multiple = (0x1E, refl) }
+
+-- ---- places 0 and 1 of the zero page flipped, one place more than t_0
+abbrev page-03 : List ℕ
+page-03 = 0x03 ∷ 0x00 ∷ 0x00 ∷ 0x00 ∷ []
+
+abbrev page-13 : List ℕ
+page-13 = 0x13 ∷ 0x00 ∷ 0x00 ∷ 0x00 ∷ []
+
+-- another multiple is near
+pub mend-other : Mended A page-03 page-13 0 (7 ∷ []) (4 ∷ []) 9 1 Outcome.Done
+unfolding mendRefusal mending flipped placeList pow
+mend-other = (made-done _ _ _ _ refl refl, made-done _ _ _ _ refl refl, made-done _ _ _ _ refl refl)
+
+-- so that a member with t_0 + 1 bits of a sub-word flipped comes back is false
+pub not-back :
+    ((z x after : List ℕ) (i : ℕ) (l listed : List ℕ) (n counted : ℕ) → Judged A z Verdict.Member
+    → ((j : ℕ) → j < A .m → j ≢ i → part 2 j x ≡ part 2 j z) → differences A x z ≤ strength A 0 + 1
+    → Mended A x after i l listed n counted Outcome.Done → after ≡ z)
+    → ⊥
+unfolding differences
+not-back h =
+    let e : page-13 ≡ zeros =
+    h zeros page-03 page-13 0 (7 ∷ []) (4 ∷ []) 9 1 (judged A zeros Verdict.Member (sym zeros-member)) go (lit≤ tt) mend-other in
+    let z : _≡_ {A = ℕ} 0x13 0x00 = ap (λ (x : List ℕ). getD x 0 0x00) e in omega arith
+  where
+    go : (j : ℕ) → j < 2 → j ≢ 0 → part 2 j page-03 ≡ part 2 j zeros
+    go zero h n = absurd (n refl)
+    go (suc zero) h n = refl
+    go (suc (suc j)) h n = absurd (not-suc-le-zero (le-of-suc-le-suc (le-of-suc-le-suc h)))
+
+-- and that a page with its one faulty sub-word mended is a member: nested word 0 fails
+pub not-member-mended :
+    ((x after : List ℕ) (i : ℕ) (l listed : List ℕ) (n counted : ℕ) → Mended A x after i l listed n counted Outcome.Done
+    → judgeAnswer A after ≡ Verdict.Member)
+    → ⊥
+not-member-mended h =
+    let e : Verdict.NestedWord 0 ≡ Verdict.Member = sym burst-nested ∙ h page-03 page-13 0 (7 ∷ []) (4 ∷ []) 9 1 mend-other in
+    let z : _≡_ {A = ℕ} 64 0 = ap verdictNumber e in omega arith
 
 -- ---- the equal form holds as a whole only: sheet B, page 13 00 00 00 00 00
 abbrev words-13 : List ℕ
