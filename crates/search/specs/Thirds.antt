@@ -1,8 +1,8 @@
 -- A polynomial at three places at once: its terms by their indices modulo 3, and the cube roots of 1.
---   every q s l c j k      the term c + 3 j at place k
---   mixed q w a b c        a + w (b + c)
---   Turned q w a b c r     the three numbers of r are a + (b + c), mixed + b and mixed + c
---   Filled q w a b c h k o so are the entries i, h + i and 2 h + i of o, of the entries i of a, b and c, for i < k
+--   every q s l c j k         the term c + 3 j at place k
+--   mixed q w a b c           a + w (b + c)
+--   Turned q w a b c r        the three numbers of r are a + (b + c), mixed + b and mixed + c
+--   Filled q w a b c h k o    so are the entries i, h + i and 2 h + i of o, from the entries i of a, b and c, for i < k
 use mathlib.Core.Path.{_≡_, refl, sym, ap, ap₂, _∙_}
 use mathlib.Core.Logic.{_≢_, _⊎_, inl, inr}
 use mathlib.Core.List.{List}

@@ -1,4 +1,5 @@
-// The places at whose inverse nodes a locator vanishes: its values at all of them, term by term, then their zeros.
+// The places at whose inverse nodes a locator vanishes: its values at a third of them, of the terms 0, 3, .., of 1, 4, .. and of 2, 5, ..,
+// five terms at a time; from these the values at all; then the zeros.
 ghost use mathlib.Core.Path.{_≡_};
 ghost use Prim.Native.Nat.{suc, _+_, _-_, _*_, _/_, _%_, _<_, _≤_, _^_};
 ghost use lib.ListN.{length, getD, take};
@@ -14,11 +15,11 @@ ghost use Rattle.search.specs.Values.{Adding, Values};
 ghost use Rattle.search.specs.Zeros.{Collected, Keeps, Rooted};
 use element::Field;
 
-// A term that the search runs through: α^e x^i, at x = 1/α^k for rising k, plus w. No term is 1 + 1.
-pub struct Slot {
-    pub e: usize,
-    pub i: usize,
-    pub w: u16,
+// A term that the search runs through: α^e x^i, at x = 1/α^k for rising k, plus w. One whose coefficient is 0 has e = i = 0 and w = 1.
+struct Slot {
+    e: usize,
+    i: usize,
+    w: u16,
 }
 
 // The exponent of α^e / α^i.
@@ -138,10 +139,10 @@ fn values(
 }
 
 // Values at three places.
-pub struct Three {
-    pub x: u16,
-    pub y: u16,
-    pub z: u16,
+struct Three {
+    x: u16,
+    y: u16,
+    z: u16,
 }
 
 // a + b + c, a + ω (b + c) + b and a + ω (b + c) + c.
