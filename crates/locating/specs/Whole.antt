@@ -102,7 +102,7 @@ module _ (q : ℕ) (s : List ℕ) (t z : ℕ) where
           size : length (take c l) ≡ c
           size = length-take c l ∙ Nat.min-eq-left (omega (arith, C .size))
 
-      pub places : z ≤ 2 ^ q - 1 → Places q c l
+      pub places : z ≤ 2 ^ q - 1 → Places (2 ^ q - 1) c l
       places zn = record {
         below = λ i h. rw (C .found i h (omega arith), candidate-passing) (Nat.lt-of-lt-of-le
             (rising-at 0 z (passing (isRoot (fieldOf q) σ) 0 z) (passing-rising (isRoot (fieldOf q) σ) 0 z z (Nat.zero-add z)) i (rw (C .count, candidate-passing) at h)) zn);
