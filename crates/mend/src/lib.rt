@@ -13,10 +13,10 @@ ghost use Rattle.locator.specs.Locate.{kept};
 ghost use Rattle.code.specs.Calls.{Mended};
 ghost use Rattle.code.specs.Code.{nearest};
 ghost use Rattle.code.specs.Layout.{pageBytes, placeList, wordsOf};
-ghost use Rattle.code.specs.Mend.{Mendable};
 ghost use Rattle.code.specs.Parameters.{Accepted, stored, strength};
 ghost use Rattle.element.specs.Lent.{Tables};
 ghost use Rattle.layout.specs.Written.{written};
+ghost use Rattle.refusal.specs.Indexed.{Unrefused};
 ghost use Rattle.locating.specs.Look.{Places};
 ghost use Rattle.mend.specs.Left.{placeAt};
 use code::Outcome;
@@ -147,7 +147,7 @@ fn mend_word(
     places: &mut [u16],
     flips: &mut u8,
 ) -> Outcome
-    requires { ⌜ Accepted p × Mendable p (now page) i (length (now places)) (1 * strength p 0) × (t ≡ strength p 0) ⌝ }
+    requires { ⌜ Unrefused p (now page) i (p .m) (length (now places)) (1 * strength p 0) × (t ≡ strength p 0) ⌝ }
     ensures { λ o. ⌜ Mended p (now (page .entry)) (now (page .exit)) i (now (places .entry)) (now (places .exit)) (now (flips .entry)) (now (flips .exit)) o ⌝ }
 {
     let mut list = [0u16; 64];
