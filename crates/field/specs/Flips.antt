@@ -6,21 +6,22 @@
 use mathlib.Core.Path.{_≡_, refl, sym, ap, ap₂, _∙_}
 use mathlib.Core.Bool.{Bool, true, false, cond}
 use mathlib.Core.Logic.{_⊎_, inl, inr}
-use mathlib.Core.List.{List, [], _∷_}
+use mathlib.Core.List.{List, [], _∷_, _++_}
 use Prim.Native.Nat.{ℕ, zero, suc, _+_, _*_, _/_, _%_, _^_, _≤_, _<_, zero-le}
 use native.Mathlib.Nat as Nat
 use native.Mathlib.Numerals.{add-one}
 use native.Mathlib.Omega.{arith}
 use lib.Arith.{bin-ind}
 use lib.Dec.{T, eqb, lit<}
-use lib.ListN.{length}
+use lib.ListN.{length, getD, take}
 use lib.Pow.{pow-pos, pow-lt, shr-shr}
+use lib.Seq.{take-suc}
 use Rattle.polynomial.specs.Bits.{coefficient}
 use Rattle.polynomial.specs.Coefficients.{beyond, coefficient-xor, pow-bit, pow-bits}
 use Rattle.polynomial.specs.Clmul.{clmul-pow, clmul-xor-r, split-bit}
 use Rattle.polynomial.specs.Division.{xor-lt}
 use Rattle.polynomial.specs.Sums.{All}
-use Rattle.polynomial.specs.Xor.{xor, bit-ind, dbl-half, dbl-odd, xor-half, xor-odd, xor-zero-l}
+use Rattle.polynomial.specs.Xor.{xor, bit-ind, dbl-half, dbl-odd, xor-half, xor-odd, xor-zero-l, xors}
 use Rattle.field.specs.Bch.{weight, weight-eq, weight-zero}
 
 abbrev pub Rising : ℕ → ℕ → List ℕ → Type 0
@@ -176,6 +177,14 @@ weight-pow (suc k) =
 pub weight-flips : (R : List ℕ) → weight (flips R) ≤ length R
 weight-flips [] = rw (flips-nil, weight-zero) zero-le
 weight-flips (k ∷ R) = rw (flips-cons k R) (omega (arith, weight-xor (2 ^ k) (flips R), weight-pow k, weight-flips R))
+
+-- ---- one more place
+pub flips-last : (l : List ℕ) (k : ℕ) → flips (l ++ (k ∷ [])) ≡ xor (flips l) (2 ^ k)
+flips-last [] k = flips-cons k [] ∙ rw flips-nil (simp xors)
+flips-last (i ∷ l) k = flips-cons i (l ++ (k ∷ [])) ∙ rw (flips-last l k, flips-cons i l) (simp xors)
+
+pub flips-take : (l : List ℕ) (j : ℕ) → j < length l → flips (take (suc j) l) ≡ xor (flips (take j l)) (2 ^ getD l j 0)
+flips-take l j h = ap flips (take-suc l j 0 h) ∙ flips-last (take j l) (getD l j 0)
 
 -- ---- rising places by the word of their flips
 module _ (n : ℕ) where

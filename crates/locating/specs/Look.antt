@@ -1,12 +1,12 @@
 -- The last look at places found: their power sums against the syndromes.
 --   listed s j      S_j, where s[0] is S_1
---   Places q c l    the first c entries of l are places below n
+--   Places n c l    the first c entries of l are below n
 --   Runs q j c l e  the first c entries of e are the exponents of S_j: j times the places, modulo n
 --   Next q c l e r e′  r and e′ are the power sum and the exponents that come after e; Nexting: up to place i
 use mathlib.Core.Path.{_≡_, refl, sym, ap, ap₂, _∙_}
 use mathlib.Core.Bool.{Bool, true, false, _&&_}
 use mathlib.Core.Logic.{_⊎_, inl, inr}
-use mathlib.Core.List.{List, [], _∷_, _++_}
+use mathlib.Core.List.{List}
 use Prim.Native.Nat.{ℕ, zero, suc, _+_, _-_, _*_, _%_, _^_, _≤_, _<_}
 use native.Mathlib.Nat as Nat
 use native.Mathlib.Numerals.{add-one}
@@ -14,8 +14,8 @@ use native.Mathlib.Omega.{arith}
 use lib.Bits.{bitXor}
 use lib.Dec.{T, eqb, eqb→eq, eqb-refl}
 use lib.ListN.{length, getD, set, take, length-set}
-use lib.Seq.{getD-set-same, getD-set-other, take-suc}
-use Rattle.polynomial.specs.Xor.{xor, xors, xor-is}
+use lib.Seq.{getD-set-same, getD-set-other}
+use Rattle.polynomial.specs.Xor.{xor, xor-is}
 use Rattle.field.specs.Elements.{evaluate-zero, power, power-num, syndrome, syndrome-eq, syndrome-num, syndrome-xor}
 use Rattle.field.specs.Eval.{eval-monomial}
 use Rattle.field.specs.Field.{pow, pow-mul}
@@ -23,14 +23,14 @@ use Rattle.field.specs.Fields.{Known, fieldOf}
 use Rattle.element.specs.Exponents.{power-mod}
 use Rattle.element.specs.Lent.{exponent-lt}
 use Rattle.locator.specs.Locate.{agree, agree-suc, agree-zero}
-use Rattle.field.specs.Flips.{flips, flips-cons, flips-nil}
+use Rattle.field.specs.Flips.{flips, flips-nil, flips-take}
 
 abbrev pub listed : List ℕ → ℕ → ℕ
 listed s zero = 0
 listed s (suc j) = getD s j 0
 
-pub record Places (q c : ℕ) (l : List ℕ) : Type 0 where
-  pub below : (i : ℕ) → i < c → getD l i 0 < 2 ^ q - 1
+pub record Places (n c : ℕ) (l : List ℕ) : Type 0 where
+  pub below : (i : ℕ) → i < c → getD l i 0 < n
 
 pub record Runs (q j c : ℕ) (l e : List ℕ) : Type 0 where
   pub is : (i : ℕ) → i < c → getD e i 0 ≡ j * getD l i 0 % (2 ^ q - 1)
@@ -46,10 +46,6 @@ pub record Nexting (q : ℕ) (l e : List ℕ) (i x : ℕ) (e′ : List ℕ) : Ty
   pub sum : (j : ℕ) → Runs q j i l e → x ≡ syndrome q (flips (take i l)) (suc j)
 
 -- ---- one more place
-flips-last : (l : List ℕ) (k : ℕ) → flips (l ++ (k ∷ [])) ≡ xor (flips l) (2 ^ k)
-flips-last [] k = flips-cons k [] ∙ rw flips-nil (simp xors)
-flips-last (i ∷ l) k = flips-cons i (l ++ (k ∷ [])) ∙ rw (flips-last l k, flips-cons i l) (simp xors)
-
 module _ (q : ℕ) (known : Known q) where
   syndrome-power : (k j : ℕ) → syndrome q (2 ^ k) j ≡ power q (j * k)
   syndrome-power k j =
@@ -62,13 +58,13 @@ module _ (q : ℕ) (known : Known q) where
   sum-step : (j : ℕ) (l : List ℕ) (i x y : ℕ) → i < length l → x ≡ syndrome q (flips (take i l)) j → y ≡ power q (j * getD l i 0 % (2 ^ q - 1)) → bitXor x y ≡ syndrome q (flips (take (i + 1) l)) j
   sum-step j l i x y h e f =
       xor-is x y ∙ ap₂ xor e (f ∙ power-mod q known (j * getD l i 0) ∙ sym (syndrome-power (getD l i 0) j)) ∙ sym (syndrome-xor q known (flips (take i l)) (2 ^ getD l i 0) j)
-      ∙ ap (λ (f : ℕ). syndrome q f j) (sym (flips-last (take i l) (getD l i 0)) ∙ ap flips (sym (take-suc l i 0 h) ∙ ap (λ (m : ℕ). take m l) (sym (add-one i))))
+      ∙ ap (λ (f : ℕ). syndrome q f j) (sym (flips-take l i h) ∙ ap (λ (m : ℕ). flips (take m l)) (sym (add-one i)))
 
   -- ---- the next power sum
   pub runs-first : (c : ℕ) (l e : List ℕ) → ((i : ℕ) → i < c → getD e i 0 ≡ 0) → Runs q 0 c l e
   runs-first c l e z = record { is = λ i h. z i h ∙ sym (ap (λ (x : ℕ). x % (2 ^ q - 1)) (Nat.zero-mul (getD l i 0)) ∙ Nat.zero-mod (2 ^ q - 1)) }
 
-  pub runs-places : {j c : ℕ} {l e : List ℕ} → Runs q j c l e → Places q c e
+  pub runs-places : {j c : ℕ} {l e : List ℕ} → Runs q j c l e → Places (2 ^ q - 1) c e
   runs-places {j} {c} {l} {e} r = record { below = λ i h. exponent-lt q known (getD e i 0) (j * getD l i 0) (r .is i h) }
 
   risen : (j p a : ℕ) → a ≡ j * p % (2 ^ q - 1) → (a + p) % (2 ^ q - 1) ≡ suc j * p % (2 ^ q - 1)

@@ -37,7 +37,7 @@ part-same q s u y (suc i) e =
     ∙ ap₂ (plus2 q) (part-same q s u y i (λ h l. e h (Nat.le-step l))) (ap (λ (x : K q). mul2 q x (pow (F q) y i)) (e i (Nat.le-refl (suc i))))
     ∙ sym (total-suc (F q) i (λ h. mul2 q (u h) (pow (F q) y h)))
 
-rising-at : (k n : ℕ) (R : List ℕ) → Rising k n R → (i : ℕ) → i < length R → getD R i 0 < n
+pub rising-at : (k n : ℕ) (R : List ℕ) → Rising k n R → (i : ℕ) → i < length R → getD R i 0 < n
 rising-at k n [] r i h = absurd (Nat.not-suc-le-zero h)
 rising-at k n (j ∷ R) r zero h = r .1
 rising-at k n (j ∷ R) r (suc i) h = rising-at (suc j) n R (r .2) i (Nat.le-of-suc-le-suc h)
@@ -102,7 +102,7 @@ module _ (q : ℕ) (s : List ℕ) (t z : ℕ) where
           size : length (take c l) ≡ c
           size = length-take c l ∙ Nat.min-eq-left (omega (arith, C .size))
 
-      pub places : z ≤ 2 ^ q - 1 → Places q c l
+      pub places : z ≤ 2 ^ q - 1 → Places (2 ^ q - 1) c l
       places zn = record {
         below = λ i h. rw (C .found i h (omega arith), candidate-passing) (Nat.lt-of-lt-of-le
             (rising-at 0 z (passing (isRoot (fieldOf q) σ) 0 z) (passing-rising (isRoot (fieldOf q) σ) 0 z z (Nat.zero-add z)) i (rw (C .count, candidate-passing) at h)) zn);

@@ -20,7 +20,7 @@ fn next_sum(
     c: usize,
     exponents: &mut [u16],
 ) -> u32
-    requires { ⌜ Tables f (now powers) (now logs) × (c ≤ length (now list)) × (c ≤ length (now exponents)) × Places (f .q) c (now list) × Places (f .q) c (now exponents) ⌝ }
+    requires { ⌜ Tables f (now powers) (now logs) × (c ≤ length (now list)) × (c ≤ length (now exponents)) × Places (2 ^ f .q - 1) c (now list) × Places (2 ^ f .q - 1) c (now exponents) ⌝ }
     ensures { λ r. ⌜ Next (f .q) c (now (list .entry)) (now (exponents .entry)) r (now (exponents .exit)) ⌝ }
 {
     let mut x: u32 = 0;
@@ -45,7 +45,7 @@ fn agrees(
     c: usize,
     m: usize,
 ) -> bool
-    requires { ⌜ Tables f (now powers) (now logs) × (c ≤ length (now list)) × (c ≤ 64) × Places (f .q) c (now list) × (m ≤ length (now s)) ⌝ }
+    requires { ⌜ Tables f (now powers) (now logs) × (c ≤ length (now list)) × (c ≤ 64) × Places (2 ^ f .q - 1) c (now list) × (m ≤ length (now s)) ⌝ }
     ensures { λ r. ⌜ r ≡ agree (f .q) (listed (now (s .entry))) (take c (now (list .entry))) m ⌝ }
 {
     let mut exponents = [0u16; 64];

@@ -15,7 +15,7 @@ use lib.Pow.{pow-pos}
 use lib.Seq.{getD-set-same, getD-set-other}
 use Rattle.field.specs.Elements.{power, power-zero, times}
 use Rattle.field.specs.Fields.{Known, fieldOf}
-use Rattle.element.specs.Exponents.{times-power}
+use Rattle.element.specs.Exponents.{times-power, times-zero-r}
 use Rattle.element.specs.Fields.{size-least}
 use Rattle.element.specs.Lent.{LogOf}
 use Rattle.locator.specs.Follow.{discrepancy, entry-plus, entry-scale, terms, terms-agree}
@@ -117,6 +117,10 @@ inverse-is q known d k e r L w v =
     let c : (k + e) % (2 ^ q - 1) ≡ 0 =
     ap (λ (x : ℕ). (k + x) % (2 ^ q - 1)) w ∙ Nat.add-mod-mod k (2 ^ q - 1 - k) (2 ^ q - 1) ∙ ap (λ (x : ℕ). x % (2 ^ q - 1)) (Nat.add-sub-of-le (Nat.le-of-lt h)) ∙ Nat.mod-self (2 ^ q - 1) in
     ap₂ (times q) (sym (L .power)) v ∙ times-power q known k e ∙ ap (power q) c ∙ power-zero q
+
+pub inverse-pos : (q d e : ℕ) → times q d e ≡ 1 → 0 < e
+inverse-pos q d zero w = let z : _≡_ {A = ℕ} 0 1 = sym (times-zero-r q d) ∙ w in absurd (Nat.suc-ne-zero 0 (sym z))
+inverse-pos q d (suc e) w = omega arith
 
 module _ {q : ℕ} (known : Known q) {s : List ℕ} {r l : ℕ} {a o : List ℕ} (I : After q s r l a o) (n : l < length a) {d : ℕ} (D : Dot q s a r (suc l) d) where
   abbrev m : State (K q)

@@ -1,8 +1,8 @@
 // Berlekamp's and Massey's algorithm on lists of 16-bit numbers, by lent tables of powers and logs.
 ghost use mathlib.Core.Path.{_≡_};
-ghost use Prim.Native.Nat.{suc, _*_, _<_, _≤_, _^_};
+ghost use Prim.Native.Nat.{suc, _-_, _*_, _<_, _≤_, _^_};
 ghost use lib.ListN.{length};
-ghost use Rattle.field.specs.Elements.{times};
+ghost use Rattle.field.specs.Elements.{power, times};
 ghost use Rattle.element.specs.Lent.{Tables};
 ghost use Rattle.massey.specs.Entries.{Below, Product, Dot, Added};
 ghost use Rattle.massey.specs.Loops.{Shifted, Jumped};
@@ -16,6 +16,19 @@ fn product(powers: &[u16], logs: &[u16], f: Field, a: u16, b: u16) -> u16
 {
     let r = element::times_lent(powers, logs, f, a as u32, b as u32);
     r as u16
+}
+
+// The product of the element with the log k and another.
+fn multiple(powers: &[u16], logs: &[u16], f: Field, k: u16, b: u16) -> u16
+    requires { ⌜ Tables f (now powers) (now logs) × (k < 2 ^ f .q - 1) × (b < 2 ^ f .q) ⌝ }
+    ensures { λ r. ⌜ Product (f .q) (power (f .q) k) b r ⌝ }
+{
+    if b == 0 {
+        return 0;
+    }
+    let j = element::log(logs, b as u32);
+    let e = element::add_logs(f, k, j);
+    powers[e as usize]
 }
 
 // The inverse of an element above 0.
@@ -53,15 +66,16 @@ fn discrepancy(
     d
 }
 
-// d times `old` is added.
+// d times `old` is added, d being above 0.
 fn add_times(powers: &[u16], logs: &[u16], f: Field, sig: &mut [u16], old: &[u16], d: u16)
-    requires { ⌜ Tables f (now powers) (now logs) × Below (f .q) (now sig) × Below (f .q) (now old) × (d < 2 ^ f .q) × (length (now sig) ≡ length (now old)) ⌝ }
+    requires { ⌜ Tables f (now powers) (now logs) × Below (f .q) (now sig) × Below (f .q) (now old) × (0 < d) × (d < 2 ^ f .q) × (length (now sig) ≡ length (now old)) ⌝ }
     ensures { λ x. ⌜ Added (f .q) (now (sig .entry)) (now (old .entry)) d (now (sig .exit)) ⌝ }
 {
+    let k = element::log(logs, d as u32);
     let n = old.len();
     let mut i: usize = 0;
     while i < n {
-        let x = product(powers, logs, f, d, old[i]);
+        let x = multiple(powers, logs, f, k, old[i]);
         sig[i] = sig[i] ^ x;
         i += 1;
     }
@@ -82,17 +96,19 @@ fn shift(old: &mut [u16])
     }
 }
 
-// d times `old` is added to `sig`, and `old` becomes e times what `sig` was.
+// d times `old` is added to `sig`, and `old` becomes e times what `sig` was; d and e are above 0.
 fn jump(powers: &[u16], logs: &[u16], f: Field, sig: &mut [u16], old: &mut [u16], d: u16, e: u16)
-    requires { ⌜ Tables f (now powers) (now logs) × Below (f .q) (now sig) × Below (f .q) (now old) × (d < 2 ^ f .q) × (e < 2 ^ f .q) × (length (now sig) ≡ length (now old)) ⌝ }
+    requires { ⌜ Tables f (now powers) (now logs) × Below (f .q) (now sig) × Below (f .q) (now old) × (0 < d) × (d < 2 ^ f .q) × (0 < e) × (e < 2 ^ f .q) × (length (now sig) ≡ length (now old)) ⌝ }
     ensures { λ x. ⌜ Jumped (f .q) (now (sig .entry)) (now (old .entry)) d e (now (sig .exit)) (now (old .exit)) ⌝ }
 {
+    let k = element::log(logs, d as u32);
+    let m = element::log(logs, e as u32);
     let n = sig.len();
     let mut i: usize = 0;
     while i < n {
         let w = sig[i];
-        let x = product(powers, logs, f, d, old[i]);
-        let y = product(powers, logs, f, e, w);
+        let x = multiple(powers, logs, f, k, old[i]);
+        let y = multiple(powers, logs, f, m, w);
         sig[i] = w ^ x;
         old[i] = y;
         i += 1;

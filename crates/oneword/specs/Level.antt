@@ -45,7 +45,7 @@ module _ (p : Parameters) (A : Accepted p) (a : ℕ) (h : a ≤ p .v) where
   level-room c r = remainder-room (gen p a) (degree p a) (degree-of p R a h) c r (degree-high p R a h)
 
   -- ---- its syndromes: α^j is a root of the generator for j from 1 to 2 t_a
-  level-syndrome : (c j : ℕ) → 0 < j → j ≤ 2 * strength p a → syndrome (p .q) (remainder p a c) j ≡ syndrome (p .q) c j
+  pub level-syndrome : (c j : ℕ) → 0 < j → j ≤ 2 * strength p a → syndrome (p .q) (remainder p a c) j ≡ syndrome (p .q) c j
   level-syndrome c j l b =
       let F = fieldOf (p .q) .field in
       let x = pow F (fieldOf (p .q) .α) j in

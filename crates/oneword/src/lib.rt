@@ -11,7 +11,7 @@ use layout::sub_word;
 use refusal::word_refusal;
 
 mod divide; // remainders and quotients by any row
-mod work; // the calls' work
+pub mod work; // the calls' work
 
 // The remainder of sub-word i by g_0, in 96 bytes.
 pub fn remainder(p: Parameters, page: &[u8], i: usize, out: &mut [u8]) -> Outcome

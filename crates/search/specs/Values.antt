@@ -19,13 +19,13 @@ use Rattle.polynomial.specs.Division.{xor-lt}
 use Rattle.polynomial.specs.Xor.{xor-is}
 use Rattle.field.specs.Elements.{element-num, power, power-num}
 use Rattle.field.specs.Eval.{total, total-suc, total-zero}
-use Rattle.field.specs.Field.{ring, add-zero, mul-one, mul-pow, pow, pow-add, pow-one, pow-suc, pow-swap, pow-zero, pow≢zero, zero-mul}
+use Rattle.field.specs.Field.{ring, mul-one, mul-pow, pow, pow-add, pow-one, pow-suc, pow-swap, pow-zero, pow≢zero}
 use Rattle.field.specs.Fields.{Known, fieldOf, fieldOf-length}
 use Rattle.field.specs.Powers.{pow-mod, α≢0}
 use Rattle.field.specs.Roots.{value, value-cons, value-nil}
 use Rattle.tables.specs.Powers.{power-lt}
 use Rattle.element.specs.declared.Field.{Field}
-use Rattle.element.specs.Lent.{LogOf, Tables, exponent-lt, power-room, root-in}
+use Rattle.element.specs.Lent.{Tables, exponent-lt, power-room, root-in}
 use Rattle.locator.specs.Inverse.{recip, recip-eq, recip-is, recip-unique}
 use Rattle.massey.specs.Entries.{Below, F, K, at, below-set, el, el-xor, el-zero, mul2, plus2}
 use Rattle.massey.specs.Steps.{Zeroed, zeroed-below}
@@ -75,16 +75,17 @@ module _ (q : ℕ) where
     pub el-power : (e : ℕ) → el q (power q e) ≡ pow (F q) α e
     el-power e = ap (el q) (sym (power-num q known e)) ∙ element-num (fieldOf q) (pow (F q) α e)
 
-    pub chain-first : (d i e : ℕ) → LogOf q d e → Chain (term (el q d) i) 0 e
-    chain-first d i e l = record { below = l .below; exponent = sym (el-power e) ∙ ap (el q) (l .power) ∙ sym (term-first (el q d) i) }
+    pub chain-first : (e i : ℕ) → e < 2 ^ q - 1 → Chain (term (pow (F q) α e) i) 0 e
+    chain-first e i h = record { below = h; exponent = sym (term-first (pow (F q) α e) i) }
 
-    pub chain-next : (d : K q) (i k e s f : ℕ) → i < 2 ^ q - 1 → Chain (term d i) k e → s ≡ (2 ^ q - 1 - i) % (2 ^ q - 1) → f ≡ (e + s) % (2 ^ q - 1) → Chain (term d i) (k + 1) f
-    chain-next d i k e s f h c v w =
+    pub chain-next : (d : K q) (i k e f : ℕ) → i < 2 ^ q - 1 → Chain (term d i) k e → f ≡ (e + (2 ^ q - 1 - i)) % (2 ^ q - 1) → Chain (term d i) (k + 1) f
+    chain-next d i k e f h c w =
         let n : fieldOf q .n ≡ 2 ^ q - 1 = fieldOf-length q known in
-        let x : f ≡ (e + (2 ^ q - 1 - i)) % (2 ^ q - 1) = w ∙ ap (λ (s : ℕ). (e + s) % (2 ^ q - 1)) v ∙ Nat.add-mod-mod e (2 ^ q - 1 - i) (2 ^ q - 1) in record {
-          below = exponent-lt q known f (e + s) w;
-          exponent = rw (add-one k) (ap (pow (F q) α) (x ∙ ap (λ (n : ℕ). (e + (n - i)) % n) (sym n)) ∙ pow-mod (fieldOf q) (e + (fieldOf q .n - i)) ∙ pow-add (F q) α e (fieldOf q .n - i)
-              ∙ ap₂ (mul2 q) (c .exponent) (back i (omega arith)) ∙ sym (term-next d i k));
+        record {
+          below = exponent-lt q known f (e + (2 ^ q - 1 - i)) w;
+          exponent =
+              rw (add-one k) (ap (pow (F q) α) (w ∙ ap (λ (n : ℕ). (e + (n - i)) % n) (sym n)) ∙ pow-mod (fieldOf q) (e + (fieldOf q .n - i))
+              ∙ pow-add (F q) α e (fieldOf q .n - i) ∙ ap₂ (mul2 q) (c .exponent) (back i (omega arith)) ∙ sym (term-next d i k));
         }
 
 -- the entry of the lent powers at the exponent
@@ -129,17 +130,11 @@ adding-next {q} {a} {t} {k} {b} x U h s w = record {
     go h (inl c) = rw c here
     go h (inr c) = ap (el q) (getD-set-other b k h (bitXor (getD b k 0) x) 0 (omega arith)) ∙ U .done h c
 
+pub adding-same : {q : ℕ} {a : List ℕ} {t u : ℕ → K q} {k : ℕ} {b : List ℕ} → ((h : ℕ) → t h ≡ u h) → Adding q a t k b → Adding q a u k b
+adding-same {q} {a} e U = record { size = U .size; small = U .small; done = λ h l. U .done h l ∙ ap (plus2 q (at q a h)) (e h); rest = U .rest }
+
 pub adding-last : {q : ℕ} {a : List ℕ} {t : ℕ → K q} {k : ℕ} {b : List ℕ} (z : ℕ) → k ≡ z → Adding q a t k b → Adding q a t z b
 adding-last z e U = rw e at U
-
--- a term whose coefficient is 0
-pub adding-none : (q : ℕ) (a : List ℕ) (d i z : ℕ) → Below q a → d ≡ 0 → Adding q a (term q (el q d) i) z a
-adding-none q a d i z s e = record {
-  size = refl;
-  small = s;
-  done = λ h b. sym (ap (plus2 q (at q a h)) (ap (λ (x : K q). mul2 q x (pow (F q) (node q h) i)) (ap (el q) e ∙ el-zero q) ∙ zero-mul (F q) (pow (F q) (node q h) i)) ∙ add-zero (F q) (at q a h));
-  rest = λ h b. refl;
-}
 
 -- ---- sums of terms
 abbrev pub part : (q : ℕ) → (ℕ → K q) → K q → ℕ → K q
@@ -157,11 +152,23 @@ zeroed (suc n) (suc i) = zeroed n i
 pub values-first : (q : ℕ) (t : ℕ → ℕ → K q) (z : ℕ) (b : List ℕ) → Zeroed b → Values q t 0 z b
 values-first q t z b h = record { small = zeroed-below q b h; is = λ k l. ap (el q) (h k) ∙ el-zero q ∙ sym (total-zero (F q) (λ j. t j k)) }
 
-pub values-next : {q : ℕ} {t : ℕ → ℕ → K q} {m z : ℕ} {b c : List ℕ} → Values q t m z b → Adding q b (t m) z c → Values q t (m + 1) z c
-values-next {q} {t} {m} {z} {b} {c} W A = record {
-  small = A .small;
-  is = λ k h. A .done k h ∙ rw (add-one m) (ap (λ (x : K q). plus2 q x (t m k)) (W .is k h) ∙ sym (total-suc (F q) m (λ j. t j k)));
-}
+-- five terms more
+pub values-next : {q : ℕ} {t : ℕ → ℕ → K q} {m z : ℕ} {b c : List ℕ} (g : ℕ → K q) → Values q t m z b → Adding q b g z c
+    → ((k : ℕ) → g k ≡ plus2 q (t m k) (plus2 q (t (m + 1) k) (plus2 q (t (m + 2) k) (plus2 q (t (m + 3) k) (t (m + 4) k))))) → Values q t (m + 5) z c
+values-next {q} {t} {m} {z} {b} {c} g W A e = record { small = A .small; is = λ k h. A .done k h ∙ ap₂ (plus2 q) (W .is k h) (e k) ∙ sym (more (λ j. t j k)) }
+  where
+    next : (n i : ℕ) (f : ℕ → K q) → i ≡ suc n → total (F q) i f ≡ plus2 q (total (F q) n f) (f n)
+    next n i f e = rw e (total-suc (F q) n f)
+
+    turn : (a b c d e f : K q) → plus2 q (plus2 q (plus2 q (plus2 q (plus2 q a b) c) d) e) f ≡ plus2 q a (plus2 q b (plus2 q c (plus2 q d (plus2 q e f))))
+    turn a b c d e f = simp ring
+
+    more : (f : ℕ → K q) → total (F q) (m + 5) f ≡ plus2 q (total (F q) m f) (plus2 q (f m) (plus2 q (f (m + 1)) (plus2 q (f (m + 2)) (plus2 q (f (m + 3)) (f (m + 4))))))
+    more f =
+        next (m + 4) (m + 5) f (omega arith) ∙ ap (λ (x : K q). plus2 q x (f (m + 4))) (next (m + 3) (m + 4) f (omega arith)
+        ∙ ap (λ (x : K q). plus2 q x (f (m + 3))) (next (m + 2) (m + 3) f (omega arith)
+        ∙ ap (λ (x : K q). plus2 q x (f (m + 2))) (next (m + 1) (m + 2) f (omega arith) ∙ ap (λ (x : K q). plus2 q x (f (m + 1))) (next m (m + 1) f (add-one m)))))
+        ∙ turn (total (F q) m f) (f m) (f (m + 1)) (f (m + 2)) (f (m + 3)) (f (m + 4))
 
 pub values-last : {q : ℕ} {t : ℕ → ℕ → K q} {m z : ℕ} {b : List ℕ} (n : ℕ) → m ≡ n → Values q t m z b → Values q t n z b
 values-last n e W = rw e at W
@@ -172,7 +179,7 @@ module _ (q : ℕ) where
   front zero f = total-suc (F q) 0 f ∙ simp (total-zero, ring)
   front (suc n) f = total-suc (F q) (suc n) f ∙ ap (λ (x : K q). plus2 q x (f (suc n))) (front n f) ∙ simp (total-suc, ring)
 
-  scaled : (y : K q) (n : ℕ) (f : ℕ → K q) → mul2 q y (total (F q) n f) ≡ total (F q) n (λ h. mul2 q y (f h))
+  pub scaled : (y : K q) (n : ℕ) (f : ℕ → K q) → mul2 q y (total (F q) n f) ≡ total (F q) n (λ h. mul2 q y (f h))
   scaled y zero f = simp (total-zero, ring)
   scaled y (suc n) f = ap (mul2 q y) (total-suc (F q) n f) ∙ simp (total-suc, ← scaled y n f, ring)
 

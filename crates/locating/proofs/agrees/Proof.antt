@@ -37,7 +37,12 @@ module _ (b : tie.After-shared-slice-known4 Inv-loop μ-loop) where
   known = s .pre .0 .field .known
 
 loop-holds : tie.Need-loop-holds Inv-loop μ-loop
-loop-holds c = (agree-first (q c) (S c) (R c), omega arith, runs-first (q c) (known c) (s c .args .c) (s c .args .list .now) (replicate 64 0) (λ i h. getD-replicate 64 i 0 0 (omega (arith, s c .pre .2))), refl)
+loop-holds c = (
+  agree-first (q c) (S c) (R c),
+  omega arith,
+  runs-first (q c) (known c) (s c .args .c) (s c .args .list .now) (replicate 64 0) (λ i h. getD-replicate 64 i 0 0 (omega (arith, s c .pre .2))),
+  refl,
+)
 
 slice-aggregate-next-sum : tie.Need-slice-aggregate-next-sum Inv-loop μ-loop
 slice-aggregate-next-sum c = search needs

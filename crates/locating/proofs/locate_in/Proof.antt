@@ -76,8 +76,13 @@ mul-agrees c = search needs
 agrees-requires : tie.Need-agrees-requires
 agrees-requires c κs =
     let r = c .before .before .before .before in
-    let s = s (m r) in
-    (s .pre .0, omega (arith, s .pre .6), omega (arith, s .pre .2), places (s .args .f .q) (s .args .s .now) (s .args .t) (s .args .z) (given r) (c .before .if2 .left) (s .pre .6) (s .pre .5), omega (arith, s .pre .3))
+    let s = s (m r) in (
+      s .pre .0,
+      omega (arith, s .pre .6),
+      omega (arith, s .pre .2),
+      places (s .args .f .q) (s .args .s .now) (s .args .t) (s .args .z) (given r) (c .before .if2 .left) (s .pre .6) (s .pre .5),
+      omega (arith, s .pre .3),
+    )
 
 same-length-6 : tie.Need-same-length-6
 same-length-6 c = search needs

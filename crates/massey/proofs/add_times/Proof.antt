@@ -1,27 +1,42 @@
 use borrow.Author.Needs.{needs}
 use Prim.Native.Nat.{_-_}
+use native.Mathlib.Nat as Nat
 use native.Mathlib.Omega.{arith}
-use Rattle.massey.specs.Entries.{Upto, upto-first, upto-last, upto-step}
+use Rattle.element.specs.Lent.{LogOf, log-room}
+use Rattle.massey.specs.Entries.{Upto, product-log, upto-first, upto-last, upto-step}
 use Rattle.massey.proofs.add_times.Statement.{statement}
 use Rattle.massey.proofs.add_times.Tie as tie
 
 abbrev Inv-loop : tie.InvT-loop
-Inv-loop powers logs f sig₀ old d n i₀ sig i = Upto (f .q) sig₀ old d i sig
+Inv-loop powers logs f sig₀ old d k n i₀ sig i = Upto (f .q) sig₀ old d i sig
 
 abbrev μ-loop : tie.MeasureT-loop
-μ-loop powers logs f sig₀ old d n i₀ sig i = n - i
+μ-loop powers logs f sig₀ old d k n i₀ sig i = n - i
+
+log-requires : tie.Need-log-requires Inv-loop μ-loop
+log-requires c κs =
+    let s = c .before .before .before .before in
+    Nat.lt-of-lt-of-le (s .pre .4) (log-room (s .args .f) (s .args .powers .now) (s .args .logs .now) (s .pre .0))
+
+-- the log of d
+module _ (c : tie.After-log Inv-loop μ-loop) where
+  abbrev s : tie.Start Inv-loop μ-loop
+  s = c .before .before .before .before .before
+
+  log-is : LogOf (s .args .f .q) (s .args .d) (c .log .result)
+  log-is = c .log .ensures .log (s .args .f .q) (s .pre .0 .logs) (s .pre .3) (s .pre .4)
 
 loop-holds : tie.Need-loop-holds Inv-loop μ-loop
-loop-holds c = upto-first _ _ _ _ (c .before .before .before .before .pre .1)
+loop-holds c = upto-first _ _ _ _ (s c .pre .1)
 
-mul-product : tie.Need-mul-product Inv-loop μ-loop
-mul-product c = search needs
+mul-multiple : tie.Need-mul-multiple Inv-loop μ-loop
+mul-multiple c = search needs
 
-shared-slice-read-product : tie.Need-shared-slice-read-product Inv-loop μ-loop
-shared-slice-read-product c = search needs
+shared-slice-read-multiple : tie.Need-shared-slice-read-multiple Inv-loop μ-loop
+shared-slice-read-multiple c = search needs
 
-product-requires : tie.Need-product-requires Inv-loop μ-loop
-product-requires c κs = let l = c .before .before in let s = l .before .before .before .before .before in (s .pre .0, s .pre .3, s .pre .2 .lt (l .loop .i))
+multiple-requires : tie.Need-multiple-requires Inv-loop μ-loop
+multiple-requires c κs = let l = c .before .before in let s = s (l .before) in (s .pre .0, log-is (l .before) .below, s .pre .2 .lt (l .loop .i))
 
 mul-sig : tie.Need-mul-sig Inv-loop μ-loop
 mul-sig c = search needs
@@ -42,13 +57,15 @@ loop-less : tie.Need-loop-less Inv-loop μ-loop
 loop-less c = search needs
 
 loop-again : tie.Need-loop-again Inv-loop μ-loop
-loop-again c = upto-step (c .before .before .before .before .loop .inv) (omega arith) (c .before .product .ensures)
+loop-again c =
+    let l = c .before .before .before .before in
+    upto-step (l .loop .inv) (omega arith) (product-log (log-is (l .before)) (c .before .multiple .ensures))
 
 same-length : tie.Need-same-length Inv-loop μ-loop
 same-length c = search needs
 
 returns : tie.Need-returns Inv-loop μ-loop
-returns c = upto-last (c .before .before .before .before .before .before .pre .4) (c .before .loop .inv) (omega arith)
+returns c = let l = c .before in upto-last (s (l .before) .pre .5) (l .loop .inv) (omega arith)
 
 pub add-times-spec : {M : Type 1} → statement M
 add-times-spec =
@@ -56,10 +73,11 @@ add-times-spec =
     (tie.spec
     Inv-loop
     μ-loop
+    log-requires
     loop-holds
-    mul-product
-    shared-slice-read-product
-    product-requires
+    mul-multiple
+    shared-slice-read-multiple
+    multiple-requires
     mul-sig
     slice-read-sig
     mul-sig-2

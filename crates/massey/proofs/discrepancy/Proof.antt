@@ -30,7 +30,10 @@ shared-slice-read-product-2 : tie.Need-shared-slice-read-product-2 Inv-loop μ-l
 shared-slice-read-product-2 c = search needs
 
 product-requires : tie.Need-product-requires Inv-loop μ-loop
-product-requires c κs = let l = c .before .before .before in let s = l .before .before .before .before .before in (s .pre .0, s .pre .1 .lt (l .loop .i), s .pre .2 .lt (s .args .r - l .loop .i))
+product-requires c κs =
+    let l = c .before .before .before in
+    let s = l .before .before .before .before .before in
+    (s .pre .0, s .pre .1 .lt (l .loop .i), s .pre .2 .lt (s .args .r - l .loop .i))
 
 add-i : tie.Need-add-i Inv-loop μ-loop
 add-i c = search needs

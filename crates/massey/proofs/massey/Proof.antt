@@ -17,13 +17,24 @@ slice-write-sig : tie.Need-slice-write-sig Inv-loop μ-loop
 slice-write-sig c = search needs
 
 loop-holds : tie.Need-loop-holds Inv-loop μ-loop
-loop-holds c = let s = c .before .before .before .before .before in let a = s .args in (follow-first (a .f .q) (s .pre .0 .field .known) (a .s .now) (a .sig .now) (a .old .now) (s .pre .6) (s .pre .7) (omega arith) (s .pre .5), omega arith, omega arith, refl, length-set (a .sig .now) 0 1 ∙ s .pre .5)
+loop-holds c =
+    let s = c .before .before .before .before .before in
+    let a = s .args in (
+      follow-first (a .f .q) (s .pre .0 .field .known) (a .s .now) (a .sig .now) (a .old .now) (s .pre .6) (s .pre .7) (omega arith) (s .pre .5),
+      omega arith,
+      omega arith,
+      refl,
+      length-set (a .sig .now) 0 1 ∙ s .pre .5,
+    )
 
 mul-loop : tie.Need-mul-loop Inv-loop μ-loop
 mul-loop c = search needs
 
 turn-requires : tie.Need-turn-requires Inv-loop μ-loop
-turn-requires c κs = let l = c .before .before .before in let s = l .before .before .before .before .before .before in (s .pre .0, s .pre .1, s .pre .2, omega arith, s .pre .3, omega arith, l .loop .inv .1, after-reach (l .loop .inv .0), l .loop .inv .0)
+turn-requires c κs =
+    let l = c .before .before .before in
+    let s = l .before .before .before .before .before .before in
+    (s .pre .0, s .pre .1, s .pre .2, omega arith, s .pre .3, omega arith, l .loop .inv .1, after-reach (l .loop .inv .0), l .loop .inv .0)
 
 same-length : tie.Need-same-length Inv-loop μ-loop
 same-length c = search needs

@@ -1,6 +1,7 @@
 use borrow.Author.Needs.{needs}
+use native.Mathlib.Nat as Nat
 use native.Mathlib.Omega.{arith}
-use Rattle.massey.specs.Steps.{step-far, step-jump, step-near, step-zero, turned-jump, turned-near, turned-off}
+use Rattle.massey.specs.Steps.{inverse-pos, step-far, step-jump, step-near, step-zero, turned-jump, turned-near, turned-off}
 use Rattle.massey.proofs.turn.Statement.{statement}
 use Rattle.massey.proofs.turn.Tie as tie
 
@@ -19,7 +20,12 @@ same-length-2 : tie.Need-same-length-2
 same-length-2 c = search needs
 
 returns : tie.Need-returns
-returns c = let d = c .before .before .before .before .before in let s = d .before .before .before .before .before .before .before in turned-near (s .pre .6) (step-zero (s .pre .0 .field .known) (s .pre .8) (omega arith) (d .discrepancy .ensures) (c .before .before .before .before .if1 .taken) (c .before .before .shift .ensures))
+returns c =
+    let d = c .before .before .before .before .before in
+    let s = d .before .before .before .before .before .before .before in
+    turned-near (s .pre .6)
+    (step-zero (s .pre .0 .field .known) (s .pre .8) (omega arith) (d .discrepancy .ensures)
+    (c .before .before .before .before .if1 .taken) (c .before .before .shift .ensures))
 
 mul-if2 : tie.Need-mul-if2
 mul-if2 c = search needs
@@ -37,7 +43,16 @@ same-length-4 : tie.Need-same-length-4
 same-length-4 c = search needs
 
 returns-2 : tie.Need-returns-2
-returns-2 c = let d = c .before .before .before .before .before .before .before .before .before .before .before in let s = d .before .before .before .before .before .before .before in turned-near (s .pre .6) (step-near (s .pre .0 .field .known) (s .pre .8) (omega arith) (d .discrepancy .ensures) (c .before .before .before .before .before .before .before .before .before .before .if1 .left) (c .before .before .before .before .before .before .before .before .before .if2 .taken) (c .before .before .before .before .before .before .add-times .ensures) (search needs) (c .before .before .shift2 .ensures))
+returns-2 c =
+    let z = c .before .before .before .before .before in
+    let a = z .before in
+    let n = a .before .before .before in
+    let e = n .before in
+    let d = e .before in
+    let s = d .before .before .before .before .before .before .before in
+    turned-near (s .pre .6)
+    (step-near (s .pre .0 .field .known) (s .pre .8) (omega arith) (d .discrepancy .ensures) (e .if1 .left) (n .if2 .taken) (a .add-times .ensures)
+    (z .sig .given) (c .before .before .shift2 .ensures))
 
 add-if3 : tie.Need-add-if3
 add-if3 c = search needs
@@ -52,13 +67,31 @@ same-length-5 : tie.Need-same-length-5
 same-length-5 c = search needs
 
 returns-3 : tie.Need-returns-3
-returns-3 c = let d = c .before .before .before in let s = d .before .before .before .before .before .before .before in turned-off (s .args .l) (omega (arith, c .if3 .taken)) (step-far (s .pre .0 .field .known) (s .pre .8) (omega arith) (d .discrepancy .ensures) (c .before .before .if1 .left) (c .before .if2 .left))
+returns-3 c =
+    let d = c .before .before .before in
+    let s = d .before .before .before .before .before .before .before in
+    turned-off (s .args .l) (omega (arith, c .if3 .taken))
+    (step-far (s .pre .0 .field .known) (s .pre .8) (omega arith) (d .discrepancy .ensures) (c .before .before .if1 .left) (c .before .if2 .left))
 
 inverse-requires : tie.Need-inverse-requires
 inverse-requires c κs = search needs
 
 jump-requires : tie.Need-jump-requires
-jump-requires c κs = search needs
+jump-requires c κs =
+    let i = c .before .before in
+    let f = i .before .before .before in
+    let d = f .before in
+    let s = d .before .before .before .before .before .before .before in
+    let e = i .inverse .ensures in (
+      s .pre .0,
+      s .pre .8 .locators .small,
+      s .pre .8 .helpers .small,
+      Nat.pos-of-ne-zero (f .if1 .left),
+      d .discrepancy .ensures .small,
+      inverse-pos (s .args .f .q) (d .discrepancy .result) (i .inverse .result) (e .0),
+      e .1,
+      s .pre .8 .same,
+    )
 
 shift-requires-3 : tie.Need-shift-requires-3
 shift-requires-3 c κs = search needs
@@ -76,7 +109,18 @@ same-length-7 : tie.Need-same-length-7
 same-length-7 c = search needs
 
 returns-4 : tie.Need-returns-4
-returns-4 c = let d = c .before .before .before .before .before .before .before .before .before .before .before .before .before .before .before in let s = d .before .before .before .before .before .before .before in turned-jump _ (c .before .before .before .before .before .before .before .before .before .before .before .before .if3 .left) (step-jump (s .pre .0 .field .known) (s .pre .8) (omega arith) (d .discrepancy .ensures) (c .before .before .before .before .before .before .before .before .before .before .before .before .before .before .if1 .left) (c .before .before .before .before .before .before .before .before .before .before .before .before .before .if2 .left) (c .before .before .before .before .before .before .before .before .jump .ensures) (c .before .before .before .before .before .before .before .before .before .before .before .inverse .ensures) (search needs) (c .before .before .shift3 .ensures))
+returns-4 c =
+    let z = c .before .before .before .before .before .before .before in
+    let j = z .before in
+    let i = j .before .before .before in
+    let n = i .before in
+    let f = n .before in
+    let e = f .before in
+    let d = e .before in
+    let s = d .before .before .before .before .before .before .before in
+    turned-jump _ (n .if3 .left)
+    (step-jump (s .pre .0 .field .known) (s .pre .8) (omega arith) (d .discrepancy .ensures) (e .if1 .left) (f .if2 .left) (j .jump .ensures)
+    (i .inverse .ensures) (z .sig2 .given) (c .before .before .shift3 .ensures))
 
 pub turn-spec : {M : Type 1} → statement M
 turn-spec =
