@@ -4,9 +4,9 @@
     python3 tools/trial.py crates/gate_trial
 
 writes stdin and stdout there. The answers come from tools/cases.py, another encoder written from the requirement
-(docs/REQUIREMENT.md). For the large fields two of its parts are done again here: generators by the product of
-x + alpha^s over the roots, and the elimination on the code's conditions with its columns as numbers. Nothing is drawn at
-random but from its fixed sequence.
+(docs/REQUIREMENT.md). For the large fields three of its parts are done again here: generators by the product of
+x + alpha^s over the roots, the elimination on the code's conditions with its columns as numbers, and near multiples by
+Euclid's algorithm on the syndromes, with a division to confirm them. Nothing is drawn at random but from its fixed sequence.
 """
 import sys
 from functools import lru_cache
@@ -14,10 +14,10 @@ from itertools import cycle, product as tuples
 from pathlib import Path
 
 import cases
-from cases import A, A3, ALIKE, B, B4, CLASH, DEEP, DEEP4, EIGHT, FIELD, LARGE, PAIR, PAIR24, SMALL, TIGHT, TWELVE, U32, WIDE
-from cases import below, exponents, largest, nesting, number, refusal, shortened, some_bytes, strength
+from cases import A, A3, A6, ALIKE, B, B4, CLASH, DEEP, DEEP4, EIGHT, FIELD, LARGE, PAIR, PAIR24, SMALL, THREE, TIGHT, TWELVE, TWO, TWO4, U32, U64, WIDE
+from cases import below, exponents, largest, nesting, number, refusal, shortened, some_bytes, some_places, strength
 
-TEST, NESTING, GENERATORS, ELEMENTS, OPEN, FEED, REMAINDER, SHORT, NESTED, SYNDROMES, NESTED_SYNDROMES, JUDGE, READ_OUT, WRITE, QUOTE, WRITE_MANY, ALTER = range(17)
+TEST, NESTING, GENERATORS, ELEMENTS, OPEN, FEED, REMAINDER, SHORT, NESTED, SYNDROMES, NESTED_SYNDROMES, JUDGE, READ_OUT, WRITE, QUOTE, WRITE_MANY, ALTER, MEND = range(18)
 WIDTHS = (1, 7, 8, 63, 64)
 
 BYTE = (8, 4, 2, 3, 5, 9, 0, 0)
@@ -136,10 +136,56 @@ cases.encoded.cache_clear()
 assert ones() == other
 
 
+# ---- near multiples: the locator of at most t faults by Euclid's algorithm, its roots, and a division
+
+def times(q, a, b):
+    """Of two elements, by their logarithms."""
+    return alphas(q)[(logs(q)[a] + logs(q)[b]) % (2 ** q - 1)] if a and b else 0
+
+
+@lru_cache(None)
+def logs(q):
+    return {x: k for k, x in enumerate(alphas(q))}
+
+
+def locator(q, syndromes):
+    """Of S_1 to S_2t the polynomial, the coefficient of z^0 first, whose roots are the inverses of alpha^k over t faulty places k at most."""
+    f, g, a, b = [0] * len(syndromes) + [1], cases.trimmed(syndromes), [], [1]
+    while len(g) > len(syndromes) // 2:
+        inverse = -logs(q)[g[-1]]
+        while len(f) >= len(g):
+            shift, c = len(f) - len(g), alphas(q)[(logs(q)[f[-1]] + inverse) % (2 ** q - 1)]
+            less = lambda x, y: cases.trimmed(cases.added(x, [0] * shift + [times(q, c, e) for e in y]))
+            f, a = less(f, g), less(a, b)
+        f, g, a, b = g, f, b, a
+    return b
+
+
+def faults(s, page, i):
+    q, t, word = s[0], strength(s, 0), cases.words(s, page)[i]
+    terms = [(logs(q)[c], k) for k, c in enumerate(locator(q, [cases.syndrome(q, word, j) for j in range(1, 2 * t + 1)])) if c]
+    places = []
+    for k in range(cases.stored(s)):
+        value = 0
+        for c, e in terms:
+            value ^= alphas(q)[(c - e * k) % (2 ** q - 1)]
+        if value == 0:
+            places.append(k)
+    if len(places) > t:
+        return None
+    for k in places:
+        word[k] ^= 1
+    return None if cases.divided(word, cases.gen(s, 0))[1] else places
+
+
+by_multiples = cases.faults
+cases.faults = faults
+
+
 # ---- records
 
 given, expected = bytearray(), bytearray()
-seen = [set() for _ in range(17)]
+seen = [set() for _ in range(18)]
 
 
 def le(x, size=8):
@@ -561,6 +607,87 @@ def alterations():
     assert seen[ALTER] == {0, 1, 2, 3, 4, 7, 8, 9, 13, 14}
 
 
+def with_multiples(s):
+    """A page of the sheet whose sub-words are multiples of g_0."""
+    ws = []
+    for _ in range(s[1]):
+        word, g = 0, number(cases.gen(s, 0))
+        for k in range(cases.stored(s) - cases.degree(s, 0)):
+            word ^= (g << k) * below(2)
+        ws.append(cases.bits(word, cases.length(s)))
+    return cases.page_of_words(s, ws)
+
+
+def mendings():
+    """A sub-word mended: multiples of g_0 with flips, up to t_0 and past it, pages of ones, of zeros and any; and what refuses it."""
+    flipped = lambda s, page, i, places: cases.flipped(s, page, *[(i, k) for k in places])
+
+    def mend(s, page, i, size, count=0):
+        code, after, places, counted = cases.mend(s, page, i, [42405] * size, count)
+        record(MEND, s, bytes([code, *after]) + b''.join(le(k, 2) for k in places) + bytes([counted]), page=page, size=size, u=i, count=count)
+        return code, counted
+
+    def near(s, counts):
+        """So many flips in a sub-word; the others are damaged too."""
+        t = strength(s, 0)
+        for f in counts:
+            i, page = below(s[1]), with_multiples(s)
+            for j in range(s[1]):
+                page = flipped(s, page, j, some_places(s, f if i == j else below(t + 3)))
+            code, counted = mend(s, page, i, t, 165)
+            assert f > t or (code, counted) == (0, f)
+
+    for s in (A, A6, B4, TWO, TWO4, THREE, ALIKE, SMALL, PAIR24):
+        for f in range(strength(s, 0) + 3):
+            page = flipped(s, with_multiples(s), 1, some_places(s, f))
+            assert faults(s, page, 1) == by_multiples(s, page, 1)
+    for s in (A, A3, A6, B, B4, WIDE, DEEP, DEEP4, TWO, TWO4, THREE, TIGHT, ALIKE, SMALL, PAIR24, BYTE, FULL, EIGHT, shortened(BYTE, 6), shortened(TWELVE, 1903)):
+        t, n, m, room = strength(s, 0), cases.stored(s), s[1], cases.page_bytes(s)
+        near(s, range(t + 3))
+        page = with_multiples(s)
+        # the ends of a sub-word
+        for i, places in ((0, [0]), (m - 1, [n - 1]), (below(m), [0, n - 1][:t])):
+            assert mend(s, flipped(s, page, i, places), i, t, 165) == (0, len(places))
+        clear, full, mixed = [cases.erased(s, [all_spare(s) * (spare >> i & 1) for i in range(m)]) for spare in (0, 255, 0x55)]
+        assert mend(s, [0] * room, m - 1, t, 255) == (0, 0)
+        assert s[7] or mend(s, clear, 0, t, 7) == (0, 0)
+        mend(s, cases.some_page(s), below(m), t, 7)
+        # a fault in the top s places alone, and with others
+        if s[7]:
+            mend(s, clear, 0, t, 7)
+            for top, f in ((n, 0), (cases.length(s) - 1, t - 1)):
+                word = cases.divided([0] * top + [1], cases.gen(s, 0))[1]
+                x = cases.page_of_words(s, [cases.bits(number(word), cases.length(s))] + [[0] * cases.length(s)] * (m - 1))
+                assert mend(s, flipped(s, x, 0, some_places(s, f)), 0, t, 165) == (15, 165)
+        # lengths, spare bits, indices, lists: all wrong, then one condition less with each; each alone
+        stray = [flipped(s, x, i, [k]) for x in (page, clear) for i in (0, m - 1) for k in ends_of_spare(s)]
+        for x in (page[:-1], page + [0], [255] * (room + 1)):
+            assert mend(s, x, m, t + 1, 165) == (7, 165)
+        for x in stray[:1] + [full, mixed] * bool(stray):
+            assert mend(s, x, m, t + 1, 165) == (8, 165)
+        for x in stray:
+            assert mend(s, x, 0, t, 3) == (8, 3)
+        for i in (m, 255):
+            assert mend(s, page, i, t + 1, 165) == (9, 165)
+        for size in sorted({0, t - 1, t + 1, 2 * t}):
+            assert mend(s, page, m - 1, size, 165) == (10, 165)
+    # many faults; a strength whose generator is that of the next; nearly every place shortened away
+    same = (8, 2, 1, 16, 17, 0, 0, 0)
+    assert cases.gen(same, 0) == cases.gen(same, 1)
+    for s in (same, (8, 2, 1, 63, 64, 0, 0, 0), (12, 2, 1, 63, 64, 0, 0, 0), shortened(LARGE, largest(LARGE)), LARGE):
+        t = strength(s, 0)
+        near(s, (0, 1, 2, t - 1, t, t + 1, t + 2) if s != LARGE else (t, t + 1))
+        mend(s, cases.erased(s, [0] * s[1]), s[1] - 1, t, 165)
+    # indices that are small in their lowest byte or two
+    page = with_multiples(A)
+    for i in (256, 257, 65536, 2 ** 31, 2 ** 32, 2 ** 32 + 1, U64 - 1, U64):
+        assert mend(A, page, i, 1, 165) == (9, 165)
+    for s in REFUSED:
+        mend(s, [255], 255, 5, 165)
+        mend(s, [0] * 4, 0, 1)
+    assert seen[MEND] == {0, 1, 2, 3, 4, 7, 8, 9, 10, 14, 15}
+
+
 if __name__ == '__main__':
     tests()
     quotes()
@@ -573,6 +700,7 @@ if __name__ == '__main__':
     shortened_pages()
     many_pages()
     alterations()
+    mendings()
     assert seen[JUDGE] == {0, 1, 2, 3, 4, 7, 8, 14, 32, 64, 96} and seen[READ_OUT] == seen[JUDGE] | {6} and seen[WRITE] == {*range(9), 13, 14}
     room = Path(sys.argv[1])
     (room / 'stdin').write_bytes(given)

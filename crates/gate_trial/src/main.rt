@@ -2,9 +2,10 @@
 //   record   36 bytes: call, q, m, v, t0 to t3, index, second index, width, 0, page length, buffer length (two bytes each, low first), u,
 //            count (eight bytes each), s (four); then the page's bytes, for a writing the blocks', for a feeding the register's 96.
 //            A writing of many pages has their number in count, the length of all in the buffer's length, and the list's in u; an alteration
-//            the block and the bit in the lower and the upper four bytes of u, and the value in count
+//            the block and the bit in the lower and the upper four bytes of u, and the value in count; a mending the sub-word in u, the
+//            list's length in the buffer's length, and what the number of flips is before the call in count
 //   answer   the refusal's number or 0, then what the call gives, and the lent buffer whole, of many pages that and the list, of an
-//            alteration the page;
+//            alteration the page, of a mending the page, the list and the number of flips;
 //            of a verdict 0, 32 or 64, then the word's index; 96 for blank
 use code::Nesting;
 use code::Outcome;
@@ -290,6 +291,14 @@ fn alter_call(p: Parameters, page: &mut [u8], block: u32, bit: u32, value: u32) 
     put_bytes(r, page);
 }
 
+// A sub-word of the page, the list of flips, and their number.
+fn mend_call(p: Parameters, page: &mut [u8], i: usize, list: &mut [u16], flips: &mut u8) {
+    let r = mend::mend(p, page, i, list, flips);
+    put_bytes(r, page);
+    put_pairs(list);
+    put(*flips);
+}
+
 // Those that give syndromes, and the quote.
 fn list_call(call: u8, p: Parameters, page: &[u8], i: usize, list: &mut [u16]) {
     if call == 14 {
@@ -335,6 +344,29 @@ fn lend_list(call: u8, p: Parameters, page: &[u8], i: usize, size: usize) {
     if size <= 256 {
         list_call(call, p, page, i, &mut room[..size]);
     }
+}
+
+fn lend_mending(p: Parameters, page: &mut [u8], i: usize, size: usize, old: u8) {
+    let mut room = [42405u16; 256];
+    let mut flips = old;
+    if size <= 256 {
+        mend_call(p, page, i, &mut room[..size], &mut flips);
+    }
+}
+
+// The calls that change the page.
+fn change(call: u8, p: Parameters, page: &mut [u8], size: usize, u: u64, count: u64) {
+    if call == 16 {
+        alter_call(
+            p,
+            page,
+            (u % 4294967296) as u32,
+            (u / 4294967296 % 4294967296) as u32,
+            (count % 4294967296) as u32,
+        );
+        return;
+    }
+    lend_mending(p, page, u as usize, size, (count % 256) as u8);
 }
 
 // Byte k of a record, 0 past its end.
@@ -403,14 +435,8 @@ fn run(h: &[u8], page: &mut [u8], size: usize) {
             (u % 65536) as usize,
         );
     }
-    if call == 16 {
-        alter_call(
-            p,
-            page,
-            (u % 4294967296) as u32,
-            (u / 4294967296 % 4294967296) as u32,
-            (count % 4294967296) as u32,
-        );
+    if call == 16 || call == 17 {
+        change(call, p, page, size, u, count);
     }
 }
 
