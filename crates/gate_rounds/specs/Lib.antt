@@ -4,5 +4,6 @@ pub mod Apt
 pub mod Sum
 pub mod Scratched
 pub mod Altered
+pub mod Mended
 pub mod Sheets
 pub mod Singles

@@ -290,3 +290,15 @@ unfolding dataBytes blocksClear degree alteredBlocks blockOffset xor
 twins-8 =
     twins (long 8) accepted-8 (replicate 61 0x06) (set (replicate 61 0x06) 40 0x16) 1 84 1 0 fits-8
     (fits (long 8) (set (replicate 61 0x06) 40 0x16) tt refl tt) refl refl (names (long 8) 1 84 1 tt tt tt) (names (long 8) 1 84 0 tt tt tt) refl refl
+
+-- ---- a sheet with t_0 = 2
+abbrev pub two : Parameters
+two = sheet 4 3 1 2 3 0 0 0
+
+pub accepted-two : Accepted two
+unfolding sheetRefusal
+accepted-two = refl
+
+pub apt-two : Apt two (0x02 ∷ 0x01 ∷ 0x00 ∷ [])
+unfolding dataBytes blocksClear
+apt-two = apt two accepted-two (0x02 ∷ 0x01 ∷ 0x00 ∷ []) (fits two (0x02 ∷ 0x01 ∷ 0x00 ∷ []) tt refl tt) refl

@@ -1,5 +1,6 @@
 // Pages written at several widths, judged, read out and written again, of shortened sheets too; pages with a byte changed judged; erased
-// pages judged, read out and refused; three pages written in one call and one by one; one bit altered in a page and in its blocks.
+// pages judged, read out and refused; three pages written in one call and one by one; one bit altered in a page and in its blocks; a page
+// with one coefficient flipped mended.
 // Each equality is expected as the program runs, and proved of every run:
 // from what the calls promise and the theorems on the promises, and nothing of how a page is made.
 ghost use mathlib.Core.Path.{_≡_};
@@ -11,13 +12,14 @@ ghost use Rattle.polynomial.specs.Sums.{add};
 ghost use Rattle.code.specs.Calls.{Written, judgeAnswer, outcome, outcomeNumber, statuses};
 ghost use Rattle.code.specs.Demands.{QuotedPage};
 ghost use Rattle.code.specs.Layout.{IsBlank, IsPage, dataBytes, pageBytes};
-ghost use Rattle.code.specs.Parameters.{Accepted};
+ghost use Rattle.code.specs.Parameters.{Accepted, stored, strength};
 ghost use Rattle.code.specs.Refused.{BlocksBuffer, PageBuffer, Width};
 ghost use Rattle.code.specs.declared.Outcome.{Outcome};
 ghost use Rattle.code.specs.declared.Verdict.{Verdict};
 ghost use Rattle.gate_rounds.specs.Altered.{Twins};
 ghost use Rattle.gate_rounds.specs.Answers.{isBlank, isDone, isMember};
 ghost use Rattle.gate_rounds.specs.Apt.{Apt};
+ghost use Rattle.gate_rounds.specs.Mended.{struck};
 ghost use Rattle.gate_rounds.specs.Singles.{Each, Listable, rooms};
 use code::Outcome;
 use code::Parameters;
@@ -244,6 +246,44 @@ fn altered(
     let from = alter::alter(p, page, i, r, y);
     check::expect(done(from));
     check::expect(check::same(page, first));
+}
+
+// The coefficient of x^e of sub-word i is flipped.
+fn strike(p: Parameters, page: &mut [u8], i: usize, e: usize)
+    requires { ⌜ Accepted p × PageBuffer p (now page) × (i < p .m) × (e < stored p) ⌝ }
+    ensures { λ x. ⌜ now (page .exit) ≡ struck p (now (page .entry)) i e ⌝ }
+{
+    let b = layout::sub_word_bytes(p);
+    let at = i * b;
+    let end = at + b;
+    layout::flip(&mut page[at..end], e);
+}
+
+// The page of blocks with one coefficient of sub-word i flipped: mended, it is the page again, of one flip, and a member.
+fn mended(
+    p: Parameters,
+    l: u32,
+    m: u32,
+    a: &[u8],
+    i: usize,
+    e: usize,
+    page: &mut [u8],
+    first: &mut [u8],
+    list: &mut [u16],
+)
+    requires { ⌜ Accepted p × Width l × Width m × Apt p (now a) × (i < p .m) × (e < stored p) × PageBuffer p (now page)
+        × PageBuffer p (now first) × (length (now list) ≡ strength p 0) ⌝ }
+{
+    put(p, l, a, page);
+    put(p, m, a, first);
+    strike(p, page, i, e);
+    let mut n: u8 = 0xaa;
+    let o = mend::mend(p, page, i, list, &mut n);
+    check::expect(done(o));
+    check::expect(check::same(page, first));
+    check::expect(n == 1);
+    let v = page::judge(p, page);
+    check::expect(member(v));
 }
 
 // ---- many pages in one call
@@ -481,6 +521,26 @@ fn altered_rooms(p: Parameters, a: &[u8], b: &[u8], i: u32, r: u32, x: u32, y: u
     );
 }
 
+// And blocks whose page is mended; its list has t numbers.
+fn mended_rooms(p: Parameters, a: &[u8], i: usize, e: usize, n: usize, t: usize)
+    requires { ⌜ Accepted p × Apt p (now a) × (i < p .m) × (e < stored p) × (n ≡ pageBytes p) × (n ≤ 64) × (t ≡ strength p 0) × (t ≤ 4) ⌝ }
+{
+    let mut page = [0x00u8; 64];
+    let mut first = [0xffu8; 64];
+    let mut list = [0xa5u16; 4];
+    mended(
+        p,
+        8,
+        33,
+        a,
+        i,
+        e,
+        &mut page[..n],
+        &mut first[..n],
+        &mut list[..t],
+    );
+}
+
 // The laws on blocks a and b and on any page x. Is it a member?
 fn holds(p: Parameters, a: &[u8], b: &[u8], x: &[u8]) -> bool
     requires { ⌜ Accepted p × Apt p (now a) × Apt p (now b) × IsPage p (now x) × (length (now a) ≤ 1024) × (length (now x) ≤ 1024)
@@ -611,9 +671,66 @@ fn bits() {
     altered_rooms(p, &a, &b, 1, 84, 1, 0, 64);
 }
 
+// One coefficient of a sub-word of some sheets: the last, one within, and the first.
+fn flaws() {
+    // sheet A
+    let p = Parameters {
+        q: 4,
+        m: 2,
+        v: 1,
+        t0: 1,
+        t1: 2,
+        t2: 0,
+        t3: 0,
+        s: 0,
+    };
+    let a = [0x02u8, 0x01, 0x00];
+    mended_rooms(p, &a, 0, 14, 4, 1);
+    // q = 4 with t_0 2
+    let p = Parameters {
+        q: 4,
+        m: 3,
+        v: 1,
+        t0: 2,
+        t1: 3,
+        t2: 0,
+        t3: 0,
+        s: 0,
+    };
+    let a = [0x02u8, 0x01, 0x00];
+    mended_rooms(p, &a, 1, 7, 6, 2);
+    // sheet A with s 3, its last coefficient
+    let p = Parameters {
+        q: 4,
+        m: 2,
+        v: 1,
+        t0: 1,
+        t1: 2,
+        t2: 0,
+        t3: 0,
+        s: 3,
+    };
+    let a = [0x02u8, 0x01];
+    mended_rooms(p, &a, 1, 11, 4, 1);
+    // q = 8
+    let p = Parameters {
+        q: 8,
+        m: 2,
+        v: 1,
+        t0: 1,
+        t1: 2,
+        t2: 0,
+        t3: 0,
+        s: 0,
+    };
+    let a = [0x06u8; 61];
+    mended_rooms(p, &a, 1, 0, 64, 1);
+}
+
 fn main() {
     boards();
     bits();
+    flaws();
     // the requirement's sheet A, with its member C2 01 13 00, its page of a failing nested word and its erased pages
     let p = Parameters {
         q: 4,

@@ -13,6 +13,9 @@ boards-requires c κs = search needs
 bits-requires : tie.Need-bits-requires
 bits-requires c κs = search needs
 
+flaws-requires : tie.Need-flaws-requires
+flaws-requires c κs = search needs
+
 slice-aggregate-holds : tie.Need-slice-aggregate-holds
 slice-aggregate-holds c = search needs
 
@@ -175,6 +178,7 @@ main-spec =
     (tie.spec
     boards-requires
     bits-requires
+    flaws-requires
     slice-aggregate-holds
     slice-aggregate-holds-2
     slice-aggregate-holds-3
