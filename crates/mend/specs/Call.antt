@@ -114,8 +114,7 @@ module _ (p : Parameters) (x : List ℕ) (i : ℕ) (l : List ℕ) (n : ℕ) wher
     mend-made Q after listed counted e a b c =
         let m : mending p x i ≡ some Q = mending-eq p x i ∙ e in
         let f : refusal ≡ 0 = left ∙ ap (λ (o : Option (List ℕ)). 15 when nowhere o) m in
-        let t : placesOf p x i ≡ Q = ap mendingPlaces m in
-        (
+        let t : placesOf p x i ≡ Q = ap mendingPlaces m in (
           made-done refusal _ x after f (a ∙ ap (flipped p x i) (sym t)),
           made-done refusal _ l listed f (b ∙ ap (placeList (strength p 0)) (sym t)),
           made-done refusal _ (n ∷ []) (counted ∷ []) f (ap (λ (k : ℕ). k ∷ []) (c ∙ ap length (sym t))),
