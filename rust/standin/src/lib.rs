@@ -7,7 +7,7 @@ use reference::calls::BLANK;
 use reference::generator::{Level, odd};
 use reference::layout::{add, bit, flip, set};
 use reference::parameters::Sheet;
-use reference::{Parameters, calls, generator, linear};
+use reference::{Parameters, calls, linear};
 use std::cell::Cell;
 use std::collections::BTreeSet;
 use std::hint::black_box;
@@ -186,8 +186,7 @@ fn level_0_only(p: &Parameters, blocks: &[u8], page: &mut [u8]) {
     let sheet = Sheet::of(p);
     let mut words = sheet.words_of_blocks(blocks);
     for word in &mut words {
-        let coefficients: Vec<bool> = (0..sheet.field.n).map(|k| linear::get(word, k)).collect();
-        let rest = generator::divide(&coefficients, &sheet.levels[0].generator).1;
+        let rest = sheet.levels[0].remainder(sheet.field, word);
         rest.iter().enumerate().for_each(|(k, &bit)| linear::put(word, k, bit));
     }
     sheet.put_page(&words, page);
