@@ -162,7 +162,7 @@ pub fn crc(table: &[u32; 256], bytes: &[u8]) -> u32 {
 pub fn mendings(p: &Parameters) -> [(&'static str, Call); 4] {
     let (sheet, mut random) = (Sheet::of(p), Random::new(1));
     let (t, i) = (sheet.levels[0].t, sheet.m - 1);
-    let names = ["mend, no flip", "mend, t0 / 2 flips", "mend, t0 flips", "mend, t0 + 5 flips"];
+    let names = ["mend no flip", "mend t0 / 2 flips", "mend t0 flips", "mend t0 + 5 flips"];
     let mut flips = [0, t / 2, t, t + 5].into_iter();
     names.map(|name| {
         let mut page = member(&mut random, p);
