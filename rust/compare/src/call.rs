@@ -109,6 +109,10 @@ pub struct Outcome {
     pub flips: u8,
 }
 
+/// The archive or the reference, to which a call is made on buffers in place of its own: `Call::by_archive`,
+/// `Call::by_reference`.
+pub type Side = fn(&Call, &[u8], &mut [u8], &mut [u8], &mut u8) -> u32;
+
 impl Call {
     /// A call with one lent buffer and one number at most: any but write many, alter and mend.
     pub fn new(name: Name, p: &Parameters, number: u32, read: Vec<u8>, lent: Vec<u8>) -> Call {
@@ -130,11 +134,11 @@ impl Call {
         Outcome { number, lent: self.lent.clone(), list: self.list.clone(), flips: self.flips }
     }
 
-    /// What the call gives, made to one of the two sides.
-    pub fn outcome(&self, made: fn(&Call, &[u8], &mut [u8], &mut [u8], &mut u8) -> u32) -> Outcome {
+    /// What the call gives, made to one side.
+    pub fn outcome(&self, side: Side) -> Outcome {
         let mut outcome = self.refused(0);
         let Outcome { lent, list, flips, .. } = &mut outcome;
-        outcome.number = made(self, &self.read, lent, list, flips);
+        outcome.number = side(self, &self.read, lent, list, flips);
         outcome
     }
 

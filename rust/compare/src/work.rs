@@ -193,14 +193,10 @@ pub fn mend_to_crc(p: &Parameters) -> [f64; 4] {
 }
 
 /// A sheet in words.
-fn title_of(p: &Parameters) -> String {
-    let strengths: Vec<String> = p.t[..=p.v as usize].iter().map(u32::to_string).collect();
-    format!("q {} m {} v {} t {}", p.q, p.m, p.v, strengths.join(" "))
-}
-
-/// The sheet that is timed in words.
-fn title() -> String {
-    title_of(&FULL)
+pub fn title(p: &Parameters) -> String {
+    let t: Vec<String> = p.t[..=p.v as usize].iter().map(u32::to_string).collect();
+    let shortened = if p.s == 0 { String::new() } else { format!(" s {}", p.s) };
+    format!("q {} m {} v {} t {}{shortened}", p.q, p.m, p.v, t.join(" "))
 }
 
 /// The ratios of shortened writes at some widths in words, and the greatest of them.
@@ -209,7 +205,7 @@ pub fn stated() -> (String, [f64; 1]) {
     let each: Vec<String> = ratios.iter().map(|(width, ratio)| format!("{ratio:.2} at width {width}")).collect();
     let line = format!(
         "Write on {} at s {S}, in times of write at s 0, calls by turns, least times: {}; at most {LIMIT}",
-        title(),
+        title(&FULL),
         each.join(", ")
     );
     (line, [ratios.iter().fold(0.0, |most, &(_, ratio)| ratio.max(most))])
@@ -221,7 +217,7 @@ pub fn many_stated() -> (String, [f64; 1]) {
     let line = format!(
         "Write of {PAGES} pages in one call on {}, in times of {PAGES} single calls, by turns, least times: {ratio:.3} at width \
          {MANY_WIDTH}; at most {MANY_LIMIT}",
-        title()
+        title(&FULL)
     );
     (line, [ratio])
 }
@@ -235,7 +231,7 @@ pub fn alter_stated() -> (String, [f64; 2]) {
         "One bit altered, to and fro, in a page of {}, in times of write at width {ALTER_WIDTH}, by turns, least times: \
          {last:.3} for the last bit of block m - 1, {first:.3} for the first of block v; at most {limit}; {of_block_0:.3} for \
          the last of block 0; at most {limit_0}",
-        title()
+        title(&FULL)
     );
     (line, [last.max(first), of_block_0])
 }
@@ -249,10 +245,10 @@ pub fn mend_stated() -> (String, [f64; 3]) {
         "A sub-word of {} mended, in times of a CRC-32 of {CRC_BYTES} bytes, by turns, least times: {none:.3} without a flip; \
          at most {limit}; {half:.2} with {} flips; at most {limit_half}; {all:.2} with {t}; at most {limit_all}; refused with \
          {} {more:.2}; of {} with {} flips {strongest:.2}",
-        title(),
+        title(&FULL),
         t / 2,
         t + 5,
-        title_of(&STRONGEST),
+        title(&STRONGEST),
         STRONGEST.t[0]
     );
     (line, [none, half, all])

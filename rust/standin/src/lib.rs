@@ -834,7 +834,7 @@ fn mend(p: &Parameters, page: &mut [u8], index: u32, places: &mut [u8], flips: &
     };
     for &k in found.iter().filter(|&&k| k < sheet.stored() && !fault("mend-page-left")) {
         let place = sheet.place(put_into, k);
-        if !(fault("mend-clears-only") && !bit(page, place)) {
+        if bit(page, place) || !fault("mend-clears-only") {
             flip(page, place);
         }
     }

@@ -12,11 +12,11 @@
 //! altered bit in times of a write, and a mended sub-word in times of a CRC-32; ends with status 1 where one is above its
 //! limit.
 
-use compare::call::{Call, Name};
+use compare::call::{Call, Name, Side};
 use compare::draw::many;
 use compare::work::{
     ALTER_LIMITS, CRC_BYTES, LIMIT, MANY_LIMIT, MEND_LIMITS, PAGES, STRONGEST, WIDTHS, alter_stated, alterations,
-    altering, crc, crc_table, many_stated, mend_stated, mendings, stated, within,
+    altering, crc, crc_table, many_stated, mend_stated, mendings, stated, title, within,
 };
 use reference::Parameters;
 use reference::calls::QUOTE_BYTES;
@@ -104,13 +104,6 @@ fn rows() -> Vec<Row> {
     rows
 }
 
-/// A sheet in words.
-fn title(p: &Parameters) -> String {
-    let t: Vec<String> = p.t[..=p.v as usize].iter().map(u32::to_string).collect();
-    let shortened = if p.s == 0 { String::new() } else { format!(" s {}", p.s) };
-    format!("q {} m {} v {} t {}{shortened}", p.q, p.m, p.v, t.join(" "))
-}
-
 /// A call, made over and over to the archive and to the reference.
 fn row(name: &'static str, width: String, call: Call) -> Row {
     let bytes = if call.name.has_page() { Sheet::of(&call.p).page_bytes() } else { 0 };
@@ -118,14 +111,14 @@ fn row(name: &'static str, width: String, call: Call) -> Row {
     assert!(!call.name.refuses(outcome.number) || outcome.number == 15, "{name} is refused by {}", outcome.number);
     let pages = if call.name == Name::WriteMany { PAGES } else { 1 };
     assert!(pages == 1 || outcome.list.iter().all(|&listed| listed == 0), "{name} lists {:?}", outcome.list);
-    let timed = |made: fn(&Call, &[u8], &mut [u8], &mut [u8], &mut u8) -> u32| {
+    let timed = |side: Side| {
         let (mut call, mut lent, mut list, mut flips) = (call.clone(), call.lent.clone(), call.list.clone(), 0);
         Timed::new(pages, move || {
             if call.name == Name::Mend {
                 lent.copy_from_slice(&call.lent);
             }
             let (read, lent, list) = (black_box(&call.read), black_box(&mut lent), black_box(&mut list));
-            assert_eq!(made(black_box(&call), read, lent, list, black_box(&mut flips)), outcome.number);
+            assert_eq!(side(black_box(&call), read, lent, list, black_box(&mut flips)), outcome.number);
             // To and fro; of no meaning to any call but alter.
             call.value ^= 1;
         })
