@@ -1,6 +1,5 @@
 -- What the call answers, and what it leaves.
 use mathlib.Core.Path.{_≡_, refl, sym, ap, ap₂, _∙_}
-use mathlib.Core.Logic.{_≢_}
 use mathlib.Core.List.{List, [], _∷_}
 use mathlib.Core.Option.{Option, none, some}
 use Prim.Native.Nat.{ℕ, _+_, _*_, _^_, _≤_, _<_, suc-le-suc, zero-le}
@@ -11,7 +10,7 @@ use lib.Dec.{leb}
 use borrow.Author.Tests.{le-leb, lt-leb}
 use lib.ListN.{length, getD, take, drop, length-drop, length-take}
 use lib.Seq.{getD-take}
-use Rattle.polynomial.specs.Digits.{digits, digits-value, value}
+use Rattle.polynomial.specs.Digits.{digits, digits-value}
 use Rattle.polynomial.specs.Sums.{all-drop, all-take}
 use Rattle.polynomial.specs.Xor.{xor}
 use Rattle.field.specs.Flips.{Rising, flips}
@@ -24,9 +23,9 @@ use Rattle.code.specs.Calls.{Mended, mendingPlaces, placesOf}
 use Rattle.code.specs.Chains.{or-first}
 use Rattle.code.specs.Code.{Flips, nearest}
 use Rattle.code.specs.Layout.{IsPage, flipped, mending, placeList, wordsOf}
-use Rattle.code.specs.Lists.{_orElse_, _when_, part}
+use Rattle.code.specs.Lists.{_when_, part}
 use Rattle.code.specs.Mend.{flipped-else, flipped-here, flipped-page, mend-chain, mend-le, mend-left, mending-eq, nearest-sound}
-use Rattle.code.specs.Pages.{join-words, word-lt, words-many}
+use Rattle.code.specs.Pages.{join-words, words-many}
 use Rattle.code.specs.Parameters.{Accepted, stored, strength, subWordBytes}
 use Rattle.code.specs.Placement.{word-at}
 use Rattle.code.specs.Refusals.{mendRefusal, nowhere, wordRefusal}
