@@ -9,7 +9,7 @@
  *   machine   x86-64 with SSE2, which every x86-64 has, and the System V calling convention, its red zone included; the
  *             code is position-independent
  *   symbols   memcpy and memset, from the C library or the firmware; nothing else is left undefined
- *   stack     at most 128 KiB for gii_write_many, and at most 32 KiB for every other function
+ *   stack     at most 128 KiB for gii_write_many, at most 64 KiB for gii_mend, and at most 32 KiB for every other function
  *   threads   calls may run at once in several threads, each on buffers of its own
  *
  * Parameters (every function): the sheet, struct gii_sheet
@@ -38,8 +38,9 @@
  *             to 2 t_a and e from 0 to q - 1. At q = 4, t = 1, 2, 3, 4 it is 4, 8, 10, 14; at most it is q * t_a.
  *             gii_data_bytes gives the size of all blocks, gii_quote the data bits of each.
  *   list      16-bit numbers, two bytes each, low byte first, which gii_number reads: the syndromes S_1, S_2, .., 2 t
- *             numbers on GII_LIST_BYTES(t) bytes, or a quote, 12 numbers on GII_QUOTE_BYTES bytes. The list of
- *             gii_write_many alone has one byte a page.
+ *             numbers on GII_LIST_BYTES(t) bytes; a quote, 12 numbers on GII_QUOTE_BYTES bytes; or the places that
+ *             gii_mend flips, t0 numbers on GII_PLACES_BYTES(t0) bytes. The list of gii_write_many alone has one byte a
+ *             page.
  *
  *   Examples, where none is named s is 0
  *
@@ -56,20 +57,23 @@
  * What the caller owes, and what no function can test:
  *
  *   - a pointer and the length behind it describe bytes that may be read and, where the pointer is not to const, written;
+ *     `flips` of gii_mend, which has no length behind it, is one such byte;
  *   - nothing else writes them during the call;
  *   - the buffers of one call do not overlap;
  *   - no pointer is NULL. With length 0 nothing is read or written through it, and any pointer to an object will do.
  *
  * The bytes behind a pointer to const are never altered. A lent buffer is altered only by a call that is not refused, and
  * then wholly: what it held before is of no account. Only gii_write_many leaves some of the pages lent to it: those that
- * it lists as refused. And only gii_alter reads the page that is lent to it, and leaves what one bit does not concern.
+ * it lists as refused. And only gii_alter and gii_mend read the page that is lent to them, and leave of it what the bit or
+ * the sub-word does not concern.
  *
- * Results are of enum gii_answer. Conditions are tested in the order 1, 2, 3, 4, 14, 5, 6, 7, 8, 9, 10, 13: of the refusals
- * whose conditions a call meets the first of these is given, and a refusal leaves every byte of every buffer as it was.
- * In gii_write_many 9 is for the count of pages and comes before 6; 8 and 13 are listed, page by page, and refuse no call.
- * In gii_alter 9 is for the block, the bit and the value, 13 for the page as it would be altered. gii_judge and gii_read_out
- * know a blank page after 7 and before 8, which is for stray bits; no other function answers GII_BLANK. gii_page_bytes,
- * gii_data_bytes and gii_distance give a size, or 0 where the sheet is refused.
+ * Results are of enum gii_answer. Conditions are tested in the order 1, 2, 3, 4, 14, 5, 6, 7, 8, 9, 10, 13, 15: of the
+ * refusals whose conditions a call meets the first of these is given, and a refusal leaves every byte of every buffer as it
+ * was. In gii_write_many 9 is for the count of pages and comes before 6; 8 and 13 are listed, page by page, and refuse no
+ * call. In gii_alter 9 is for the block, the bit and the value, 13 for the page as it would be altered. Only gii_mend gives
+ * 15, and it never gives 13: what it leaves may be blank. gii_judge and gii_read_out know a blank page after 7 and before 8,
+ * which is for stray bits; no other function answers GII_BLANK. gii_page_bytes, gii_data_bytes and gii_distance give a size,
+ * or 0 where the sheet is refused.
  */
 #ifndef GII_BCH_H
 #define GII_BCH_H
@@ -79,9 +83,9 @@
 
 /* The version. A function or a number that goes or is given a new meaning moves the first number on. */
 #define GII_BCH_VERSION_MAJOR 4
-#define GII_BCH_VERSION_MINOR 2
+#define GII_BCH_VERSION_MINOR 3
 #define GII_BCH_VERSION_PATCH 0
-#define GII_BCH_VERSION "4.2.0"
+#define GII_BCH_VERSION "4.3.0"
 
 /* Bytes of a list of 2t syndromes: t is t0 for a sub-word, t_(v-l) for nested word l. */
 #define GII_LIST_BYTES(t) ((size_t)4 * (size_t)(t))
@@ -91,10 +95,16 @@
 #define GII_QUOTE_DEGREE(a) ((size_t)(a))
 #define GII_QUOTE_DATA_BITS(i) ((size_t)4 + (size_t)(i))
 
-/* The most bytes of a page (q 12, m 8, s 0), of blocks (q 12, m 8, v 1, t 1, 2, s 0) and of a list (t 64). */
+/* Bytes of the list of the places that gii_mend flips; what each of its numbers holds that is no place. */
+#define GII_PLACES_BYTES(t0) ((size_t)2 * (size_t)(t0))
+#define GII_NO_PLACE 65535
+
+/* The most bytes of a page (q 12, m 8, s 0), of blocks (q 12, m 8, v 1, t 1, 2, s 0), of a list (t 64) and of places (t0 63,
+ * since t0 is below t1, which is at most 64). */
 #define GII_PAGE_MAX 4096
 #define GII_BLOCKS_MAX 4086
 #define GII_LIST_MAX 256
+#define GII_PLACES_MAX 126
 
 /* The most pages that gii_write_many writes in one call. */
 #define GII_COUNT_MAX 16
@@ -104,7 +114,7 @@ enum gii_answer {
     GII_DONE = 0,   /* done */
     GII_MEMBER = 0, /* the page is a member of the code */
 
-    /* Refusals. The functions here give 1 to 10, 13 and 14; 14 is tested after 4 and before 5. */
+    /* Refusals. The functions here give 1 to 10 and 13 to 15; 14 is tested after 4 and before 5. */
     GII_FIELD = 1,         /* q is not 4, 8 or 12 */
     GII_SHAPE = 2,         /* v or m is out of range */
     GII_STRENGTHS = 3,     /* a rule on t0 to t_v is broken, or a place past t_v is not 0 */
@@ -114,11 +124,12 @@ enum gii_answer {
     GII_PAGE = 7,          /* the page's length, or that of many pages, is not exact */
     GII_STRAY = 8,         /* a spare bit of a page, or an unused bit of the blocks, that is read is 1 */
     GII_INDEX = 9,         /* there is no such sub-word, nested word, block or bit; a value is above 1; not 1 to 16 pages */
-    GII_LIST = 10,         /* the list's length is not exact */
+    GII_LIST = 10,         /* the list's length, or that of the places, is not exact */
     GII_FULL = 11,         /* a register would take more than n - s coefficients */
     GII_REGISTER = 12,     /* a register's level or remainder is out of range */
     GII_BLANK_BLOCKS = 13, /* the page of the blocks, where s is 0 and every data bit 1, or the altered page would be blank */
     GII_SHORTENING = 14,   /* s is above n - w_v - 1 */
+    GII_UNMENDED = 15,     /* no multiple of g_0 with zeros in its top s places is within t0 flips of the sub-word */
 
     /* Verdicts on a page. */
     GII_SUB_WORD = 32,    /* 32 + i: sub-word i is the lowest that is no multiple of g_0 */
@@ -183,6 +194,29 @@ uint32_t gii_write_many(uint32_t q, uint32_t m, uint32_t v, uint32_t t0, uint32_
  */
 uint32_t gii_alter(uint32_t q, uint32_t m, uint32_t v, uint32_t t0, uint32_t t1, uint32_t t2, uint32_t t3, uint32_t s,
                    uint8_t *page, size_t page_len, uint32_t block, uint32_t bit, uint32_t value);
+
+/*
+ * Mend: sub-word `index` of a stored page made a multiple of g_0 by at most t0 flips.
+ *
+ * Where some multiple of g_0, of n places, is 0 in its top s places and differs from the sub-word in at most t0 places, it is
+ * put in the sub-word's stead; there is no more than one, since two of them differ in at least 2 t0 + 1 places. `places`, of
+ * GII_PLACES_BYTES(t0) bytes, comes to hold the places that are flipped, k for the coefficient of x^k, rising, and
+ * GII_NO_PLACE in every number behind them; `flips`, one byte, how many they are. A sub-word without faults has 0 flips: the
+ * page stays, and all t0 numbers are GII_NO_PLACE. All bytes of the other sub-words stay, no spare bit is ever set, and no
+ * place that is not stored is ever flipped. Where there is no such multiple, the call is refused by 15.
+ *
+ * The other sub-words and the nested words are of no account: the page need be no member, before or afterwards, and where
+ * more than t0 places were damaged, it may be another multiple than the one written that is found. gii_judge tells whether
+ * the page has come to be a member.
+ *
+ * A blank page without spare bits that are 1 is mended like any other: where s is 0, its sub-words are multiples of g_0, and
+ * none of its places is flipped. Where a spare bit of it is 1, as in an erased page, it is refused by 8.
+ *
+ * Returns GII_DONE, or refuses: 1 to 4, 14, 7, 8 (a spare bit anywhere in the page, blank or not), 9 (index >= m), 10
+ * (places_len is not GII_PLACES_BYTES(t0)), 15 (there is no such multiple).
+ */
+uint32_t gii_mend(uint32_t q, uint32_t m, uint32_t v, uint32_t t0, uint32_t t1, uint32_t t2, uint32_t t3, uint32_t s,
+                  uint8_t *page, size_t page_len, uint32_t index, uint8_t *places, size_t places_len, uint8_t *flips);
 
 /*
  * Read out: the data bits of the page, member or not, blank or not, into `blocks`. Nothing is corrected. Of a blank page
@@ -283,6 +317,13 @@ static inline uint32_t gii_sheet_alter(const struct gii_sheet *sheet, uint8_t *p
                      page, page_len, block, bit, value);
 }
 
+static inline uint32_t gii_sheet_mend(const struct gii_sheet *sheet, uint8_t *page, size_t page_len, uint32_t index,
+                                      uint8_t *places, size_t places_len, uint8_t *flips)
+{
+    return gii_mend(sheet->q, sheet->m, sheet->v, sheet->t[0], sheet->t[1], sheet->t[2], sheet->t[3], sheet->s,
+                    page, page_len, index, places, places_len, flips);
+}
+
 static inline uint32_t gii_sheet_read_out(const struct gii_sheet *sheet, const uint8_t *page, size_t page_len,
                                           uint8_t *blocks, size_t blocks_len)
 {
@@ -356,6 +397,7 @@ static inline const char *gii_answer_text(uint32_t number)
     case GII_REGISTER: return "register: level or remainder out of range";
     case GII_BLANK_BLOCKS: return "blank: the page would be all ones";
     case GII_SHORTENING: return "shortening: s is above n - w_v - 1";
+    case GII_UNMENDED: return "unmended: no multiple of g_0 within t0 flips of the sub-word";
     case GII_SUB_WORD + 0: return "sub-word 0 fails";
     case GII_SUB_WORD + 1: return "sub-word 1 fails";
     case GII_SUB_WORD + 2: return "sub-word 2 fails";

@@ -57,7 +57,27 @@ faults=(data-high zero-page level-0-only write-touches-nothing width-37 one-stre
     alter-13-by-sub-word alter-13-by-data-bits alter-13-as-8 alter-13-half-written alter-refusal-writes \
     alter-members-only alter-answers-verdict \
     alter-own-check-bits@s alter-none-below-under-v@s alter-value-not-compared@s alter-bit-one-too-many@s \
-    alter-stray-missed@s alter-13-of-changes@s alter-13-half-written@s)
+    alter-stray-missed@s alter-13-of-changes@s alter-13-half-written@s \
+    mend-page-before-14 mend-index-before-14 mend-full-page mend-stray-missed mend-stray-of-the-sub-word \
+    mend-stray-of-the-last mend-erased-taken mend-index-m mend-index-one-fewer mend-index-by-v mend-index-any \
+    mend-index-modulo-2-8 mend-index-modulo-2-16 mend-index-before-page mend-index-before-stray \
+    mend-list-as-syndromes mend-list-by-level-v mend-list-longer mend-list-odd mend-list-modulo-2-8 \
+    mend-list-before-page mend-list-before-stray mend-list-before-index mend-15-before-list \
+    mend-13-before-stray mend-13-of-the-lent mend-13-of-the-mended mend-blank-passed \
+    mend-refusal-writes mend-refusal-lists mend-refusal-counts \
+    mend-no-last-look mend-one-more mend-one-fewer mend-search-to-n mend-unstored-dropped mend-last-place-missed \
+    mend-place-0-missed mend-check-bits-missed mend-by-level-1 mend-by-own-level mend-fault-free-15 \
+    mend-members-only mend-others-asked mend-15-half-written mend-15-lists mend-15-counts mend-no-15 mend-15-as-9 \
+    mend-15-as-verdict \
+    mend-reads-sub-word-0 mend-into-sub-word-0 mend-into-the-next mend-page-left mend-clears-only mend-all-sub-words \
+    mend-last-byte-left mend-next-byte-cleared mend-spare-set mend-one-strength mend-overrun \
+    mend-falling mend-fillers-first mend-filler-0 mend-filler-255 mend-filler-n mend-filler-left mend-last-entry-left \
+    mend-high-byte-first mend-low-byte-alone mend-places-from-the-end mend-places-inverse mend-places-from-1 \
+    mend-places-from-the-top mend-places-of-the-page mend-list-left mend-list-left-at-0 mend-list-overrun \
+    mend-count-off mend-count-of-the-list mend-count-bytes mend-count-left mend-count-left-at-0 mend-count-overrun \
+    mend-answers-flips mend-answers-verdict \
+    mend-stray-missed@s mend-into-sub-word-0@s mend-15-half-written@s mend-no-15@s mend-falling@s mend-filler-left@s \
+    mend-list-longer@s mend-one-fewer@s mend-count-left-at-0@s)
 [ $# = 0 ] || faults=("$@")
 tried=0 missed=0
 for fault in "${faults[@]}"; do

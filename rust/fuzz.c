@@ -3,7 +3,9 @@
  * call may give and has a text, what is only read stays, a refusal leaves every byte, a quote fits the sizes, which are in
  * range or 0, lengths by the sizes are never refused, stray bits are, s is where the quote of full sub-words says so, blank
  * pages are known, read out as ones and never written. Many pages in one call are listed and written as each is alone. A
- * page is altered by the page that is written of the bit alone, and never into a blank one.
+ * page is altered by the page that is written of the bit alone, and never into a blank one. A sub-word is mended by the flips
+ * that are listed, no more than t0 of stored places, into one whose syndromes are 0; where it had been such a one before so
+ * few flips, into that.
  * Usage: fuzz CALLS SEED. It is built with the sanitizers, and without them for valgrind, which sees every access of the
  * archive.
  */
@@ -411,6 +413,99 @@ static uint32_t alter(const struct gii_sheet *s, struct sizes is, unsigned long 
     return r;
 }
 
+/* Whether the syndromes of a sub-word of a page, of exact length and without stray bits, are 0. */
+static int without_syndromes(const struct gii_sheet *s, const uint8_t *page, size_t length, uint32_t index)
+{
+    uint8_t list[GII_LIST_MAX];
+    size_t bytes = GII_LIST_BYTES(s->t[0]);
+    if (gii_sheet_syndromes(s, page, length, index, list, bytes) != GII_DONE) {
+        printf("the syndromes of a page are refused\n");
+        exit(1);
+    }
+    for (size_t i = 0; i < bytes; i++)
+        if (list[i])
+            return 0;
+    return 1;
+}
+
+/* Flips some places of a sub-word, none, few or more than t0; the number of those that are flipped in the end. */
+static uint32_t damage(const struct gii_sheet *s, struct buffer page, uint32_t index)
+{
+    uint8_t flipped[GII_PAGE_MAX] = {0}, *word = page.bytes + index * (page.length / s->m);
+    uint32_t count = 0;
+    for (uint32_t k = once_in(4) ? 0 : once_in(3) ? s->t[0] : below(s->t[0] + 3); k; k--) {
+        uint32_t at = below(stored(s)), bit = 1u << at % 8;
+        count += flipped[at / 8] & bit ? (uint32_t)-1 : 1;
+        flipped[at / 8] ^= (uint8_t)bit;
+        word[at / 8] ^= (uint8_t)bit;
+    }
+    return count;
+}
+
+/* Whether a call that was done has listed what it has flipped, rising, and nothing else, and has made the sub-word right. */
+static int as_listed(const struct gii_sheet *s, struct buffer page, struct buffer places, uint32_t flips, uint32_t index)
+{
+    uint8_t *word = page.before + index * (page.length / s->m);
+    if (flips > s->t[0])
+        return 0;
+    for (uint32_t k = 0; k < s->t[0]; k++) {
+        uint32_t at = gii_number(places.bytes, k);
+        if (k >= flips ? at != GII_NO_PLACE : at >= stored(s) || (k && at <= gii_number(places.bytes, k - 1)))
+            return 0;
+        if (k < flips)
+            word[at / 8] ^= (uint8_t)(1u << at % 8);
+    }
+    return kept(page) && without_syndromes(s, page.bytes, page.length, index);
+}
+
+/* A call of gii_mend, on sizes that are in range or 0: its answer, and whether all is as it is to be; counts the sub-words
+ * that are without a flip, and those with some. */
+static uint32_t mend(const struct gii_sheet *s, struct sizes is, unsigned long *mended, int *good)
+{
+    struct buffer page = lend(is.page ? is.page : below(5000)), places = lend(GII_PLACES_BYTES(s->t[0] % 100));
+    struct buffer flips = {malloc(1), malloc(1), 1};
+    uint8_t undamaged[GII_PAGE_MAX];
+    uint32_t index = is.page && !once_in(9) ? below(s->m) : once_in(3) ? (uint32_t)any() : below(10), r, first;
+    int exact = is.page && page.length == is.page, known = 0;
+    if (!flips.bytes || !flips.before)
+        exit(2);
+    *flips.bytes = (uint8_t)any();
+    if (exact) {
+        fill_page(s, is, NULL, page);
+        if (index < s->m && !stray(s, page)) {
+            known = without_syndromes(s, page.bytes, page.length, index);
+            memcpy(undamaged, page.bytes, page.length);
+            known = damage(s, page, index) <= s->t[0] && known;
+        }
+    }
+    note(page);
+    note(places);
+    note(flips);
+    /* What is to come, where the sheet is accepted; done, or refused by 15, where none of these is. */
+    if (!exact)
+        first = GII_PAGE;
+    else if (stray(s, page))
+        first = GII_STRAY;
+    else if (index >= s->m)
+        first = GII_INDEX;
+    else
+        first = places.length != GII_PLACES_BYTES(s->t[0]) ? GII_LIST : GII_DONE;
+    r = gii_sheet_mend(s, page.bytes, page.length, index, places.bytes, places.length, flips.bytes);
+    if (!is.page)
+        *good = r >= GII_FIELD && (r <= GII_CLASH || r == GII_SHORTENING);
+    else
+        *good = r == first || (first == GII_DONE && r == GII_UNMENDED && !known);
+    if (*good && r == GII_DONE) {
+        mended[*flips.bytes > 0]++;
+        *good = (!known || memcmp(page.bytes, undamaged, page.length) == 0) && as_listed(s, page, places, *flips.bytes, index);
+    } else
+        *good = *good && kept(page) && kept(places) && kept(flips);
+    give_back(page);
+    give_back(places);
+    give_back(flips);
+    return r;
+}
+
 static int has_text(uint32_t r)
 {
     return strcmp(gii_answer_text(r), gii_answer_text(UINT32_MAX)) != 0;
@@ -420,14 +515,14 @@ int main(int argc, char **argv)
 {
     unsigned long calls = argc > 1 ? strtoul(argv[1], NULL, 10) : 10000;
     uint64_t seed = argc > 2 ? strtoull(argv[2], NULL, 10) : 1;
-    unsigned long answers[128] = {0}, listed[GII_BLANK_BLOCKS + 1] = {0}, altered[2] = {0};
+    unsigned long answers[128] = {0}, listed[GII_BLANK_BLOCKS + 1] = {0}, altered[2] = {0}, mended[2] = {0};
     state = seed * 0x9E3779B97F4A7C15u + 1;
     for (unsigned long k = 0; k < calls; k++) {
         struct gii_sheet s = any_sheet();
         struct sizes is = {gii_sheet_page_bytes(&s), gii_sheet_data_bytes(&s), gii_sheet_distance(&s)};
         size_t exact = is.page ? is.page : below(5000);
         uint32_t index = below(10), level = s.t[index <= s.v && s.v < 4 ? s.v - index : 0] % 100;
-        int call = (int)below(8), sized = in_range(&s, is), good;
+        int call = (int)below(9), sized = in_range(&s, is), good;
         size_t list = call == 5 ? GII_QUOTE_BYTES : GII_LIST_BYTES(call == 3 ? s.t[0] % 100 : level);
         struct buffer page = lend(exact), other = lend(call < 2 ? is.data : list);
         uint32_t r;
@@ -478,8 +573,11 @@ int main(int argc, char **argv)
         case 6:
             r = write_many(&s, is, listed, &good);
             break;
-        default:
+        case 7:
             r = alter(&s, is, altered, &good);
+            break;
+        default:
+            r = mend(&s, is, mended, &good);
             break;
         }
         /* 14 comes before all but 1 to 4, which the quote of full sub-words has too. */
@@ -505,6 +603,7 @@ int main(int argc, char **argv)
     for (int i = 0; i <= GII_BLANK_BLOCKS; i++)
         if (listed[i])
             printf(" %d: %lu", i, listed[i]);
-    printf("; altered pages %lu, left as they were %lu\n", altered[0], altered[1]);
+    printf("; altered pages %lu, left as they were %lu", altered[0], altered[1]);
+    printf("; mended sub-words %lu, without a flip %lu\n", mended[1], mended[0]);
     return 0;
 }

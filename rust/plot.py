@@ -12,8 +12,8 @@ import math
 import sys
 from xml.sax.saxutils import escape
 
-COLOURS = ["#1b6ca8", "#c8553d", "#3a7d44", "#7b4fa3", "#8a6d1d", "#0f8b8d", "#b0305c"]
-MARKS = ["ring", "triangle", "dot", "square", "diamond", "wedge", "bar"]
+COLOURS = ["#1b6ca8", "#c8553d", "#3a7d44", "#7b4fa3", "#8a6d1d", "#0f8b8d", "#b0305c", "#5b6770"]
+MARKS = ["ring", "triangle", "dot", "square", "diamond", "wedge", "bar", "post"]
 WIDTH, HEIGHT, LEFT, RIGHT, TOP, BOTTOM, NAMES, GAP = 970, 400, 80, 610, 40, 60, 650, 16
 
 
@@ -49,7 +49,7 @@ def mark(shape, x, y, colour):
         return f'<circle cx="{x:.1f}" cy="{y:.1f}" r="6" fill="none" stroke="{colour}" stroke-width="1.6"/>'
     if shape == "dot":
         return f'<circle cx="{x:.1f}" cy="{y:.1f}" r="2.8" fill="{colour}"/>'
-    corners = {"triangle": [(0, -5), (4.5, 3.5), (-4.5, 3.5)], "square": [(-3.5, -3.5), (3.5, -3.5), (3.5, 3.5), (-3.5, 3.5)], "diamond": [(0, -5), (5, 0), (0, 5), (-5, 0)], "wedge": [(0, 5), (4.5, -3.5), (-4.5, -3.5)], "bar": [(-5, -1.5), (5, -1.5), (5, 1.5), (-5, 1.5)]}
+    corners = {"triangle": [(0, -5), (4.5, 3.5), (-4.5, 3.5)], "square": [(-3.5, -3.5), (3.5, -3.5), (3.5, 3.5), (-3.5, 3.5)], "diamond": [(0, -5), (5, 0), (0, 5), (-5, 0)], "wedge": [(0, 5), (4.5, -3.5), (-4.5, -3.5)], "bar": [(-5, -1.5), (5, -1.5), (5, 1.5), (-5, 1.5)], "post": [(-1.5, -5), (1.5, -5), (1.5, 5), (-1.5, 5)]}
     points = " ".join(f"{x + dx:.1f},{y + dy:.1f}" for dx, dy in corners[shape])
     return f'<polygon points="{points}" fill="white" stroke="{colour}" stroke-width="1.6"/>'
 
@@ -110,8 +110,10 @@ def main():
         sys.exit(__doc__)
     with open(sys.argv[1], newline="", encoding="utf-8") as file:
         every = list(csv.DictReader(file))
-    # Of the altered bits those that take longest.
-    rows = [row for row in every if row["sheet"] and int(row["bytes"]) and (not row["call"].startswith("alter") or row["call"].endswith("block m - 1"))]
+    # Of the altered bits those that take longest, of the mended sub-words those with most flips; sheets with all calls.
+    kinds = {"alter": "block m - 1", "mend": "mend t0 flips"}
+    written = {row["sheet"] for row in every if row["call"] == "write"}
+    rows = [row for row in every if row["sheet"] in written and int(row["bytes"]) and all(row["call"].endswith(end) for kind, end in kinds.items() if row["call"].startswith(kind))]
     crc = [float(row["median_ns"]) for row in every if row["call"] == "CRC-32"]
 
     def point(row, x):

@@ -1,6 +1,6 @@
 /*
  * How much stack each call takes, on the largest sheet and on shortened ones: a thread on a painted stack. Prints the most of
- * all sheets. Fails above 128 KiB for write of many pages, and above 32 KiB for every other call.
+ * all sheets. Fails above 128 KiB for write of many pages, above 64 KiB for mend, and above 32 KiB for every other call.
  */
 #define _GNU_SOURCE
 #include "gii_bch.h"
@@ -14,20 +14,22 @@
 #define STACK ((size_t)1 << 20)
 #define LIMIT ((size_t)32 * 1024)
 #define MANY_LIMIT ((size_t)128 * 1024)
+#define MEND_LIMIT ((size_t)64 * 1024)
 #define PAINT 0xA5
 
-/* Full sub-words; half of them; a whole number of bytes; the least that is accepted. */
+/* Full sub-words; half of them; a whole number of bytes; the least that is accepted; the most that are flipped. */
 static const struct gii_sheet sheets[] = {
     {12, 8, 3, {28, 32, 39, 58}, 0},
     {12, 8, 3, {28, 32, 39, 58}, 1900},
     {12, 4, 1, {4, 12, 0, 0}, 3071},
     {12, 8, 3, {61, 62, 63, 64}, 3332},
+    {12, 2, 1, {63, 64, 0, 0}, 0},
     {8, 4, 2, {4, 8, 16, 0}, 100},
     {4, 2, 1, {1, 2, 0, 0}, 6},
 };
 static struct gii_sheet sheet;
 static uint8_t blocks[GII_BLOCKS_MAX], page[GII_PAGE_MAX], erased[GII_PAGE_MAX], back[GII_BLOCKS_MAX], list[GII_LIST_MAX];
-static uint8_t quote[GII_QUOTE_BYTES], clear[GII_PAGE_MAX];
+static uint8_t quote[GII_QUOTE_BYTES], clear[GII_PAGE_MAX], damaged[GII_PAGE_MAX], places[GII_PLACES_MAX], flips;
 static uint8_t many_blocks[GII_COUNT_MAX * GII_BLOCKS_MAX], pages[GII_COUNT_MAX * GII_PAGE_MAX], listed[GII_COUNT_MAX];
 static size_t blocks_len, page_len;
 /* Each call, the answer that is expected of it, the stack that it may take, and the most that it took. */
@@ -57,6 +59,11 @@ static struct {
     {"alter, the first bit of block v", GII_DONE, LIMIT, 0},
     {"alter, the last bit of block 0", GII_DONE, LIMIT, 0},
     {"alter, a blank page", GII_BLANK_BLOCKS, LIMIT, 0},
+    {"mend, no flip", GII_DONE, MEND_LIMIT, 0},
+    {"mend, t0 / 2 flips", GII_DONE, MEND_LIMIT, 0},
+    {"mend, t0 flips", GII_DONE, MEND_LIMIT, 0},
+    /* Mended where another multiple of g_0 is near. */
+    {"mend, t0 + 5 flips", GII_UNMENDED, MEND_LIMIT, 0},
 };
 static size_t call;
 static uint32_t answer;
@@ -66,6 +73,18 @@ static uint32_t alter(uint32_t block, uint32_t bit)
 {
     uint32_t at = ((uint32_t)1 << sheet.q) - 1 - sheet.s - gii_number(quote, GII_QUOTE_DATA_BITS(block)) + bit;
     return gii_sheet_alter(&sheet, page, page_len, block, bit, !(page[block * (page_len / sheet.m) + at / 8] >> at % 8 & 1));
+}
+
+/* The last sub-word of the page mended, with so many flips of places that are evenly apart. */
+static uint32_t mend(uint32_t count)
+{
+    uint32_t stored = ((uint32_t)1 << sheet.q) - 1 - sheet.s, k, at;
+    memcpy(damaged, page, page_len);
+    for (k = 0; k < count; k++) {
+        at = k * stored / count;
+        damaged[page_len - page_len / sheet.m + at / 8] ^= (uint8_t)(1u << at % 8);
+    }
+    return gii_sheet_mend(&sheet, damaged, page_len, sheet.m - 1, places, GII_PLACES_BYTES(sheet.t[0]), &flips);
 }
 
 static void *run(void *unused)
@@ -96,6 +115,10 @@ static void *run(void *unused)
     case 17: answer = alter(sheet.v, 0); break;
     case 18: answer = alter(0, gii_number(quote, GII_QUOTE_DATA_BITS(0)) - 1); break;
     case 19: answer = gii_sheet_alter(&sheet, clear, page_len, sheet.m - 1, 0, 1); break;
+    case 20: answer = mend(0); break;
+    case 21: answer = mend(sheet.t[0] / 2); break;
+    case 22: answer = mend(sheet.t[0]); break;
+    case 23: answer = mend(sheet.t[0] + 5); break;
     }
     return NULL;
 }
@@ -137,7 +160,7 @@ int main(void)
                 own = bytes;
             else if (bytes - own > calls[call].most)
                 calls[call].most = bytes - own;
-            if (answer != calls[call].expected && !(answer == GII_DONE && call == 13 && sheet.s > 0)) {
+            if (answer != calls[call].expected && !(answer == GII_DONE && ((call == 13 && sheet.s > 0) || call == 23))) {
                 printf("%s answers %u, sheet %zu\n", calls[call].name, (unsigned)answer, k);
                 return 1;
             }

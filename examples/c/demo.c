@@ -1,8 +1,8 @@
 /*
  * The C functions at work: a sheet is quoted, a page is written, judged, damaged, judged and read out, scratched and judged,
- * an erased page is known as blank, many pages are written in one call, one bit of a stored page is altered, all that with
- * full and with shortened sub-words, and every refusal is shown to leave its buffers. Every length comes from the calls.
- * Prints what it does; the first surprise ends it with status 1.
+ * an erased page is known as blank, many pages are written in one call, one bit of a stored page is altered, damaged
+ * sub-words are mended, all that with full and with shortened sub-words, and every refusal is shown to leave its buffers.
+ * Every length comes from the calls. Prints what it does; the first surprise ends it with status 1.
  *
  *   rt staticlib gii_bch
  *   cc -O2 -Iinclude examples/c/demo.c target/staticlib/libgii_bch.a -o target/demo && target/demo
@@ -335,6 +335,64 @@ static void altered_bit(const struct gii_sheet *s)
     must(gii_sheet_alter(s, page, page_len, 0, 0, 1) == GII_BLANK_BLOCKS, "not made blank again");
 }
 
+/*
+ * A stored page damaged in t0 places of every sub-word: each is mended by the places that were flipped, the page is what was
+ * written, and its blocks come back. A sub-word without faults has no flips.
+ */
+static void mended_sub_words(const struct gii_sheet *s)
+{
+    static uint8_t blocks[GII_BLOCKS_MAX], written[GII_PAGE_MAX], page[GII_PAGE_MAX], out[GII_BLOCKS_MAX];
+    size_t blocks_len = gii_sheet_data_bytes(s), page_len = gii_sheet_page_bytes(s), sub_word = page_len / s->m;
+    size_t places_len = GII_PLACES_BYTES(s->t[0]);
+    uint8_t quote[GII_QUOTE_BYTES], places[GII_PLACES_MAX], flips;
+    uint32_t i, k, at;
+    int found;
+
+    printf("  sub-words mended\n");
+    must(gii_sheet_quote(s, quote, sizeof quote) == GII_DONE, "quoted");
+    fill_blocks(s, quote, 1, blocks);
+    must(gii_sheet_write(s, 64, blocks, blocks_len, written, page_len) == GII_DONE, "written");
+    memcpy(page, written, page_len);
+    for (i = 0; i < s->m; i++)
+        for (k = 0; k < s->t[0]; k++) {
+            at = (k * stored(s) + i) / s->t[0];
+            page[i * sub_word + at / 8] ^= (uint8_t)(1u << at % 8);
+        }
+    must(gii_sheet_judge(s, page, page_len) == GII_SUB_WORD, "t0 places of every sub-word flipped: sub-word 0 fails");
+    for (i = 0; i < s->m; i++) {
+        memset(places, 0xA5, sizeof places);
+        must(gii_sheet_mend(s, page, page_len, i, places, places_len, &flips) == GII_DONE, "mended");
+        printf("  sub-word %u: %u flips, places", (unsigned)i, (unsigned)flips);
+        for (k = 0, found = flips == s->t[0]; k < flips; k++) {
+            printf(" %u", (unsigned)gii_number(places, k));
+            found = found && gii_number(places, k) == (k * stored(s) + i) / s->t[0];
+        }
+        printf("\n");
+        must(found, "these were flipped");
+        must(memcmp(page, written, (i + 1) * sub_word) == 0, "so far the page is what was written");
+        must(gii_sheet_judge(s, page, page_len) == (i + 1 < s->m ? GII_SUB_WORD + i + 1 : GII_MEMBER),
+             i + 1 < s->m ? "the next sub-word fails" : "the page is a member");
+        must(gii_sheet_mend(s, page, page_len, i, places, places_len, &flips) == GII_DONE && flips == 0, "mended again: no flips");
+        for (k = 0, found = 1; k < s->t[0]; k++)
+            found = found && gii_number(places, k) == GII_NO_PLACE;
+        must(found && memcmp(page, written, (i + 1) * sub_word) == 0, "no places, and the page as it was");
+    }
+    must(gii_sheet_read_out(s, page, page_len, out, blocks_len) == GII_MEMBER, "read out");
+    must(memcmp(out, blocks, blocks_len) == 0, "the blocks come back");
+
+    memset(page, 0xFF, page_len);
+    if (spare_bits(s))
+        must(gii_sheet_mend(s, page, page_len, 0, places, places_len, &flips) == GII_STRAY, "an erased page is refused: its spare bits are 1");
+    for (i = 0; i < s->m; i++)
+        page[(i + 1) * sub_word - 1] = (uint8_t)(0xFFu >> spare_bits(s));
+    if (s->s == 0) {
+        page[0] ^= 0x01;
+        must(gii_sheet_mend(s, page, page_len, 0, places, places_len, &flips) == GII_DONE && flips == 1 && gii_number(places, 0) == 0,
+             "without them, and with one coefficient 0: mended");
+        must(gii_sheet_judge(s, page, page_len) == GII_BLANK, "it is blank");
+    }
+}
+
 /* A quote that is known number for number, with data bits less s, and known sizes. */
 static void known_quote(void)
 {
@@ -384,7 +442,8 @@ static void known_pages(void)
     static const uint8_t erased[4] = {0xFF, 0xFF, 0xFF, 0xFF}, clear[4] = {0xFF, 0x7F, 0xFF, 0x7F}, ones[3] = {0x7F, 0xFF, 0x07};
     static const uint8_t many[12] = {0x01, 0x01, 0x00, 0x81, 0x01, 0x00, 0x7F, 0xFF, 0x07, 0x00, 0x01, 0x00};
     static const uint8_t all[16] = {0xC2, 0x01, 0x13, 0x00, 0xA5, 0xA5, 0xA5, 0xA5, 0xA5, 0xA5, 0xA5, 0xA5, 0x13, 0x00, 0x13, 0x00};
-    uint8_t out[4], list[8], pages[16];
+    static const uint8_t damaged[4] = {0xC2, 0x01, 0x33, 0x00}, cut[4] = {0xC0, 0x00, 0x00, 0x00};
+    uint8_t out[4], list[8], pages[16], flips;
 
     printf("known pages of q 4, m 2, v 1, t 1, 2\n");
     must(gii_sheet_write(&a, 8, blocks, sizeof blocks, out, sizeof out) == GII_DONE, "blocks 01 / 01 00 written");
@@ -397,6 +456,10 @@ static void known_pages(void)
     memcpy(out, page, sizeof page);
     must(gii_sheet_alter(&a, out, sizeof out, 0, 0, 0) == GII_DONE && memcmp(out, altered, sizeof out) == 0,
          "bit 0 of block 0 of C2 01 13 00 made 0: 13 00 13 00");
+    memcpy(out, damaged, sizeof damaged);
+    must(gii_sheet_mend(&a, out, sizeof out, 1, list, GII_PLACES_BYTES(a.t[0]), &flips) == GII_DONE && memcmp(out, page, sizeof page) == 0,
+         "sub-word 1 of C2 01 33 00 mended: C2 01 13 00");
+    must(flips == 1 && gii_number(list, 0) == 5, "by one flip, of place 5");
     must(gii_sheet_judge(&a, erased, sizeof erased) == GII_BLANK, "FF FF FF FF is blank");
     must(gii_sheet_judge(&a, clear, sizeof clear) == GII_BLANK, "FF 7F FF 7F is blank");
     must(gii_sheet_read_out(&a, erased, sizeof erased, out, sizeof ones) == GII_BLANK, "FF FF FF FF read out");
@@ -417,14 +480,18 @@ static void known_pages(void)
     must(gii_sheet_judge(&shorter, clear, sizeof clear) == GII_BLANK, "FF 7F FF 7F is blank");
     must(gii_sheet_nested_syndromes(&shorter, second, sizeof second, 0, list, sizeof list) == GII_DONE, "syndromes of 02 00");
     must(memcmp(list, syndromes, sizeof list) == 0, "2, 4, 8, 3");
+    memcpy(out, cut, sizeof cut);
+    must(gii_sheet_mend(&shorter, out, sizeof out, 0, list, GII_PLACES_BYTES(a.t[0]), &flips) == GII_UNMENDED,
+         "C0 00 is near x^6 + x^7 + x^10 alone, and place 10 is not stored: not mended");
+    must(memcmp(out, cut, sizeof cut) == 0 && memcmp(list, syndromes, sizeof list) == 0, "every byte stays");
 }
 
 /* One call of each function, with buffers of the given lengths and contents; a refusal must leave all of them. */
 struct lent {
-    uint8_t blocks[GII_COUNT_MAX * 8], page[GII_COUNT_MAX * 8], list[2 * GII_QUOTE_BYTES];
+    uint8_t blocks[GII_COUNT_MAX * 8], page[GII_COUNT_MAX * 8], list[2 * GII_QUOTE_BYTES], flips;
 };
 
-enum call { WRITE, READ_OUT, JUDGE, SYNDROMES, NESTED_SYNDROMES, QUOTE, WRITE_MANY, ALTER };
+enum call { WRITE, READ_OUT, JUDGE, SYNDROMES, NESTED_SYNDROMES, QUOTE, WRITE_MANY, ALTER, MEND };
 
 /* The pages that WRITE_MANY is told, the bit and the value that ALTER is. */
 static uint32_t count = 1, bit = 0, value = 1;
@@ -432,7 +499,7 @@ static uint32_t count = 1, bit = 0, value = 1;
 static void refused(enum call call, const struct gii_sheet *s, uint32_t number, size_t blocks_len, size_t page_len,
                     size_t list_len, const struct lent *holds, uint32_t expected, const char *what)
 {
-    static const char *const names[] = {"write", "read out", "judge", "syndromes", "nested syndromes", "quote", "write many", "alter"};
+    static const char *const names[] = {"write", "read out", "judge", "syndromes", "nested syndromes", "quote", "write many", "alter", "mend"};
     struct lent lent = *holds;
     char line[240];
     uint32_t answer = 0;
@@ -462,6 +529,9 @@ static void refused(enum call call, const struct gii_sheet *s, uint32_t number, 
     case ALTER:
         answer = gii_sheet_alter(s, lent.page, page_len, number, bit, value);
         break;
+    case MEND:
+        answer = gii_sheet_mend(s, lent.page, page_len, number, lent.list, list_len, &lent.flips);
+        break;
     }
     sprintf(line, "%s, %s: refused by %u (%s), every byte stays", names[call], what, (unsigned)expected,
             gii_answer_text(expected));
@@ -488,7 +558,7 @@ static void refusals(void)
     static const struct gii_sheet greatest = {UINT32_MAX, UINT32_MAX, UINT32_MAX,
                                               {UINT32_MAX, UINT32_MAX, UINT32_MAX, UINT32_MAX}, UINT32_MAX};
     const size_t data = gii_sheet_data_bytes(&a), page = gii_sheet_page_bytes(&a);
-    struct lent fits, stray, ones, ones_stray, erased, blank;
+    struct lent fits, stray, ones, ones_stray, erased, blank, cut;
     int call;
 
     memset(&fits, 0x35, sizeof fits);
@@ -505,12 +575,18 @@ static void refusals(void)
     memset(&erased, 0xFF, sizeof erased);
     blank = erased;
     blank.page[page / a.m - 1] = blank.page[page - 1] = 0x7F;
+    cut = fits;
+    memset(cut.page, 0, page);
+    cut.page[0] = 0xC0;
 
     printf("refusals\n");
-    for (call = WRITE; call <= ALTER; call++) {
+    for (call = WRITE; call <= MEND; call++) {
         enum call c = (enum call)call;
         uint32_t number = c == WRITE || c == WRITE_MANY ? 8 : 0;
         size_t list = c == WRITE_MANY ? 1 : c == QUOTE ? GII_QUOTE_BYTES : GII_LIST_BYTES(c == SYNDROMES ? a.t[0] : a.t[1]);
+
+        if (c == MEND)
+            list = GII_PLACES_BYTES(a.t[0]);
 
         refused(c, &field, number, data, page, list, &fits, GII_FIELD, "q 5");
         refused(c, &shape, number, data, page, list, &fits, GII_SHAPE, "m 1");
@@ -546,12 +622,12 @@ static void refusals(void)
         }
         if (c != QUOTE && c != WRITE_MANY)
             refused(c, &a, number, data, page, list, &stray, GII_STRAY, "a stray bit");
-        if (c == SYNDROMES || c == NESTED_SYNDROMES) {
-            refused(c, &a, c == SYNDROMES ? a.m : a.v, data, page, list, &fits, GII_INDEX, "no such word");
+        if (c == SYNDROMES || c == NESTED_SYNDROMES || c == MEND) {
+            refused(c, &a, c == NESTED_SYNDROMES ? a.v : a.m, data, page, list, &fits, GII_INDEX, "no such word");
             refused(c, &a, UINT32_MAX, data, page, 0, &stray, GII_STRAY, "stray, index and list");
             refused(c, &a, 0, data, page, list, &erased, GII_STRAY, "an erased page");
         }
-        if (c == SYNDROMES || c == NESTED_SYNDROMES || c == QUOTE) {
+        if (c == SYNDROMES || c == NESTED_SYNDROMES || c == QUOTE || c == MEND) {
             refused(c, &a, 0, data, page, list - 1, &fits, GII_LIST, "a byte of list less");
             refused(c, &a, 0, data, page, list + 1, &fits, GII_LIST, "a byte of list more");
             refused(c, &a, 0, data, page, list / 2, &fits, GII_LIST, "half a list");
@@ -596,6 +672,10 @@ static void refusals(void)
     value = UINT32_MAX;
     refused(ALTER, &a, 1, 0, page, 0, &fits, GII_INDEX, "value 4294967295");
 
+    refused(MEND, &shorter, 0, 0, page, GII_PLACES_BYTES(a.t[0]), &cut, GII_UNMENDED, "s 5, a multiple cut short");
+    refused(MEND, &shorter, 0, 0, page, GII_LIST_BYTES(a.t[0]), &cut, GII_LIST, "the same, and a list as long as syndromes");
+    refused(MEND, &shorter, UINT32_MAX, 0, page, 0, &cut, GII_INDEX, "the same, list and index 4294967295");
+
     without_sizes(&field, "q 5");
     without_sizes(&shape, "m 1");
     without_sizes(&strengths, "t 2, 2");
@@ -616,8 +696,9 @@ static void header(void)
     must(strcmp(version, GII_BCH_VERSION) == 0, "version " GII_BCH_VERSION);
     must(gii_sheet_page_bytes(&most) == GII_PAGE_MAX && gii_sheet_data_bytes(&most) == GII_BLOCKS_MAX, "the most bytes");
     must(GII_LIST_BYTES(64) == GII_LIST_MAX, "the longest list");
+    must(GII_PLACES_BYTES(63) == GII_PLACES_MAX, "the most places");
     must(GII_COUNT_MAX == 16, "the most pages of one call");
-    must(GII_IS_REFUSAL(GII_FIELD) && GII_IS_REFUSAL(GII_SHORTENING), "refusals");
+    must(GII_IS_REFUSAL(GII_FIELD) && GII_IS_REFUSAL(GII_SHORTENING) && GII_IS_REFUSAL(GII_UNMENDED), "refusals");
     must(!GII_IS_REFUSAL(GII_DONE) && !GII_IS_REFUSAL(GII_SUB_WORD) && !GII_IS_REFUSAL(GII_BLANK) && !GII_IS_REFUSAL(UINT32_MAX),
          "no refusals");
 }
@@ -643,6 +724,7 @@ int main(void)
         erased_page(&sheets[k]);
         many_pages(&sheets[k]);
         altered_bit(&sheets[k]);
+        mended_sub_words(&sheets[k]);
     }
     refusals();
     printf("all as expected\n");

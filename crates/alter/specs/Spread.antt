@@ -5,16 +5,16 @@
 use mathlib.Core.Path.{_≡_, refl, sym, ap, ap₂, _∙_}
 use mathlib.Core.Logic.{_≢_, _⊎_, inl, inr}
 use mathlib.Core.List.{List}
-use Prim.Native.Nat.{ℕ, suc, _+_, _-_, _*_, _/_, _^_, _≤_, _<_}
+use Prim.Native.Nat.{ℕ, _+_, _-_, _*_, _/_, _^_, _≤_, _<_}
 use native.Mathlib.Nat as Nat
-use native.Mathlib.Decide.{decLe, ℕ-discrete}
+use native.Mathlib.Decide.{ℕ-discrete}
 use native.Mathlib.Omega.{arith}
 use lib.Dec.{T}
-use lib.ListN.{length, getD, take, drop}
+use lib.ListN.{length, getD}
 use lib.Pow.{pow-lt, pow-mono}
-use Rattle.polynomial.specs.Digits.{digits, digits-value, length-digits, value, value-digits}
+use Rattle.polynomial.specs.Digits.{digits, value, value-digits}
 use Rattle.polynomial.specs.Division.{xor-lt}
-use Rattle.polynomial.specs.Sums.{add, add-at, at-all}
+use Rattle.polynomial.specs.Sums.{add, add-at}
 use Rattle.polynomial.specs.Xor.{xor, xor-zero-l, xors}
 use Rattle.code.specs.declared.Parameters.{Parameters}
 use Rattle.code.specs.Accepted.{accepted, stored-room}
@@ -24,7 +24,7 @@ use Rattle.code.specs.Pages.{join-words, page-length, sum-is-page, sum-words, w
 use Rattle.code.specs.Lists.{part}
 use Rattle.code.specs.Parameters.{Accepted, stored, subWordBytes}
 use Rattle.code.specs.Placement.{data-room, single-at, single-else, word-at}
-use Rattle.layout.specs.Parts.{page-parts, word-room}
+use Rattle.layout.specs.Parts.{page-parts}
 use Rattle.layout.specs.SubWords as S
 use Rattle.layout.specs.Written.{written, written-here, written-length, written-there}
 use Rattle.alter.specs.Short.{below, below-lt, data-below, dataBelow, place, shortest, shortest-accepted, shortest-stored, shortest-words, unit-split}

@@ -4,15 +4,13 @@
 use mathlib.Core.Path.{_≡_, refl, sym, ap, ap₂, _∙_}
 use mathlib.Core.Logic.{_≢_, _⊎_, inl, inr}
 use mathlib.Core.List.{List, _∷_}
-use Prim.Native.Nat.{ℕ, zero, suc, _+_, _-_, _*_, _/_, _%_, _^_, _≤_, _<_, min, zero-le, suc-le-suc}
+use Prim.Native.Nat.{ℕ, zero, suc, _+_, _-_, _*_, _/_, _%_, _^_, _≤_, _<_, min}
 use native.Mathlib.Nat as Nat
 use native.Mathlib.Decide.{decLe, ℕ-discrete}
 use native.Mathlib.Omega.{arith}
 use lib.ListN.{length, getD, take, drop, replicate, length-take, length-replicate}
-use lib.Pow.{pow-add, pow-lt}
 use lib.Seq.{take-all}
 use Rattle.polynomial.specs.Digits.{digits, length-digits, value}
-use Rattle.polynomial.specs.Xor.{xor}
 use Rattle.code.specs.declared.Parameters.{Parameters}
 use Rattle.code.specs.Accepted.{accepted}
 use Rattle.code.specs.Alter.{alone, alone-own, alone-zero, block-fits, block-has}
@@ -23,7 +21,7 @@ use Rattle.code.specs.Parameters.{Accepted, subWordBytes}
 use Rattle.code.specs.Placement.{single-else}
 use Rattle.layout.specs.Parts.{word-room}
 use Rattle.layout.specs.Replaced.{replaced, replaced-after, replaced-before, replaced-length, replaced-part}
-use Rattle.layout.specs.Sizes.{Degrees, shifted, word-high}
+use Rattle.layout.specs.Sizes.{Degrees, word-high}
 use Rattle.encode.specs.Carried.{roomBytes, zero-value}
 use Rattle.layout.specs.Written.{written}
 use Rattle.encode.specs.Encoding.{wordAlone, wordFrom}

@@ -7,21 +7,21 @@ use mathlib.Core.Path.{_≡_, refl, sym, ap, ap₂, _∙_}
 use mathlib.Core.Logic.{_≢_, _⊎_, inl, inr}
 use mathlib.Core.Bool.{Bool, true, false, not, _&&_, _||_, cond}
 use mathlib.Core.List.{List, [], _∷_}
-use Prim.Native.Nat.{ℕ, zero, suc, _+_, _-_, _*_, _/_, _%_, _^_, _≤_, _<_, min, zero-le, suc-le-suc}
+use Prim.Native.Nat.{ℕ, zero, suc, _+_, _-_, _*_, _/_, _%_, _^_, _≤_, _<_, zero-le, suc-le-suc}
 use native.Mathlib.Nat as Nat
 use native.Mathlib.Decide.{decLe, ℕ-discrete}
 use native.Mathlib.Omega.{arith}
 use lib.Bits.{xor-shifted}
 use lib.Dec.{T, eqb, leb, ltb, eqb→eq, eqb-refl, leb→le, ltb→lt, lt→ltb, nleb→lt, nltb→le, lit≤, lit<, not-T}
-use lib.ListN.{length, getD, take, drop, length-take, length-drop}
-use lib.Pow.{pow-add, pow-lt, pow-mono, pow-pos}
+use lib.ListN.{length, getD, take, drop}
+use lib.Pow.{pow-add, pow-lt, pow-pos}
 use Rattle.polynomial.specs.Bits.{coefficient}
 use Rattle.polynomial.specs.Coefficients.{beyond, coefficient-xor, pow-bit, pow-bits}
-use Rattle.polynomial.specs.Digits.{digits, digits-value, value}
-use Rattle.polynomial.specs.Division.{rem-lt, rem-zero, xor-lt}
-use Rattle.polynomial.specs.Sums.{All, add, add-at, all-at, all-drop, all-take}
-use Rattle.polynomial.specs.Xor.{bit-ind, dbl-half, dbl-odd, xor, xor-cancel, xor-is, xor-self, xor-zero-l, xor-zero-r}
-use Rattle.field.specs.Bch.{weight, weight-eq, weight-zero}
+use Rattle.polynomial.specs.Digits.{value}
+use Rattle.polynomial.specs.Division.{rem-lt, rem-zero}
+use Rattle.polynomial.specs.Sums.{All, add, add-at, all-at}
+use Rattle.polynomial.specs.Xor.{bit-ind, xor, xor-cancel, xor-is, xor-self, xor-zero-l, xor-zero-r}
+use Rattle.field.specs.Bch.{weight, weight-zero}
 use Rattle.field.specs.Fields.{fieldOf}
 use Rattle.field.specs.Flips.{weight-pow, weight-xor}
 use Rattle.code.specs.declared.Parameters.{Parameters}
@@ -31,12 +31,12 @@ use Rattle.code.specs.Chains.{either, exact-none, exact-of, given, last,
 use Rattle.code.specs.Code.{carried, checkBits, checked, degree, distance, encode, encodeFrom, gen, level, remainder}
 use Rattle.code.specs.Distance.{nonzeros, pageWeight, weight-member}
 use Rattle.code.specs.Encode.{encode-member}
-use Rattle.code.specs.Layout.{Bytes, Fits, IsPage, altered, bitFrom, blank, blockBit, blockOffset, blockSizes, blocksOf}
+use Rattle.code.specs.Layout.{Fits, IsPage, altered, bitFrom, blank, blockBit, blockOffset, blockSizes, blocksOf}
 use Rattle.code.specs.Layout.{coefficientOf, dataBits, oneBit, oneBlock, pageBytes, pageClear, pageOf, single, wordsOf}
 use Rattle.code.specs.Lists.{_orElse_, _when_, addBelow, join, lastRefusal}
 use Rattle.code.specs.Pages.{IsWords, page-has, page-is, page-words, sum-fits, sum-is-page, sum-page, sum-words, words-many}
 use Rattle.code.specs.Parameters.{Accepted, len, sheetRefusal, stored, subWordBytes}
-use Rattle.code.specs.Placement.{any-fit, any-has, block-bit, blocks-same, encode-at, single-at, single-each, single-else, same-part, single-long, word-at, written-bit}
+use Rattle.code.specs.Placement.{any-fit, any-has, block-bit, blocks-same, encode-at, single-at, single-each, single-else, same-part, single-long, written-bit}
 use Rattle.code.specs.Places.{addBelow-front, addBelow-suc, addBelow-zero, all-higher, differing, ones-weight, pages-differ}
 use Rattle.code.specs.Refusals.{alterRefusal, noBit, notExact, pageRefusal}
 use Rattle.code.specs.Refused.{page-le, page-links}

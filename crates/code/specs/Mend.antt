@@ -3,26 +3,26 @@
 --   Mendable p x i k t   what mend does not refuse, but for 15: k is the length of the list, t what it is to be
 use mathlib.Core.Path.{_≡_, refl, sym, ap, ap₂, _∙_}
 use mathlib.Core.Logic.{_≢_, _↔_, _⊎_, inl, inr}
-use mathlib.Core.Bool.{Bool, true, false, not, cond}
+use mathlib.Core.Bool.{Bool, true, false, not}
 use mathlib.Core.List.{List, [], _∷_, _++_}
 use mathlib.Core.Option.{Option, none, some}
 use Prim.Native.Nat.{ℕ, zero, suc, _+_, _-_, _*_, _^_, _≤_, _<_, zero-le, suc-le-suc}
 use native.Mathlib.Nat as Nat
 use native.Mathlib.Decide.{ℕ-discrete}
 use native.Mathlib.Omega.{arith}
-use lib.Dec.{T, eqb, eqb→eq, leb, leb→le, lit≤, lit<, nleb→lt, not-T}
+use lib.Dec.{T, eqb→eq, leb, leb→le, lit≤, lit<, nleb→lt, not-T}
 use lib.ListN.{length, getD, set, replicate, List·getD-append, getD-replicate, length-append, length-replicate, length-set}
 use lib.Pow.{pow-mono}
 use lib.Seq.{ext-getD, getD-append-add, getD-set-other, getD-set-same}
 use Rattle.polynomial.specs.Division.{xor-lt}
 use Rattle.polynomial.specs.Multiple.{Multiple}
 use Rattle.polynomial.specs.Sums.{at-all}
-use Rattle.polynomial.specs.Xor.{xor, xors, xor-cancel, xor-eq-zero, xor-self, xor-zero-r}
+use Rattle.polynomial.specs.Xor.{xor, xors, xor-cancel, xor-eq-zero, xor-zero-r}
 use Rattle.field.specs.Bch.{bch, weight}
 use Rattle.field.specs.Eval.{eval, eval-xor}
 use Rattle.field.specs.Field.{pow, add-self}
 use Rattle.field.specs.Fields.{fieldOf}
-use Rattle.field.specs.Flips.{Rising, flips, flips-cons, flips-inj, flips-lt, flips-nil, flips-ones, length-ones, ones, ones-flips, ones-rising, rising-up, weight-flips, weight-xor}
+use Rattle.field.specs.Flips.{Rising, flips, flips-cons, flips-inj, flips-lt, flips-nil, flips-ones, length-ones, ones, ones-rising, rising-up, weight-flips, weight-xor}
 use Rattle.code.specs.declared.Parameters.{Parameters}
 use Rattle.code.specs.Accepted.{Rules, lawful, stored-le}
 use Rattle.code.specs.Chains.{exact-none, exact-of, given, last, off, off′, or-assoc, or-le, or-none, or-second, past, unless, when-le}

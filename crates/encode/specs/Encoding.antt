@@ -26,7 +26,6 @@ use Rattle.code.specs.Parameters.{Accepted, subWordBytes}
 use Rattle.code.specs.Placement.{sized-at}
 use Rattle.code.specs.Steps.{checked-eq}
 use Rattle.layout.specs.Parts.{block-at}
-use Rattle.layout.specs.Replaced.{replaced}
 use Rattle.layout.specs.Sizes.{Degrees, bits-all, check-below, level-low}
 use Rattle.encode.specs.Carried.{roomBytes}
 use Rattle.encode.specs.Rule.{carried-late, placed-room}

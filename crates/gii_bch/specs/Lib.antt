@@ -2,5 +2,6 @@
 pub mod Number
 pub mod List
 pub mod Syndromes
+pub mod Mending
 pub mod Sizes
 pub mod Quote

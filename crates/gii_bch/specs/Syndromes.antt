@@ -47,9 +47,9 @@ abbrev pub ListMadeC : Bool → Parameters → List ℕ → ℕ → List ℕ →
 ListMadeC nested p x i out after n = MadeC (listRefusal 2 nested p x i (length out)) (asBytes (listOf nested p x i)) out after n
 
 -- ---- how many there are
-record Many (e : ℕ) : Type 0 where
-  low : 0 < e
-  high : e ≤ 128
+pub record Many (e : ℕ) : Type 0 where
+  pub low : 0 < e
+  pub high : e ≤ 128
 
 level-many : (p : Parameters) → Accepted p → (a : ℕ) → a ≤ p .v → Many (2 * strength p a)
 level-many p A a h =
@@ -65,7 +65,7 @@ level-le false p i = zero-le
 
 -- ---- the refusal of e numbers by the length of a list is the refusal by the length of its bytes
 module _ (p : Parameters) (x : List ℕ) (i words e : ℕ) (E : Accepted p → Many e) where
-  list-alike : (k : ℕ) → wordRefusal p x i words (numbersIn k) (1 * e) ≡ wordRefusal p x i words k (2 * e)
+  pub list-alike : (k : ℕ) → wordRefusal p x i words (numbersIn k) (1 * e) ≡ wordRefusal p x i words k (2 * e)
   unfolding wordRefusal
   list-alike k = go (Nat.eq-zero-or-pos (pageRefusal p x))
     where
@@ -80,7 +80,7 @@ module _ (p : Parameters) (x : List ℕ) (i words e : ℕ) (E : Accepted p → M
           sym (word-page p x i words (numbersIn k) (1 * e) (pageRefusal p x) refl f)
           ∙ word-page p x i words k (2 * e) (pageRefusal p x) refl f
 
-leaves-alike : (r : ℕ) (xs ys zs old : List ℕ) → xs ≡ leaves r ys zs → leaves r (asBytes xs) old ≡ leaves r (asBytes ys) old
+pub leaves-alike : (r : ℕ) (xs ys zs old : List ℕ) → xs ≡ leaves r ys zs → leaves r (asBytes xs) old ≡ leaves r (asBytes ys) old
 leaves-alike zero xs ys zs old e = ap asBytes e
 leaves-alike (suc r) xs ys zs old e = refl
 

@@ -1,17 +1,19 @@
 // The C calls: the numbers of a sheet one by one, buffers as byte slices, the answer as a number. Each tests everything.
-ghost use Rattle.code.specs.Calls.{AlteredC, WrittenC, WrittenManyC, JudgedC, ReadOutC, SyndromesMadeC, NestedSyndromesMadeC, QuoteMadeC, SizeC};
+ghost use Rattle.code.specs.Calls.{AlteredC, MendedC, WrittenC, WrittenManyC, JudgedC, ReadOutC, SyndromesMadeC, NestedSyndromesMadeC, QuoteMadeC, SizeC};
 ghost use Rattle.code.specs.Code.{distance};
 ghost use Rattle.code.specs.Layout.{dataBytes, pageBytes};
 ghost use Rattle.code.specs.Parameters.{sheet};
 use crate::answers::outcome_number;
 use crate::answers::size_number;
 use crate::answers::verdict_number;
+use crate::mending::mend_bytes;
 use crate::quote::quote_bytes;
 use crate::syndromes::syndrome_bytes;
 use code::Parameters;
 
 mod answers; // answers as numbers
 mod list; // 16-bit numbers in bytes
+mod mending; // places in bytes
 mod quote; // the quote in bytes
 mod syndromes; // syndromes in bytes
 
@@ -110,6 +112,37 @@ pub extern "C" fn gii_alter(
     };
     let r = alter::alter(p, page, block, bit, value);
     outcome_number(r)
+}
+
+// Sub-word `index` of the page mended, the flipped places in `places` and their number in `flips`.
+#[no_mangle]
+pub extern "C" fn gii_mend(
+    q: u32,
+    m: u32,
+    v: u32,
+    t0: u32,
+    t1: u32,
+    t2: u32,
+    t3: u32,
+    s: u32,
+    page: &mut [u8],
+    index: u32,
+    places: &mut [u8],
+    flips: &mut u8,
+) -> u32
+    ensures { λ r. ⌜ MendedC (sheet q m v t0 t1 t2 t3 s) (now (page .entry)) (now (page .exit)) index (now (places .entry)) (now (places .exit)) (now (flips .entry)) (now (flips .exit)) r ⌝ }
+{
+    let p = Parameters {
+        q,
+        m,
+        v,
+        t0,
+        t1,
+        t2,
+        t3,
+        s,
+    };
+    mend_bytes(p, page, index as usize, places, flips)
 }
 
 // Is the page a member, and if not, which word fails first?

@@ -74,4 +74,3 @@ bit-set r v x y e f =
     let s : r % 8 + 8 * (r / 8) ≡ r = omega arith in
     f ∙ ap (xor x) (ap (λ (c : ℕ). c * 2 ^ (8 * (r / 8))) (e ∙ shifted (r % 8) (omega arith))
     ∙ sym (pow-add 2 (r % 8) (8 * (r / 8))) ∙ ap (λ (k : ℕ). 2 ^ k) s)
-

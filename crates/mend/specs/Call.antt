@@ -1,6 +1,5 @@
 -- What the call answers, and what it leaves.
 use mathlib.Core.Path.{_≡_, refl, sym, ap, ap₂, _∙_}
-use mathlib.Core.Logic.{_≢_}
 use mathlib.Core.List.{List, [], _∷_}
 use mathlib.Core.Option.{Option, none, some}
 use Prim.Native.Nat.{ℕ, _+_, _*_, _^_, _≤_, _<_, suc-le-suc, zero-le}
@@ -11,7 +10,7 @@ use lib.Dec.{leb}
 use borrow.Author.Tests.{le-leb, lt-leb}
 use lib.ListN.{length, getD, take, drop, length-drop, length-take}
 use lib.Seq.{getD-take}
-use Rattle.polynomial.specs.Digits.{digits, digits-value, value}
+use Rattle.polynomial.specs.Digits.{digits, digits-value}
 use Rattle.polynomial.specs.Sums.{all-drop, all-take}
 use Rattle.polynomial.specs.Xor.{xor}
 use Rattle.field.specs.Flips.{Rising, flips}
@@ -24,9 +23,9 @@ use Rattle.code.specs.Calls.{Mended, mendingPlaces, placesOf}
 use Rattle.code.specs.Chains.{or-first}
 use Rattle.code.specs.Code.{Flips, nearest}
 use Rattle.code.specs.Layout.{IsPage, flipped, mending, placeList, wordsOf}
-use Rattle.code.specs.Lists.{_orElse_, _when_, part}
+use Rattle.code.specs.Lists.{_when_, part}
 use Rattle.code.specs.Mend.{flipped-else, flipped-here, flipped-page, mend-chain, mend-le, mend-left, mending-eq, nearest-sound}
-use Rattle.code.specs.Pages.{join-words, word-lt, words-many}
+use Rattle.code.specs.Pages.{join-words, words-many}
 use Rattle.code.specs.Parameters.{Accepted, stored, strength, subWordBytes}
 use Rattle.code.specs.Placement.{word-at}
 use Rattle.code.specs.Refusals.{mendRefusal, nowhere, wordRefusal}
@@ -114,8 +113,7 @@ module _ (p : Parameters) (x : List ℕ) (i : ℕ) (l : List ℕ) (n : ℕ) wher
     mend-made Q after listed counted e a b c =
         let m : mending p x i ≡ some Q = mending-eq p x i ∙ e in
         let f : refusal ≡ 0 = left ∙ ap (λ (o : Option (List ℕ)). 15 when nowhere o) m in
-        let t : placesOf p x i ≡ Q = ap mendingPlaces m in
-        (
+        let t : placesOf p x i ≡ Q = ap mendingPlaces m in (
           made-done refusal _ x after f (a ∙ ap (flipped p x i) (sym t)),
           made-done refusal _ l listed f (b ∙ ap (placeList (strength p 0)) (sym t)),
           made-done refusal _ (n ∷ []) (counted ∷ []) f (ap (λ (k : ℕ). k ∷ []) (c ∙ ap length (sym t))),

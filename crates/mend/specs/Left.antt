@@ -3,10 +3,10 @@
 --   Flipping s l j y    y is s with the first j places of l flipped
 --   Listing a l c j b   the first j entries of b, as long as a, are those of the list to leave
 use mathlib.Core.Path.{_≡_, refl, sym, ap, _∙_}
-use mathlib.Core.Bool.{Bool, true, false, cond}
+use mathlib.Core.Bool.{cond}
 use mathlib.Core.Logic.{_⊎_, inl, inr}
 use mathlib.Core.List.{List}
-use Prim.Native.Nat.{ℕ, suc, _+_, _*_, _^_, _≤_, _<_, zero-le}
+use Prim.Native.Nat.{ℕ, suc, _+_, _^_, _≤_, _<_}
 use native.Mathlib.Nat as Nat
 use native.Mathlib.Decide.{decLe}
 use native.Mathlib.Numerals.{add-one}
@@ -16,7 +16,7 @@ use borrow.Author.Tests.{lt-ltb, le-ltb}
 use lib.ListN.{length, getD, set, take, length-set, length-take}
 use lib.Seq.{ext-getD, getD-set-other, getD-set-same, getD-take}
 use Rattle.polynomial.specs.Digits.{value}
-use Rattle.polynomial.specs.Xor.{xor, xors, xor-zero-r}
+use Rattle.polynomial.specs.Xor.{xor, xor-assoc, xor-zero-r}
 use Rattle.field.specs.Flips.{flips, flips-nil, flips-take}
 use Rattle.code.specs.Layout.{noPlace, placeList}
 use Rattle.code.specs.Mend.{places-front, places-long, places-rest}
@@ -42,12 +42,9 @@ pub flip-next : (s l y z : List ℕ) (j : ℕ) → Flipping s l j y → j < leng
     → Flipping s l (j + 1) z
 flip-next s l y z j F h e v = record {
   size = e ∙ F .size;
-  made = v ∙ ap (λ (c : ℕ). xor c (2 ^ getD l j 0)) (F .made) ∙ over (value 8 s) (flips (take j l)) (2 ^ getD l j 0)
+  made = v ∙ ap (λ (c : ℕ). xor c (2 ^ getD l j 0)) (F .made) ∙ xor-assoc (value 8 s) (flips (take j l)) (2 ^ getD l j 0)
       ∙ ap (xor (value 8 s)) (sym (flips-take l j h) ∙ ap (λ (k : ℕ). flips (take k l)) (sym (add-one j)));
 }
-  where
-    over : (a b c : ℕ) → xor (xor a b) c ≡ xor a (xor b c)
-    over a b c = simp xors
 
 -- ---- the list
 pub record Listing (a l : List ℕ) (c j : ℕ) (b : List ℕ) : Type 0 where

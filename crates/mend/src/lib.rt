@@ -164,13 +164,7 @@ fn mend_word(
 
 // Sub-word i with its flips undone, the flipped places rising in the list, which has t_0 numbers, and 65535 after them, and their number in
 // `flips`. 15 where no multiple of g_0, 0 in its top s places, is within t_0 flips: then nothing changes.
-pub fn mend(
-    p: Parameters,
-    page: &mut [u8],
-    i: usize,
-    places: &mut [u16],
-    flips: &mut u8,
-) -> Outcome
+pub fn mend(p: Parameters, page: &mut [u8], i: usize, places: &mut [u16], flips: &mut u8) -> Outcome
     ensures { λ o. ⌜ Mended p (now (page .entry)) (now (page .exit)) i (now (places .entry)) (now (places .exit)) (now (flips .entry)) (now (flips .exit)) o ⌝ }
 {
     let t = sheet::strength_at(p, 0) as usize;

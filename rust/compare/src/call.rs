@@ -8,6 +8,7 @@ pub enum Name {
     Write,
     WriteMany,
     Alter,
+    Mend,
     ReadOut,
     Judge,
     Syndromes,
@@ -18,10 +19,11 @@ pub enum Name {
     Distance,
 }
 
-pub const NAMES: [Name; 11] = [
+pub const NAMES: [Name; 12] = [
     Name::Write,
     Name::WriteMany,
     Name::Alter,
+    Name::Mend,
     Name::ReadOut,
     Name::Judge,
     Name::Syndromes,
@@ -43,14 +45,24 @@ impl Name {
         self != Name::Quote && !self.is_size()
     }
 
-    /// Whether the call is given bytes that are only read: all but alter, the quote and the sizes.
+    /// Whether the call reads the page that it is lent, and gives it back changed: alter and mend.
+    pub fn changes_page(self) -> bool {
+        matches!(self, Name::Alter | Name::Mend)
+    }
+
+    /// Whether the call is given bytes that are only read: all but alter, mend, the quote and the sizes.
     pub fn reads(self) -> bool {
-        self != Name::Alter && self.has_page()
+        self.has_page() && !self.changes_page()
     }
 
     /// Whether the call is lent bytes to write: all but judge and the sizes.
     pub fn writes(self) -> bool {
         self != Name::Judge && !self.is_size()
+    }
+
+    /// Whether the call is lent a list beside the page or the pages: write many and mend.
+    pub fn lists(self) -> bool {
+        matches!(self, Name::WriteMany | Name::Mend)
     }
 
     /// The number that a call gives where a condition is the first that it meets: the condition's, and no size.
@@ -68,26 +80,43 @@ impl Name {
 pub struct Call {
     pub name: Name,
     pub p: Parameters,
-    /// The width of write and of write many, the block of alter, the index of syndromes; of no meaning to the others.
+    /// The width of write and of write many, the block of alter, the index of mend and of syndromes; of no meaning to the
+    /// others.
     pub number: u32,
     /// The pages of write many; of no meaning to the others.
     pub count: u32,
     /// The bit and the value of alter; of no meaning to the others.
     pub bit: u32,
     pub value: u32,
-    /// The bytes that are only read: the blocks of write and of write many, else the page; none for alter, the quote and the
-    /// sizes.
+    /// The bytes that are only read: the blocks of write and of write many, else the page; none for alter, mend, the quote
+    /// and the sizes.
     pub read: Vec<u8>,
-    /// The bytes lent to be written: page or pages, blocks or list; none for judge and the sizes. Alter reads its page first.
+    /// The bytes lent to be written: page or pages, blocks or list; none for judge and the sizes. Alter and mend read their
+    /// page first.
     pub lent: Vec<u8>,
-    /// The list of write many, lent beside the pages; none for the others.
+    /// The list of write many, or the places of mend, lent beside the pages or the page; none for the others.
     pub list: Vec<u8>,
+    /// The byte for the number of flips of mend; of no meaning to the others.
+    pub flips: u8,
 }
 
+/// What a call gives: its number, and what the lent buffers hold afterwards.
+#[derive(Clone, Debug, PartialEq, Eq)]
+pub struct Outcome {
+    pub number: u32,
+    pub lent: Vec<u8>,
+    pub list: Vec<u8>,
+    pub flips: u8,
+}
+
+/// The archive or the reference, to which a call is made on buffers in place of its own: `Call::by_archive`,
+/// `Call::by_reference`.
+pub type Side = fn(&Call, &[u8], &mut [u8], &mut [u8], &mut u8) -> u32;
+
 impl Call {
-    /// A call with one lent buffer and one number at most: any but write many and alter.
+    /// A call with one lent buffer and one number at most: any but write many, alter and mend.
     pub fn new(name: Name, p: &Parameters, number: u32, read: Vec<u8>, lent: Vec<u8>) -> Call {
-        Call { name, p: *p, number, count: 0, bit: 0, value: 0, read, lent, list: Vec::new() }
+        Call { name, p: *p, number, count: 0, bit: 0, value: 0, read, lent, list: Vec::new(), flips: 0 }
     }
 
     /// A call of alter.
@@ -95,13 +124,32 @@ impl Call {
         Call { bit, value, ..Call::new(Name::Alter, p, block, Vec::new(), page) }
     }
 
+    /// A call of mend.
+    pub fn mend(p: &Parameters, page: Vec<u8>, index: u32, places: Vec<u8>, flips: u8) -> Call {
+        Call { list: places, flips, ..Call::new(Name::Mend, p, index, Vec::new(), page) }
+    }
+
+    /// What the call gives where it is refused by this number: every byte stays.
+    pub fn refused(&self, number: u32) -> Outcome {
+        Outcome { number, lent: self.lent.clone(), list: self.list.clone(), flips: self.flips }
+    }
+
+    /// What the call gives, made to one side.
+    pub fn outcome(&self, side: Side) -> Outcome {
+        let mut outcome = self.refused(0);
+        let Outcome { lent, list, flips, .. } = &mut outcome;
+        outcome.number = side(self, &self.read, lent, list, flips);
+        outcome
+    }
+
     /// The call made to the reference, on buffers in place of the call's own.
-    pub fn by_reference(&self, read: &[u8], lent: &mut [u8], list: &mut [u8]) -> u32 {
+    pub fn by_reference(&self, read: &[u8], lent: &mut [u8], list: &mut [u8], flips: &mut u8) -> u32 {
         let Call { name, p, number, count, bit, value, .. } = self;
         match name {
             Name::Write => calls::write(p, *number, read, lent),
             Name::WriteMany => calls::write_many(p, *number, *count, read, lent, list),
             Name::Alter => calls::alter(p, lent, *number, *bit, *value),
+            Name::Mend => calls::mend(p, lent, *number, list, flips),
             Name::ReadOut => calls::read_out(p, read, lent),
             Name::Judge => calls::judge(p, read),
             Name::Syndromes => calls::syndromes(p, read, *number, lent),
@@ -114,7 +162,7 @@ impl Call {
     }
 
     /// The call made to the archive, likewise.
-    pub fn by_archive(&self, read: &[u8], lent: &mut [u8], list: &mut [u8]) -> u32 {
+    pub fn by_archive(&self, read: &[u8], lent: &mut [u8], list: &mut [u8], flips: &mut u8) -> u32 {
         let Call { name, p, number, count, bit, value, .. } = self;
         let sheet = sheet(p);
         let done = |()| Verdict::Member;
@@ -124,6 +172,7 @@ impl Call {
             Name::Write => answer(sheet.write(*number, read, lent).map(done)),
             Name::WriteMany => answer(sheet.write_many(*number, *count, read, lent, list).map(done)),
             Name::Alter => answer(sheet.alter(lent, *number, *bit, *value).map(done)),
+            Name::Mend => answer(sheet.mend(lent, *number, list, flips).map(done)),
             Name::ReadOut => answer(sheet.read_out(read, lent)),
             Name::Judge => answer(sheet.judge(read)),
             Name::Syndromes => answer(sheet.syndromes(read, *number, lent).map(done)),
@@ -135,31 +184,32 @@ impl Call {
         }
     }
 
-    /// The number, the lent bytes and the list on which both sides agree, or how they part. `shift` moves the buffers in
-    /// memory.
-    pub fn compare(&self, shift: usize) -> Result<(u32, Vec<u8>, Vec<u8>), String> {
-        let (mut expected, mut listed) = (self.lent.clone(), self.list.clone());
-        let number = self.by_reference(&self.read, &mut expected, &mut listed);
-
+    /// The outcome on which both sides agree, or how they part. `shift` moves the buffers in memory.
+    pub fn compare(&self, shift: usize) -> Result<Outcome, String> {
+        let expected = self.outcome(Call::by_reference);
         let mut read = Guarded::new(&self.read, shift % 16);
         let mut lent = Guarded::new(&self.lent, shift / 16 % 16);
         let mut list = Guarded::new(&self.list, (shift / 16 + shift) % 16);
-        let answer = self.by_archive(read.inner(), lent.inner(), list.inner());
+        let mut flips = Guarded::new(&[self.flips], (shift / 16 + 2 * shift) % 16);
+        let answer = self.by_archive(read.inner(), lent.inner(), list.inner(), &mut flips.inner()[0]);
 
-        let found = if !read.whole() || !lent.whole() || !list.whole() {
+        let found = if !(read.whole() && lent.whole() && list.whole() && flips.whole()) {
             "writes beside its buffer".to_string()
         } else if read.inner() != self.read {
             "alters the bytes that it reads".to_string()
-        } else if answer != number {
-            format!("gives {answer}, the reference {number}")
-        } else if let Some(k) = differ(lent.inner(), &expected) {
-            let (is, was, to_be) = (lent.inner()[k], self.lent[k], expected[k]);
+        } else if answer != expected.number {
+            format!("gives {answer}, the reference {}", expected.number)
+        } else if let Some(k) = differ(lent.inner(), &expected.lent) {
+            let (is, was, to_be) = (lent.inner()[k], self.lent[k], expected.lent[k]);
             format!("answers {answer}, byte {k} is {is:02X}, was {was:02X}, is to be {to_be:02X}")
-        } else if let Some(k) = differ(list.inner(), &listed) {
-            let (is, was, to_be) = (list.inner()[k], self.list[k], listed[k]);
-            format!("answers {answer}, page {k} is listed by {is}, where {was} was, and is to be by {to_be}")
+        } else if let Some(k) = differ(list.inner(), &expected.list) {
+            let (is, was, to_be) = (list.inner()[k], self.list[k], expected.list[k]);
+            format!("answers {answer}, byte {k} of the list is {is}, was {was}, is to be {to_be}")
+        } else if flips.inner() != [expected.flips] {
+            let (is, was, to_be) = (flips.inner()[0], self.flips, expected.flips);
+            format!("answers {answer}, flips are {is}, were {was}, are to be {to_be}")
         } else {
-            return Ok((number, expected, listed));
+            return Ok(expected);
         };
         let Call { name, p, number, count, bit, value, .. } = self;
         let (read, lent, list) = (shown(&self.read), shown(&self.lent), shown(&self.list));

@@ -1,11 +1,11 @@
 //! Calls drawn from a seed: exact ones, and ones that are spoiled in a known way or in any way.
 
-use crate::call::{Call, NAMES, Name};
-use reference::Parameters;
+use crate::call::{Call, NAMES, Name, Outcome};
 use reference::calls::{BLANK, MOST_PAGES, QUOTE_BYTES};
 use reference::layout::{add, bit, flip, set};
 use reference::parameters::Sheet;
 use reference::sample::Random;
+use reference::{Parameters, linear};
 use std::collections::BTreeSet;
 use std::io::Write;
 use std::iter::repeat_with;
@@ -36,8 +36,8 @@ pub fn say(line: &str) {
     writeln!(std::io::stderr(), "{line}").unwrap();
 }
 
-/// The number, the lent bytes and the list of a call, on which archive and reference agree; the buffers anywhere in memory.
-pub fn alike(random: &mut Random, call: &Call) -> (u32, Vec<u8>, Vec<u8>) {
+/// The outcome of a call, on which archive and reference agree; the buffers anywhere in memory.
+pub fn alike(random: &mut Random, call: &Call) -> Outcome {
     let shift = random.from_to(0, 255);
     call.compare(shift).unwrap_or_else(|found| panic!("seed {}: {found}", seed()))
 }
@@ -178,6 +178,76 @@ pub fn next_to_blank(sheet: &Sheet, i: usize, r: usize) -> Vec<u8> {
     page
 }
 
+/// A call of mend, lent drawn bytes for the places and their number.
+pub fn mending(random: &mut Random, p: &Parameters, page: Vec<u8>, index: usize) -> Call {
+    let places = random.bytes(2 * p.t[0] as usize);
+    Call::mend(p, page, index as u32, places, random.number() as u8)
+}
+
+/// A call of mend that is not refused: of a multiple of g_0 with up to t_0 flips, often none or the most.
+fn mendable(random: &mut Random, p: &Parameters) -> Call {
+    let sheet = Sheet::of(p);
+    let (mut page, i, t) = (page(random, p), random.from_to(0, sheet.m - 1), sheet.levels[0].t);
+    let flips = [0, t, random.from_to(0, t)][random.from_to(0, 2)];
+    put_multiple(random, &sheet, &mut page, i, &[]);
+    flip_some(random, &sheet, &mut page, i, flips);
+    mending(random, p, page, i)
+}
+
+/// Sub-word i of a page made a drawn multiple of g_0, that of n places whose top s are 0 but for these, which are not stored.
+pub fn put_multiple(random: &mut Random, sheet: &Sheet, page: &mut [u8], i: usize, top: &[usize]) {
+    let n = sheet.field.n;
+    let ones_in_four = random.from_to(0, 4);
+    let mut word = vec![0; n.div_ceil(64)];
+    for k in sheet.levels[0].degree()..sheet.stored() {
+        linear::put(&mut word, k, random.from_to(1, 4) <= ones_in_four);
+    }
+    top.iter().for_each(|&k| linear::flip(&mut word, k));
+    let rest = sheet.levels[0].remainder(sheet.field, &word);
+    rest.into_iter().enumerate().for_each(|(k, bit)| linear::put(&mut word, k, bit));
+    for k in 0..sheet.stored() {
+        if bit(page, sheet.place(i, k)) != linear::get(&word, k) {
+            flip(page, sheet.place(i, k));
+        }
+    }
+}
+
+/// Flips so many drawn coefficients of sub-word i, or all where there are not so many, and gives their places.
+pub fn flip_some(random: &mut Random, sheet: &Sheet, page: &mut [u8], i: usize, flips: usize) -> BTreeSet<usize> {
+    let mut places = BTreeSet::new();
+    while places.len() < flips.min(sheet.stored()) {
+        // Often one of the ends.
+        let ends = [0, sheet.stored() - 1];
+        let k = if random.once_in(16) { ends[random.from_to(0, 1)] } else { random.from_to(0, sheet.stored() - 1) };
+        if places.insert(k) {
+            flip(page, sheet.place(i, k));
+        }
+    }
+    places
+}
+
+/// Some of the places that are not stored, at most so many.
+pub fn unstored_places(random: &mut Random, sheet: &Sheet, most: usize) -> Vec<usize> {
+    let count = random.from_to(0, most.min(sheet.s));
+    let drawn: BTreeSet<usize> = (0..count).map(|_| random.from_to(sheet.stored(), sheet.field.n - 1)).collect();
+    drawn.into_iter().collect()
+}
+
+/// Makes sub-word i of a page one that is not mended; false if there is none, or none is found.
+fn unmended(random: &mut Random, sheet: &Sheet, page: &mut [u8], i: usize) -> bool {
+    let t = sheet.levels[0].t;
+    // At t_0 = 1 and s = 0 every word is within one flip of a multiple.
+    let tries = if t + sheet.s == 1 { 0 } else { 30 };
+    (0..tries).any(|_| {
+        // A multiple that has ones where no place is stored, or one with more flips than t_0.
+        let top = unstored_places(random, sheet, t);
+        let flips = if top.is_empty() { random.from_to(t + 1, 2 * t + 1) } else { random.from_to(0, t - top.len()) };
+        put_multiple(random, sheet, page, i, &top);
+        flip_some(random, sheet, page, i, flips);
+        sheet.mending(&sheet.words_of(page)[i]).is_none()
+    })
+}
+
 /// A call that is not refused.
 pub fn exact(random: &mut Random, name: Name, p: &Parameters) -> Call {
     let sheet = Sheet::of(p);
@@ -188,9 +258,10 @@ pub fn exact(random: &mut Random, name: Name, p: &Parameters) -> Call {
             return many_drawn(random, p, count);
         }
         Name::Alter => {
-            let done = |call: &Call| call.by_reference(&[], &mut call.lent.clone(), &mut []) == 0;
+            let done = |call: &Call| call.outcome(Call::by_reference).number == 0;
             return repeat_with(|| alteration(random, p)).find(done).unwrap();
         }
+        Name::Mend => return mendable(random, p),
         Name::ReadOut => (0, page(random, p), sheet.blocks_bytes()),
         Name::Judge => (0, page(random, p), 0),
         Name::Syndromes => (random.from_to(0, sheet.m - 1), page(random, p), 0),
@@ -212,6 +283,7 @@ pub fn conditions(name: Name) -> &'static [u32] {
         Name::Write => &[1, 2, 3, 4, 14, 5, 6, 7, 8, 13],
         Name::WriteMany => &[1, 2, 3, 4, 14, 5, 9, 6, 7, 10],
         Name::Alter => &[1, 2, 3, 4, 14, 7, 8, 9, 13],
+        Name::Mend => &[1, 2, 3, 4, 14, 7, 8, 9, 10, 15],
         Name::ReadOut => &[1, 2, 3, 4, 14, 6, 7, BLANK, 8],
         Name::Judge => &[1, 2, 3, 4, 14, 7, BLANK, 8],
         Name::Syndromes | Name::NestedSyndromes => &[1, 2, 3, 4, 14, 7, 8, 9, 10],
@@ -259,7 +331,7 @@ pub fn spoil(random: &mut Random, call: &mut Call, condition: u32) -> bool {
             _ => cut(random, &mut call.lent, 1),
         },
         7 => match call.name {
-            Name::Write | Name::WriteMany | Name::Alter => cut(random, &mut call.lent, call.count),
+            Name::Write | Name::WriteMany | Name::Alter | Name::Mend => cut(random, &mut call.lent, call.count),
             _ => cut(random, &mut call.read, 1),
         },
         8 => {
@@ -268,7 +340,7 @@ pub fn spoil(random: &mut Random, call: &mut Call, condition: u32) -> bool {
             if places.is_empty() {
                 return false;
             }
-            let bytes = if call.name == Name::Alter { &mut call.lent } else { &mut call.read };
+            let bytes = if call.name.changes_page() { &mut call.lent } else { &mut call.read };
             set(bytes, places[random.from_to(0, places.len() - 1)]);
             if conditions(call.name).contains(&BLANK) && sheet.blank(&call.read) {
                 flip(&mut call.read, random.place(&sheet));
@@ -294,10 +366,11 @@ pub fn spoil(random: &mut Random, call: &mut Call, condition: u32) -> bool {
             }
         }
         9 => {
-            let end = if call.name == Name::Syndromes { p.m } else { p.v };
-            call.number = any_of(random, &[end, end + 1, end.max(8), 255, 256, 1 << 31, GREATEST]);
+            let end = if call.name == Name::NestedSyndromes { p.v } else { p.m };
+            let turn = any_of(random, &[1 << 8, 1 << 16, 1 << 31]);
+            call.number = any_of(random, &[end, end + 1, end.max(8), 255, 256, call.number + turn, GREATEST]);
         }
-        10 if call.name == Name::WriteMany => cut(random, &mut call.list, call.count),
+        10 if call.name.lists() => cut(random, &mut call.list, call.count),
         10 => cut(random, &mut call.lent, 1),
         13 => {
             let sheet = sheet.unwrap();
@@ -313,6 +386,7 @@ pub fn spoil(random: &mut Random, call: &mut Call, condition: u32) -> bool {
             call.read = sheet.ones();
         }
         14 => p.s = too_short(random, p),
+        15 => return unmended(random, &sheet.unwrap(), &mut call.lent, call.number as usize),
         BLANK => {
             let spare = random.number();
             call.read.iter_mut().zip(sheet.unwrap().erased(spare)).for_each(|(byte, ones)| *byte |= ones);
@@ -387,6 +461,11 @@ pub fn any(random: &mut Random) -> Call {
             let count = [0, 17, 18, 32][random.from_to(0, 3)];
             many_drawn(random, &p, count)
         }
+        // Any page, whether or not it is mended.
+        Name::Mend if random.once_in(3) => {
+            let (page, i) = (page(random, &p), random.from_to(0, p.m as usize - 1));
+            mending(random, &p, page, i)
+        }
         _ => exact(random, name, &p),
     };
     if random.once_in(2) {
@@ -436,7 +515,7 @@ fn wild(random: &mut Random, name: Name) -> Call {
     };
     let (read, lent) = (length(random), length(random));
     let (read, lent) = (if name.reads() { read } else { 0 }, if name.writes() { lent } else { 0 });
-    let list = if name == Name::WriteMany { length(random) } else { 0 };
+    let list = if name.lists() { length(random) } else { 0 };
     let call = Call::new(name, &p, number, random.bytes(read), random.bytes(lent));
-    Call { count, bit, value, list: random.bytes(list), ..call }
+    Call { count, bit, value, list: random.bytes(list), flips: random.number() as u8, ..call }
 }

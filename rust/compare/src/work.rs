@@ -1,14 +1,15 @@
 //! The time that shortened sub-words save: write's on a shortened sheet, in times of write's on the full one. The time that
-//! many pages in one call save: that of the call, in times of as many single ones. And the time of an alteration of one bit,
-//! in times of a write.
+//! many pages in one call save: that of the call, in times of as many single ones. The time of an alteration of one bit, in
+//! times of a write. And that of a mended sub-word, in times of a CRC-32.
 
 use crate::call::{Call, Name};
-use crate::draw::{exact, many, member};
+use crate::draw::{exact, flip_some, many, member, mending};
 use reference::Parameters;
 use reference::calls::MOST_PAGES;
 use reference::layout::bit;
 use reference::parameters::Sheet;
 use reference::sample::Random;
+use std::array::from_fn;
 use std::hint::black_box;
 use std::time::{Duration, Instant};
 
@@ -35,6 +36,16 @@ pub const MANY_GATE_LIMIT: f64 = 0.85;
 pub const ALTER_WIDTH: u32 = 64;
 pub const ALTER_LIMITS: [f64; 2] = [0.7, 0.35];
 pub const ALTER_GATE_LIMITS: [f64; 2] = [0.8, 0.45];
+
+/// So many bytes are gone through by a CRC-32, a byte at a time, beside the sub-word that is mended.
+pub const CRC_BYTES: usize = 4096;
+
+/// Mending may take so much of the time of that CRC-32: without a flip, with t_0 / 2 and with t_0.
+pub const MEND_LIMITS: [f64; 3] = [0.5, 8.0, 12.0];
+pub const MEND_GATE_LIMITS: [f64; 3] = [0.65, 9.0, 14.0];
+
+/// Mending takes most time on this sheet, of the greatest t_0.
+pub const STRONGEST: Parameters = Parameters::full(12, 2, 1, [63, 64, 0, 0]);
 
 const ROUNDS: usize = 300;
 const TIME: Duration = Duration::from_millis(300);
@@ -63,7 +74,7 @@ pub fn shortened_to_full(width: u32) -> f64 {
         let call = Call { number: width, ..exact(&mut random, Name::Write, &p) };
         let mut page = call.lent.clone();
         move || {
-            let number = call.by_archive(black_box(&call.read), black_box(&mut page), &mut []);
+            let number = call.by_archive(black_box(&call.read), black_box(&mut page), &mut [], &mut 0);
             assert_eq!(number, 0, "{:?}", call.p);
         }
     });
@@ -81,13 +92,13 @@ pub fn many_to_single() -> f64 {
     let (mut together, mut list, mut apart) = (many.lent.clone(), many.list.clone(), many.lent.clone());
     let times = least_times([
         &mut || {
-            let number = many.by_archive(black_box(&many.read), black_box(&mut together), black_box(&mut list));
+            let number = many.by_archive(black_box(&many.read), black_box(&mut together), black_box(&mut list), &mut 0);
             assert_eq!(number, 0);
         },
         &mut || {
             let blocks = many.read.chunks_exact(sheet.blocks_bytes());
             for (blocks, page) in blocks.zip(apart.chunks_exact_mut(sheet.page_bytes())) {
-                assert_eq!(single.by_archive(black_box(blocks), black_box(page), &mut []), 0);
+                assert_eq!(single.by_archive(black_box(blocks), black_box(page), &mut [], &mut 0), 0);
             }
         },
     ]);
@@ -122,14 +133,14 @@ pub fn alter_to_write() -> [f64; 3] {
         let mut call = altering(&FULL, &page, block, at);
         let (mut page, mut before) = (page.clone(), page.clone());
         move || {
-            let number = call.by_archive(&[], black_box(&mut page), &mut []);
+            let number = call.by_archive(&[], black_box(&mut page), &mut [], &mut 0);
             assert!(number == 0 && page != before, "{name}: {number}");
             call.value ^= 1;
             before[..].copy_from_slice(&page);
         }
     });
     let [write, times @ ..] = least_times([
-        &mut || assert_eq!(write.by_archive(black_box(&write.read), black_box(&mut written), &mut []), 0),
+        &mut || assert_eq!(write.by_archive(black_box(&write.read), black_box(&mut written), &mut [], &mut 0), 0),
         &mut last,
         &mut first,
         &mut of_block_0,
@@ -137,10 +148,55 @@ pub fn alter_to_write() -> [f64; 3] {
     times.map(|time| time / write)
 }
 
-/// The sheet in words.
-fn title() -> String {
-    let Parameters { q, m, v, t, .. } = FULL;
-    format!("q {q} m {m} v {v} t {}", t.map(|t| t.to_string()).join(" "))
+/// The table of a CRC-32, a byte at a time.
+pub fn crc_table() -> [u32; 256] {
+    from_fn(|byte| (0..8).fold(byte as u32, |c, _| if c & 1 == 1 { c >> 1 ^ 0xEDB8_8320 } else { c >> 1 }))
+}
+
+pub fn crc(table: &[u32; 256], bytes: &[u8]) -> u32 {
+    !bytes.iter().fold(!0, |c, &byte| c >> 8 ^ table[(c as u8 ^ byte) as usize])
+}
+
+/// The calls of mend that are timed, in words, on the last sub-word of a member with so many flips: none, t_0 / 2 and t_0; and
+/// with t_0 + 5, so that, if t_0 is large, it is refused by 15.
+pub fn mendings(p: &Parameters) -> [(&'static str, Call); 4] {
+    let (sheet, mut random) = (Sheet::of(p), Random::new(1));
+    let (t, i) = (sheet.levels[0].t, sheet.m - 1);
+    let names = ["mend no flip", "mend t0 / 2 flips", "mend t0 flips", "mend t0 + 5 flips"];
+    let mut flips = [0, t / 2, t, t + 5].into_iter();
+    names.map(|name| {
+        let mut page = member(&mut random, p);
+        flip_some(&mut random, &sheet, &mut page, i, flips.next().unwrap());
+        (name, mending(&mut random, p, page, i))
+    })
+}
+
+/// The archive's mends of a member of a sheet, in times of a CRC-32 of CRC_BYTES bytes. Before each call the damaged page is
+/// copied, which takes about 0.1 µs and is timed with it.
+pub fn mend_to_crc(p: &Parameters) -> [f64; 4] {
+    let (table, bytes) = (crc_table(), Random::new(1).bytes(CRC_BYTES));
+    let mut works = mendings(p).map(|(name, call)| {
+        let answer = call.outcome(Call::by_reference).number;
+        let (mut page, mut places, mut flips) = (call.lent.clone(), call.list.clone(), 0);
+        move || {
+            page.copy_from_slice(&call.lent);
+            let number = call.by_archive(&[], black_box(&mut page), black_box(&mut places), black_box(&mut flips));
+            assert_eq!(number, answer, "{name}");
+        }
+    });
+    let [none, half, all, more] = &mut works;
+    let mut sum = || {
+        black_box(crc(black_box(&table), black_box(&bytes)));
+    };
+    let [crc, times @ ..] = least_times([&mut sum, none, half, all, more]);
+    times.map(|time| time / crc)
+}
+
+/// A sheet in words.
+pub fn title(p: &Parameters) -> String {
+    let t: Vec<String> = p.t[..=p.v as usize].iter().map(u32::to_string).collect();
+    let shortened = if p.s == 0 { String::new() } else { format!(" s {}", p.s) };
+    format!("q {} m {} v {} t {}{shortened}", p.q, p.m, p.v, t.join(" "))
 }
 
 /// The ratios of shortened writes at some widths in words, and the greatest of them.
@@ -149,7 +205,7 @@ pub fn stated() -> (String, [f64; 1]) {
     let each: Vec<String> = ratios.iter().map(|(width, ratio)| format!("{ratio:.2} at width {width}")).collect();
     let line = format!(
         "Write on {} at s {S}, in times of write at s 0, calls by turns, least times: {}; at most {LIMIT}",
-        title(),
+        title(&FULL),
         each.join(", ")
     );
     (line, [ratios.iter().fold(0.0, |most, &(_, ratio)| ratio.max(most))])
@@ -161,7 +217,7 @@ pub fn many_stated() -> (String, [f64; 1]) {
     let line = format!(
         "Write of {PAGES} pages in one call on {}, in times of {PAGES} single calls, by turns, least times: {ratio:.3} at width \
          {MANY_WIDTH}; at most {MANY_LIMIT}",
-        title()
+        title(&FULL)
     );
     (line, [ratio])
 }
@@ -175,9 +231,27 @@ pub fn alter_stated() -> (String, [f64; 2]) {
         "One bit altered, to and fro, in a page of {}, in times of write at width {ALTER_WIDTH}, by turns, least times: \
          {last:.3} for the last bit of block m - 1, {first:.3} for the first of block v; at most {limit}; {of_block_0:.3} for \
          the last of block 0; at most {limit_0}",
-        title()
+        title(&FULL)
     );
     (line, [last.max(first), of_block_0])
+}
+
+/// The ratios of mends in words, and those without a flip, with t_0 / 2 and with t_0.
+pub fn mend_stated() -> (String, [f64; 3]) {
+    let [none, half, all, more] = mend_to_crc(&FULL);
+    let [.., strongest, _] = mend_to_crc(&STRONGEST);
+    let ([limit, limit_half, limit_all], t) = (MEND_LIMITS, FULL.t[0]);
+    let line = format!(
+        "A sub-word of {} mended, in times of a CRC-32 of {CRC_BYTES} bytes, by turns, least times: {none:.3} without a flip; \
+         at most {limit}; {half:.2} with {} flips; at most {limit_half}; {all:.2} with {t}; at most {limit_all}; refused with \
+         {} {more:.2}; of {} with {} flips {strongest:.2}",
+        title(&FULL),
+        t / 2,
+        t + 5,
+        title(&STRONGEST),
+        STRONGEST.t[0]
+    );
+    (line, [none, half, all])
 }
 
 /// Whether no ratio is above its limit.

@@ -2,7 +2,7 @@
 //! asked of the archive's own calls: the page of the bit alone is added, a member comes to be the page of its altered blocks,
 //! other sub-words stay, few bits change and not too few, back is as it was. And what refuses it.
 
-use compare::call::{Call, sheet};
+use compare::call::{Call, Outcome, sheet};
 use compare::draw::{alike, any_page, count, member, next_to_blank, one_in, say, seed, some_bits, with_shortened};
 use gii_bch::{Refusal, Sheet as Archive, Verdict};
 use reference::Parameters;
@@ -74,9 +74,9 @@ impl Run {
     /// The number and the page of a call, on which both sides agree.
     fn both(&mut self, call: &Call) -> (u32, Vec<u8>) {
         self.calls += 1;
-        let (number, page, _) = alike(&mut self.random, call);
-        self.changed += usize::from(page != call.lent);
-        (number, page)
+        let Outcome { number, lent, .. } = alike(&mut self.random, call);
+        self.changed += usize::from(lent != call.lent);
+        (number, lent)
     }
 
     /// Asks that a call is refused by this number, and leaves every byte.

@@ -168,7 +168,7 @@ fn drawn(q: u32, sheets: usize, each: usize) {
             let judge = Call::new(Name::Judge, &p, 0, damaged.to_vec(), Vec::new());
             let lent = random.bytes(made.blocks_bytes());
             let read_out = Call { name: Name::ReadOut, lent, ..judge.clone() };
-            let [judged, read] = [judge, read_out].map(|call| alike(random, &call).0);
+            let [judged, read] = [judge, read_out].map(|call| alike(random, &call).number);
             assert_eq!(judged, read, "{p:?}");
             judged
         };

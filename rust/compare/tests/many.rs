@@ -1,7 +1,7 @@
 //! Many pages in one call: every page and every listed number is what a call of its own gives, by the archive and by the
 //! reference, with pages that are refused at every place among the others. And what refuses the whole call.
 
-use compare::call::{Call, sheet};
+use compare::call::{Call, Outcome, sheet};
 use compare::draw::{alike, count, make_stray, many, many_drawn, one_in, say, seed, with_shortened, writable};
 use gii_bch::Refusal;
 use reference::Parameters;
@@ -67,8 +67,8 @@ impl Run {
         }
     }
 
-    /// The number, the pages and the list of a call, on which both sides agree.
-    fn both(&mut self, call: &Call) -> (u32, Vec<u8>, Vec<u8>) {
+    /// The outcome of a call, on which both sides agree.
+    fn both(&mut self, call: &Call) -> Outcome {
         self.calls += 1;
         alike(&mut self.random, call)
     }
@@ -77,9 +77,9 @@ impl Run {
     fn refused(&mut self, call: &Call, number: u32) {
         let Call { p, count, read, lent, list, .. } = call;
         let lengths = [read.len(), lent.len(), list.len()];
-        let (answer, pages, listed) = self.both(call);
-        assert_eq!(answer, number, "{p:?}, {count} pages, lengths {lengths:?}");
-        assert!((&pages, &listed) == (lent, list), "{p:?}, {count} pages, lengths {lengths:?}: bytes are altered");
+        let outcome = self.both(call);
+        assert_eq!(outcome.number, number, "{p:?}, {count} pages, lengths {lengths:?}");
+        assert!(outcome == call.refused(number), "{p:?}, {count} pages, lengths {lengths:?}: bytes are altered");
     }
 
     /// The blocks of one page, and the number that is to be listed. Where there is no unused bit, none is stray.
@@ -102,15 +102,16 @@ impl Run {
         let made = Sheet::of(p);
         let (blocks, expected): (Vec<_>, Vec<_>) = kinds.iter().map(|&kind| self.blocks(&made, kind)).unzip();
         let call = many(&mut self.random, p, &blocks);
-        let (number, pages, list) = self.both(&call);
-        assert_eq!((number, &list), (0, &expected), "{p:?}");
+        let outcome = self.both(&call);
+        let Outcome { number, lent: pages, list, .. } = &outcome;
+        assert_eq!((number, list), (&0, &expected), "{p:?}");
         self.pages += kinds.len();
         for k in 0..kinds.len() {
             let page = |pages: &[u8]| pages[k * made.page_bytes()..][..made.page_bytes()].to_vec();
             let mut single = page(&call.lent);
             let answer = archive.write(call.number, &blocks[k], &mut single).map_or_else(Refusal::number, |()| 0);
             assert_eq!(answer, u32::from(list[k]), "{p:?}, page {k} of {}", kinds.len());
-            assert_eq!(page(&pages), single, "{p:?}, page {k} of {}", kinds.len());
+            assert_eq!(page(pages), single, "{p:?}, page {k} of {}", kinds.len());
             assert!(list[k] == 0 || single == page(&call.lent), "{p:?}: a refused page is altered");
             self.listed[usize::from(p.s > 0)].insert((kinds.len(), k, list[k]));
         }
@@ -118,9 +119,7 @@ impl Run {
             *self.none_written.entry(kinds.len()).or_insert(0) += 1;
         }
         let other = Call { number: self.random.from_to(1, 64) as u32, ..call };
-        let (mut lent, mut listed) = (other.lent.clone(), other.list.clone());
-        assert_eq!(other.by_archive(&other.read, &mut lent, &mut listed), 0, "{p:?}");
-        assert!((lent, listed) == (pages, list), "{p:?}: another width gives other bytes");
+        assert!(other.outcome(Call::by_archive) == outcome, "{p:?}: another width gives other bytes");
     }
 
     /// A single page of each kind at every place among others that fit.
@@ -243,15 +242,13 @@ fn many_at_every_width() {
     let mut met = BTreeSet::new();
     for p in [A, SHEETS_OF_Q_8[1], SHEETS_OF_Q_12[0]].iter().flat_map(with_shortened) {
         let call = many_drawn(&mut random, &p, MOST);
-        let (number, pages, list) = alike(&mut random, &call);
-        assert_eq!(number, 0, "{p:?}");
+        let outcome = alike(&mut random, &call);
+        assert_eq!(outcome.number, 0, "{p:?}");
         for width in (1..=64).step_by(one_in()) {
-            let (mut lent, mut listed) = (call.lent.clone(), call.list.clone());
-            let number = Call { number: width, ..call.clone() }.by_archive(&call.read, &mut lent, &mut listed);
-            assert_eq!(number, 0, "{p:?}, width {width}");
-            assert!((&lent, &listed) == (&pages, &list), "{p:?}, width {width}: other bytes");
+            let other = Call { number: width, ..call.clone() }.outcome(Call::by_archive);
+            assert!(other == outcome, "{p:?}, width {width}: other bytes, or {}", other.number);
         }
-        met.extend(list.into_iter().map(|number| (p.q, p.s > 0, number)));
+        met.extend(outcome.list.into_iter().map(|number| (p.q, p.s > 0, number)));
     }
     for q in [4, 8, 12] {
         for (shortened, number) in [(false, 0), (false, 8), (false, 13), (true, 0), (true, 8)] {
@@ -316,7 +313,7 @@ fn lengths_of_many_that_are_not_exact() {
         let counts: Vec<usize> = if p.q == 4 { (1..=MOST).collect() } else { vec![1, 2, 7, MOST] };
         for count in counts {
             let call = many_drawn(&mut run.random, &p, count);
-            assert_eq!(run.both(&call).0, 0, "{p:?}");
+            assert_eq!(run.both(&call).number, 0, "{p:?}");
             let lengths = |exact: usize| {
                 let one = exact / count;
                 let mut lengths = BTreeSet::from([0, exact - 1, exact + 1, exact - one, exact + one, one]);

@@ -1,7 +1,7 @@
 //! Accepted parameters: every call on members, damaged pages and blank pages, archive and reference alike, with full
 //! sub-words and with shortened ones.
 
-use compare::call::{Call, NAMES, Name};
+use compare::call::{Call, NAMES, Name, Outcome};
 use compare::draw::{alike, break_nested, count, exact, list_bytes, one_in, say, seed, with_shortened};
 use reference::Parameters;
 use reference::calls::BLANK;
@@ -34,25 +34,22 @@ impl Run {
         }
     }
 
-    /// The number, the lent bytes and the list of a call, on which both sides agree.
-    fn both(&mut self, call: &Call) -> (u32, Vec<u8>, Vec<u8>) {
+    /// The outcome of a call, on which both sides agree.
+    fn both(&mut self, call: &Call) -> Outcome {
         self.calls += 1;
         alike(&mut self.random, call)
     }
 
     /// The number and the lent bytes of a call that is not refused.
     fn compare(&mut self, call: &Call) -> (u32, Vec<u8>) {
-        let (number, lent, _) = self.both(call);
+        let Outcome { number, lent, .. } = self.both(call);
         assert!(!call.name.refuses(number), "{:?} of {:?} is refused by {number}", call.name, call.p);
         (number, lent)
     }
 
     /// Asks that a call is refused by this number, and leaves every byte.
     fn refused(&mut self, call: &Call, number: u32) {
-        let (answer, lent, list) = self.both(call);
-        assert_eq!(answer, number, "{:?} of {:?}", call.name, call.p);
-        assert_eq!(lent, call.lent, "{:?} of {:?}", call.name, call.p);
-        assert_eq!(list, call.list, "{:?} of {:?}", call.name, call.p);
+        assert_eq!(self.both(call), call.refused(number), "{:?} of {:?}", call.name, call.p);
     }
 
     /// Write at some widths, then judge, read out and syndromes of the page and of pages damaged in many ways. Where no

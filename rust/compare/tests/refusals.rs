@@ -25,13 +25,14 @@ fn refuse(random: &mut Random, p: &Parameters, met: &mut BTreeSet<(Name, u32)>) 
                 continue;
             }
             calls += 1;
-            let (number, lent, list) = call
+            let outcome = call
                 .compare(random.from_to(0, 255))
                 .unwrap_or_else(|found| panic!("seed {}, conditions {chosen:?}: {found}", seed()));
-            assert_eq!(number, name.refused_by(chosen[0]), "{name:?} {p:?}, conditions {chosen:?}");
+            let number = name.refused_by(chosen[0]);
+            assert_eq!(outcome.number, number, "{name:?} {p:?}, conditions {chosen:?}");
             match (name, number) {
-                (Name::ReadOut, BLANK) => assert_eq!(lent, Sheet::of(p).ones(), "{p:?}, conditions {chosen:?}"),
-                _ => assert_eq!((lent, list), (call.lent, call.list)),
+                (Name::ReadOut, BLANK) => assert_eq!(outcome.lent, Sheet::of(p).ones(), "{p:?}, conditions {chosen:?}"),
+                _ => assert_eq!(outcome, call.refused(number)),
             }
             met.insert((name, chosen[0]));
         }
@@ -133,9 +134,9 @@ fn every_width_and_count_over_a_range() {
             for number in wide() {
                 let answer = |call: &Call| {
                     let found = call.compare(0).unwrap_or_else(|found| panic!("seed {}: {found}", seed()));
-                    let left = (&found.1, &found.2) == (&call.lent, &call.list);
-                    assert!(found.0 == 0 || left, "{:?} {p:?}, {number}: bytes are altered", call.name);
-                    found.0
+                    let left = found == call.refused(found.number);
+                    assert!(found.number == 0 || left, "{:?} {p:?}, {number}: bytes are altered", call.name);
+                    found.number
                 };
                 for name in [Name::Write, Name::WriteMany] {
                     let expected = if (1..=64).contains(&number) { 0 } else { 5 };
@@ -162,15 +163,15 @@ fn every_length_near_the_exact_one() {
             let call = exact(&mut random, name, &p);
             // None, one less, the length, one more; only none where the call has no such buffer.
             let near = |exact: usize| BTreeSet::from([0, exact.saturating_sub(1), exact, exact + 1]);
-            // Of one buffer all, or many: of the one that is read, and of alter's.
+            // Of one buffer all, or many: of the one that is read, and of the page of alter and mend.
             let every = |exact: usize| (0..exact + 40).filter(|&length| p.q == 4 || length + 40 > exact).collect();
             let reads = if name.reads() { every(call.read.len()) } else { BTreeSet::from([0]) };
             let lents = match name {
-                Name::Alter => every(call.lent.len()),
+                _ if name.changes_page() => every(call.lent.len()),
                 _ if name.writes() => near(call.lent.len()),
                 _ => BTreeSet::from([0]),
             };
-            let lists = if name == Name::WriteMany { near(call.list.len()) } else { BTreeSet::from([0]) };
+            let lists = if name.lists() { near(call.list.len()) } else { BTreeSet::from([0]) };
             for &read in &reads {
                 for (&lent, &list) in lents.iter().flat_map(|lent| lists.iter().map(move |list| (lent, list))) {
                     let mut call = call.clone();
@@ -219,7 +220,7 @@ fn lengths_of_another_shortening() {
                     };
                     let (read, lent) = match name {
                         Name::Write | Name::WriteMany => (blocks, page),
-                        Name::Alter => (false, page),
+                        Name::Alter | Name::Mend => (false, page),
                         _ => (page, blocks && has_blocks),
                     };
                     let mut call = right.clone();
@@ -230,7 +231,7 @@ fn lengths_of_another_shortening() {
                         call.lent = wrong.lent.clone();
                     }
                     let found = call.compare(0).unwrap_or_else(|found| panic!("seed {}: {found}", seed()));
-                    assert_eq!(found, (number, call.lent, call.list), "{name:?} {p:?} with buffers of s = {}", of.s);
+                    assert_eq!(found, call.refused(number), "{name:?} {p:?} with buffers of s = {}", of.s);
                     met.insert((name, number));
                 }
             }
@@ -262,14 +263,14 @@ fn every_length_of_a_quote() {
         // Small ones, and ones that are the exact length modulo 2^8 or 2^16.
         for length in (0..=4 * QUOTE_BYTES).chain([QUOTE_BYTES + (1 << 8), QUOTE_BYTES + (1 << 16)]) {
             let call = Call::new(Name::Quote, &p, 0, Vec::new(), random.bytes(length));
-            let (number, lent, _) = call.compare(length).unwrap_or_else(|found| panic!("seed {}: {found}", seed()));
+            let found = call.compare(length).unwrap_or_else(|found| panic!("seed {}: {found}", seed()));
             let expected = match p.refusal() {
                 0 if length == QUOTE_BYTES => 0,
                 0 => 10,
                 refusal => refusal,
             };
-            assert_eq!(number, expected, "{p:?}, {length} bytes");
-            assert!(number == 0 || lent == call.lent, "{p:?}, {length} bytes");
+            assert_eq!(found.number, expected, "{p:?}, {length} bytes");
+            assert!(expected == 0 || found == call.refused(expected), "{p:?}, {length} bytes");
         }
     }
 }

@@ -1,8 +1,11 @@
-//! Shortened sub-words are less work, and so are many pages in one call, and one bit altered is less than a write. The
-//! stand-in, which is not made for speed, is not asked.
+//! Shortened sub-words are less work, and so are many pages in one call; one bit altered is less than a write, and one
+//! sub-word mended is a few CRC-32 sums. The stand-in, which is not made for speed, is not asked.
 
 use compare::draw::say;
-use compare::work::{ALTER_GATE_LIMITS, GATE_LIMIT, MANY_GATE_LIMIT, alter_stated, many_stated, stated, within};
+use compare::work::{
+    ALTER_GATE_LIMITS, GATE_LIMIT, MANY_GATE_LIMIT, MEND_GATE_LIMITS, alter_stated, many_stated, mend_stated, stated,
+    within,
+};
 use std::sync::Mutex;
 
 /// One work at a time is timed.
@@ -33,4 +36,9 @@ fn many_pages_in_one_call_take_less_time() {
 #[test]
 fn an_altered_bit_takes_less_time_than_a_write() {
     ask(alter_stated, ALTER_GATE_LIMITS);
+}
+
+#[test]
+fn a_mended_sub_word_takes_a_few_sums() {
+    ask(mend_stated, MEND_GATE_LIMITS);
 }

@@ -1,5 +1,5 @@
-//! Pages of generalized integrated interleaved BCH (GII-BCH) codes: writing, altering, reading out, judging, syndromes,
-//! sizes.
+//! Pages of generalized integrated interleaved BCH (GII-BCH) codes: writing, altering, mending, reading out, judging,
+//! syndromes, sizes.
 //!
 //! The work is done by `libgii_bch.a`, a library proved by machine. This crate is not proved: it links the archive, lends
 //! it slices and gives its numbers names. A slice is never null, exactly as long as it says, and a mutable one overlaps no
@@ -42,8 +42,8 @@
 //!
 //! `build.rs` links the archive that the variable `GII_ARCHIVE` names (a path from `rust/`), or
 //! `target/staticlib/libgii_bch.a` of the repository, which `rt staticlib gii_bch` makes. It is for x86-64 and takes at
-//! most 128 KiB of stack for [`Sheet::write_many`] and at most 32 KiB for every other call. Calls may run at once in several
-//! threads.
+//! most 128 KiB of stack for [`Sheet::write_many`], at most 64 KiB for [`Sheet::mend`] and at most 32 KiB for every other
+//! call. Calls may run at once in several threads.
 
 #![no_std]
 #![deny(missing_docs)]
@@ -71,6 +71,7 @@ c_functions! {
         list_len: usize
     );
     fn gii_alter(page: *mut u8, page_len: usize, block: u32, bit: u32, value: u32);
+    fn gii_mend(page: *mut u8, page_len: usize, index: u32, places: *mut u8, places_len: usize, flips: *mut u8);
     fn gii_read_out(page: *const u8, page_len: usize, blocks: *mut u8, blocks_len: usize);
     fn gii_judge(page: *const u8, page_len: usize);
     fn gii_syndromes(page: *const u8, page_len: usize, index: u32, list: *mut u8, list_len: usize);
@@ -85,7 +86,7 @@ c_functions! {
 macro_rules! call {
     ($name:ident, $sheet:expr $(, $argument:expr)*) => {{
         let &Sheet { q, m, v, t: [t0, t1, t2, t3], s } = $sheet;
-        // Every pointer given below is a slice's, with its length.
+        // Every pointer given below is a slice's, with its length, or that of one byte lent to be written.
         unsafe { c::$name(q, m, v, t0, t1, t2, t3, s $(, $argument)*) }
     }};
 }
@@ -121,6 +122,9 @@ pub const QUOTE_BYTES: usize = 24;
 
 /// The most pages that [`Sheet::write_many`] writes in one call.
 pub const COUNT_MAX: u32 = 16;
+
+/// What the list of [`Sheet::mend`] holds behind the places that are flipped.
+pub const NO_PLACE: u16 = 65535;
 
 /// What a page was found to be.
 #[derive(Clone, Copy, Debug, PartialEq, Eq, PartialOrd, Ord, Hash)]
@@ -159,15 +163,17 @@ pub enum Refusal {
     Stray = 8,
     /// There is no such sub-word, nested word, block or bit; the value is above 1; or the count of pages is not 1 to 16.
     Index = 9,
-    /// The list's length is not exact.
+    /// The list's length, or that of the places, is not exact.
     List = 10,
     /// The page would be blank: that of the blocks, where s is 0 and every data bit is 1, or the altered one.
     Blank = 13,
     /// s is above n − w_v − 1, so that some block would have no data bit.
     Shortening = 14,
+    /// No multiple of g_0 with zeros in its top s places is within t_0 flips of the sub-word.
+    Unmended = 15,
 }
 
-const REFUSALS: [Refusal; 12] = [
+const REFUSALS: [Refusal; 13] = [
     Refusal::Field,
     Refusal::Shape,
     Refusal::Strengths,
@@ -180,6 +186,7 @@ const REFUSALS: [Refusal; 12] = [
     Refusal::List,
     Refusal::Blank,
     Refusal::Shortening,
+    Refusal::Unmended,
 ];
 
 const SUB_WORD: u32 = 32;
@@ -218,7 +225,7 @@ impl Verdict {
 }
 
 impl Refusal {
-    /// The number of `enum gii_answer`: 1 to 10, 13 or 14.
+    /// The number of `enum gii_answer`: 1 to 10 or 13 to 15.
     pub fn number(self) -> u32 {
         self as u32
     }
@@ -250,6 +257,7 @@ impl fmt::Display for Refusal {
             Refusal::List => "the list's length is not exact",
             Refusal::Blank => "the page would be blank",
             Refusal::Shortening => "s leaves a block without data",
+            Refusal::Unmended => "no multiple of g_0 within t_0 flips of the sub-word",
         })
     }
 }
@@ -404,6 +412,12 @@ impl Sheet {
         Ok(4 * self.t[(self.v - l) as usize] as usize)
     }
 
+    /// Bytes of the list of the places that [`Sheet::mend`] flips: t_0 numbers of two bytes.
+    pub fn places_bytes(&self) -> Result<usize, Refusal> {
+        self.test()?;
+        Ok(2 * self.t[0] as usize)
+    }
+
     /// The page of the blocks, check bits and all. `width` is the number of coefficients taken in a step, 1 to 64; it never
     /// alters a byte. Refuses the parameters, the width, both lengths, an unused bit of the blocks, blocks whose page would
     /// be blank: where s is 0, those whose data bits are all 1, and where s is above 0 none.
@@ -511,6 +525,42 @@ impl Sheet {
         done(call!(gii_alter, self, page.as_mut_ptr(), page.len(), block, bit, value))
     }
 
+    /// Sub-word `index` of a stored page made a multiple of g_0 by at most t_0 flips: the only one, if there is one, that is 0
+    /// in its top s places and differs from the sub-word in at most t_0 places. `places` comes to hold the places that are
+    /// flipped, k for the coefficient of x^k, rising, two bytes a number, low byte first, and [`NO_PLACE`] behind them;
+    /// [`numbers`] reads them; `flips`, how many they are. No byte of another sub-word changes. The other sub-words and the
+    /// nested words are of no account: the page need be no member, before or afterwards.
+    ///
+    /// Refuses the parameters, the page's length, a spare bit anywhere in the page, blank or not, the index, the length of
+    /// the places, which is [`Sheet::places_bytes`], a sub-word without such a multiple (by [`Refusal::Unmended`]).
+    ///
+    /// ```
+    /// # use gii_bch::{NO_PLACE, Refusal, Sheet, numbers};
+    /// let sheet = Sheet::new(8, 2, 1, [3, 5, 0, 0]);
+    /// let mut page = [0; 64];
+    /// sheet.write(64, &vec![0x35; sheet.data_bytes()?], &mut page)?;
+    /// let written = page;
+    ///
+    /// // The coefficients of x^250 and x^9 of sub-word 1.
+    /// page[32 + 31] ^= 0x04;
+    /// page[32 + 1] ^= 0x02;
+    /// let (mut places, mut flips) = ([0; 6], 0);
+    /// sheet.mend(&mut page, 1, &mut places, &mut flips)?;
+    /// assert_eq!(page, written);
+    /// assert_eq!(flips, 2);
+    /// assert!(numbers(&places).eq([9, 250, NO_PLACE]));
+    ///
+    /// // x^10 + x^7 + x^6 is a multiple of g_0, but its highest coefficient is not stored.
+    /// let sheet = Sheet::new(4, 2, 1, [1, 2, 0, 0]).shortened(5);
+    /// let (mut page, mut places, mut flips) = ([0xC0, 0x00, 0x00, 0x00], [0xA5; 2], 0xA5);
+    /// assert_eq!(sheet.mend(&mut page, 0, &mut places, &mut flips), Err(Refusal::Unmended));
+    /// assert_eq!((page, places, flips), ([0xC0, 0x00, 0x00, 0x00], [0xA5; 2], 0xA5));
+    /// # Ok::<(), gii_bch::Refusal>(())
+    /// ```
+    pub fn mend(&self, page: &mut [u8], index: u32, places: &mut [u8], flips: &mut u8) -> Result<(), Refusal> {
+        done(call!(gii_mend, self, page.as_mut_ptr(), page.len(), index, places.as_mut_ptr(), places.len(), flips))
+    }
+
     /// The data bits of the page, member or not, blank or not, and what [`Sheet::judge`] gives for it. Nothing is corrected.
     /// Refuses the parameters, both lengths, a spare bit of a page that is not blank.
     ///
@@ -560,7 +610,7 @@ impl Sheet {
     }
 }
 
-/// The numbers of a list: of syndromes, which are elements of GF(2^q), α being 2, or of a quote.
+/// The numbers of a list: of syndromes, which are elements of GF(2^q), α being 2, of a quote, or of places.
 ///
 /// ```
 /// # use gii_bch::{Sheet, numbers};

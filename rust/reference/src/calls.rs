@@ -1,4 +1,4 @@
-//! The eleven C calls, on slices. Each gives the requirement's number; a refusal leaves every byte.
+//! The twelve C calls, on slices. Each gives the requirement's number; a refusal leaves every byte.
 
 use crate::layout;
 use crate::parameters::{Condition, Parameters, Sheet, first};
@@ -98,6 +98,38 @@ pub fn alter(p: &Parameters, page: &mut [u8], block: u32, bit: u32, value: u32) 
     }
     page.copy_from_slice(&made);
     0
+}
+
+/// What a list of places holds behind them.
+pub const NO_PLACE: u16 = u16::MAX;
+
+/// The multiple of g_0 that is near sub-word `index` put in its stead, the places that are flipped listed.
+pub fn mend(p: &Parameters, page: &mut [u8], index: u32, places: &mut [u8], flips: &mut u8) -> u32 {
+    let sheet = || Sheet::of(p);
+    let refused = refusal(
+        p,
+        &[
+            (7, &|| page.len() != sheet().page_bytes()),
+            (8, &|| sheet().page_stray(page)),
+            (9, &|| index >= p.m),
+            (10, &|| places.len() != 2 * sheet().levels[0].t),
+        ],
+    );
+    if refused != 0 {
+        return refused;
+    }
+    let (sheet, i) = (sheet(), index as usize);
+    let Some(found) = sheet.mending(&sheet.words_of(page)[i]) else { return 15 };
+    found.iter().for_each(|&k| layout::flip(page, sheet.place(i, k)));
+    put_places(&found, places);
+    *flips = found.len() as u8;
+    0
+}
+
+/// Some places, two bytes each, low byte first, and NO_PLACE behind them.
+pub fn put_places(found: &[usize], list: &mut [u8]) {
+    let numbers = found.iter().map(|&k| k as u16).chain(std::iter::repeat(NO_PLACE));
+    list.chunks_mut(2).zip(numbers).for_each(|(bytes, number)| bytes.copy_from_slice(&number.to_le_bytes()));
 }
 
 pub fn read_out(p: &Parameters, page: &[u8], blocks: &mut [u8]) -> u32 {

@@ -5,7 +5,6 @@
 //! the check bits to meet them, the others are given. So for each root a square system, with a Vandermonde matrix, gives
 //! the values of the sub-words that are not given, and the check bits of a sub-word are had back from its values.
 
-use crate::field::Field;
 use crate::generator::odd;
 use crate::layout::set;
 use crate::linear;
@@ -48,24 +47,6 @@ impl Sheet {
             let sum = given.iter().zip(unknowns..).fold(0, |sum, (&c, i)| sum ^ self.field.multiply(power(i), c));
             (0..unknowns).map(power).chain([sum]).collect()
         });
-        solve(self.field, equations.collect())[i]
+        self.field.solve(equations.collect()).expect("nodes coincide")[i]
     }
-}
-
-/// The solution of a square system of equations over the field; the last entry of each is its right-hand side.
-fn solve(field: &Field, mut equations: Vec<Vec<u16>>) -> Vec<u16> {
-    for place in 0..equations.len() {
-        let found = (place..equations.len()).find(|&r| equations[r][place] != 0).expect("nodes coincide");
-        equations.swap(place, found);
-        let scale = field.inverse(equations[place][place]);
-        let pivot: Vec<u16> = equations[place].iter().map(|&x| field.multiply(scale, x)).collect();
-        for equation in equations.iter_mut() {
-            let factor = equation[place];
-            for (x, &y) in equation.iter_mut().zip(&pivot) {
-                *x ^= field.multiply(factor, y);
-            }
-        }
-        equations[place] = pivot;
-    }
-    equations.into_iter().map(|equation| *equation.last().unwrap()).collect()
 }

@@ -74,6 +74,49 @@ impl Field {
         self.powers[e % self.n]
     }
 
+    /// The e below n with α^e = a, a ≠ 0.
+    pub fn log(&self, a: u16) -> usize {
+        self.powers.iter().position(|&power| power == a).unwrap()
+    }
+
+    /// The solution of a square system of equations over the field, if it has just one; the last entry of each equation is
+    /// its right-hand side.
+    pub fn solve(&self, mut equations: Vec<Vec<u16>>) -> Option<Vec<u16>> {
+        for place in 0..equations.len() {
+            let found = (place..equations.len()).find(|&r| equations[r][place] != 0)?;
+            equations.swap(place, found);
+            let scale = self.inverse(equations[place][place]);
+            let pivot: Vec<u16> = equations[place].iter().map(|&x| self.multiply(scale, x)).collect();
+            for equation in equations.iter_mut() {
+                let factor = equation[place];
+                for (x, &y) in equation.iter_mut().zip(&pivot).skip(place) {
+                    *x ^= self.multiply(factor, y);
+                }
+            }
+            equations[place] = pivot;
+        }
+        Some(equations.into_iter().map(|equation| *equation.last().unwrap()).collect())
+    }
+
+    /// The rank of a matrix over the field, by elimination.
+    pub fn rank(&self, mut rows: Vec<Vec<u16>>) -> usize {
+        let mut rank = 0;
+        for place in 0..rows.first().map_or(0, Vec::len) {
+            let Some(found) = (rank..rows.len()).find(|&r| rows[r][place] != 0) else { continue };
+            rows.swap(rank, found);
+            let scale = self.inverse(rows[rank][place]);
+            let (above, below) = rows.split_at_mut(rank + 1);
+            for row in below.iter_mut().filter(|row| row[place] != 0) {
+                let factor = self.multiply(scale, row[place]);
+                for (x, &y) in row.iter_mut().zip(&above[rank]).skip(place) {
+                    *x ^= self.multiply(factor, y);
+                }
+            }
+            rank += 1;
+        }
+        rank
+    }
+
     /// The rows of the conditions that a word vanishes at α^j.
     pub fn rows(&self, j: usize) -> &[Vec<u64>] {
         &self.planes[j]

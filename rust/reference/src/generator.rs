@@ -5,7 +5,7 @@ use crate::linear;
 use std::sync::OnceLock;
 
 /// A polynomial over 0 and 1, the coefficient of x^0 first, the last one 1.
-type Polynomial = Vec<bool>;
+pub type Polynomial = Vec<bool>;
 
 /// The polynomial of least degree that vanishes at α^j: the first, by number, of which this is true.
 fn minimal(field: &Field, j: usize) -> Polynomial {
@@ -111,6 +111,12 @@ impl Level {
 
     pub fn is_root(&self, j: usize) -> bool {
         self.roots[j]
+    }
+
+    /// What long division of a word by the generator leaves.
+    pub fn remainder(&self, field: &Field, word: &[u64]) -> Polynomial {
+        let coefficients: Polynomial = (0..field.n).map(|k| linear::get(word, k)).collect();
+        divide(&coefficients, &self.generator).1
     }
 
     /// The coefficients of the only polynomial of degree below this level's that has these values at α^1, α^3, ..

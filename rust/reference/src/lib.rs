@@ -10,11 +10,14 @@
 //! - a word is judged by its values at the roots, a nested word is formed by turning, refusals are a list of conditions;
 //! - a shortened sub-word is a full one, of n coefficients, of which a page has the lower n − s;
 //! - that blocks are refused because their page would be blank is seen from the page, which is made first, and so it is of
-//!   an altered page, which is the lent one with the page of one data bit added.
+//!   an altered page, which is the lent one with the page of one data bit added;
+//! - a sub-word is mended by Peterson's decoder: a linear system over GF(2^q) gives the locator, every place is tried in it,
+//!   and what comes of it is divided by g_0; at q = 4 all flips of all multiples are tried beside it (`decode`).
 //!
-//! `calls` has the eleven C calls by these means; a degree is a generator's length less one. `sample` draws inputs from a seed.
+//! `calls` has the twelve C calls by these means; a degree is a generator's length less one. `sample` draws inputs from a seed.
 
 pub mod calls;
+pub mod decode;
 pub mod elimination;
 pub mod encode;
 pub mod field;

@@ -1,4 +1,5 @@
-//! The reference against itself: two encoders, read-back, sums, distance, blank pages, altered bits, shortened sub-words.
+//! The reference against itself: two encoders, read-back, sums, distance, blank pages, altered bits, mended sub-words,
+//! shortened sub-words.
 
 use reference::calls::{BLANK, judge, read_out, write};
 use reference::field::Field;
@@ -8,7 +9,7 @@ use reference::linear;
 use reference::parameters::Sheet;
 use reference::sample::{Random, all_parameters, all_shortened};
 use reference::{Parameters, calls};
-use std::collections::BTreeSet;
+use std::collections::{BTreeMap, BTreeSet};
 
 /// Every sheet of q = 4 with every s.
 fn all_of_q_4() -> impl Iterator<Item = Parameters> {
@@ -318,6 +319,87 @@ fn altered_bits() {
         }
     }
     assert!(altered > 300 && same > 300 && refused > 150, "{altered} altered, {same} the same, {refused} refused");
+}
+
+/// Every word of a sub-word of q = 4, at every t_0 and s that a sheet has, is mended as the flips of all multiples say, or is
+/// not mended at all.
+#[test]
+fn every_word_mended() {
+    let sheets: BTreeMap<(u32, u32), Parameters> = all_of_q_4().map(|p| ((p.t[0], p.s), p)).collect();
+    let [mut mended, mut refused] = [0; 2];
+    for p in sheets.values() {
+        let sheet = Sheet::of(p);
+        for (word, expected) in (0..).zip(sheet.nearest()) {
+            let found = sheet.mending(&[word]);
+            assert_eq!(found.as_ref().map(|places| places.iter().map(|k| 1 << k).sum()), expected, "{p:?}, {word:04X}");
+            assert!(found.iter().all(|places| places.is_sorted()), "{p:?}, {word:04X}");
+            *if expected.is_some() { &mut mended } else { &mut refused } += 1;
+        }
+        // At t_0 = 1 and s = 0 every word is within one flip of a multiple.
+        assert_eq!(sheet.nearest().iter().all(Option::is_some), (p.t[0], p.s) == (1, 0), "{p:?}");
+    }
+    assert!(mended > 100_000 && refused > 50_000, "{mended} mended, {refused} refused");
+}
+
+/// A multiple of g_0 with up to t_0 of its n places flipped is found again if its top s places are 0 and none of them is
+/// flipped. One with a 1 there is not, and neither is another.
+#[test]
+fn flips_found() {
+    let mut random = Random::new(9);
+    let [mut mended, mut refused] = [0; 2];
+    for (q, count) in [(4, 300), (8, 300), (12, 30)] {
+        for _ in 0..count {
+            let p = drawn(&mut random, q);
+            let sheet = Sheet::of(&p);
+            let (n, t) = (sheet.field.n, sheet.levels[0].t);
+            // In the top s places a few ones, or none.
+            let ones = if p.s > 0 { random.from_to(0, t.min(sheet.s)) } else { 0 };
+            let top: BTreeSet<usize> = (0..ones).map(|_| random.from_to(sheet.stored(), n - 1)).collect();
+            let drawn = (sheet.levels[0].degree()..sheet.stored()).filter(|_| random.once_in(2));
+            let mut word = vec![0; n.div_ceil(64)];
+            drawn.chain(top.iter().copied()).for_each(|k| linear::flip(&mut word, k));
+            let rest = sheet.levels[0].remainder(sheet.field, &word);
+            rest.iter().enumerate().for_each(|(k, &bit)| linear::put(&mut word, k, bit));
+            assert!((1..=2 * t).all(|j| sheet.field.value(&word, j) == 0), "{p:?}");
+            // Its top places cut off, so that the word is one of a page.
+            top.iter().for_each(|&k| linear::flip(&mut word, k));
+            let flips = random.from_to(0, t - top.len());
+            let places: BTreeSet<usize> = (0..flips).map(|_| random.from_to(0, sheet.stored() - 1)).collect();
+            places.iter().for_each(|&k| linear::flip(&mut word, k));
+            let expected = top.is_empty().then(|| places.into_iter().collect());
+            assert_eq!(sheet.mending(&word), expected, "{p:?}");
+            *if expected.is_some() { &mut mended } else { &mut refused } += 1;
+        }
+    }
+    assert!(mended > 300 && refused > 100, "{mended} mended, {refused} refused");
+}
+
+/// Solutions of systems of equations satisfy them, and there are none where the rank is too small.
+#[test]
+fn systems_of_equations() {
+    let mut random = Random::new(10);
+    for q in [4, 8, 12] {
+        let field = Field::of(q);
+        let sum = |row: &[u16], by: &[u16]| row.iter().zip(by).fold(0, |sum, (&x, &y)| sum ^ field.multiply(x, y));
+        let [mut solved, mut singular] = [0; 2];
+        for _ in 0..300 {
+            let size = random.from_to(1, 8);
+            let mut element = || random.from_to(0, field.n) as u16;
+            let mut rows: Vec<Vec<u16>> = (0..size).map(|_| (0..size).map(|_| element()).collect()).collect();
+            let [solution, factors]: [Vec<u16>; 2] = [(); 2].map(|()| (0..size).map(|_| element()).collect());
+            if size > 1 && random.once_in(3) {
+                // The last row a sum of the others by some factors.
+                let column = |k: usize| rows[..size - 1].iter().map(|row| row[k]).collect::<Vec<u16>>();
+                rows[size - 1] = (0..size).map(|k| sum(&column(k), &factors)).collect();
+            }
+            let rank = field.rank(rows.clone());
+            let equations = rows.iter().map(|row| [&row[..], &[sum(row, &solution)]].concat()).collect();
+            let found = field.solve(equations);
+            assert_eq!(found, (rank == size).then_some(solution), "q = {q}, {rows:?}");
+            *if rank == size { &mut solved } else { &mut singular } += 1;
+        }
+        assert!(solved > 100 && singular > 50, "q = {q}: {solved} solved, {singular} not");
+    }
 }
 
 /// A page of ones is blank, whatever its spare bits are. At s = 0 it passes every condition of the code, at s > 0 its first

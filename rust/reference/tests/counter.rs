@@ -2,8 +2,8 @@
 //! cases of shortened sub-words.
 
 use reference::calls::{
-    BLANK, QUOTE_BYTES, alter, data_bytes, distance, judge, nested_syndromes, page_bytes, quote, read_out, syndromes,
-    write, write_many,
+    BLANK, QUOTE_BYTES, alter, data_bytes, distance, judge, mend, nested_syndromes, page_bytes, quote, read_out,
+    syndromes, write, write_many,
 };
 use reference::field::Field;
 use reference::generator::Level;
@@ -12,6 +12,7 @@ use std::collections::BTreeSet;
 
 const A: Parameters = Parameters::full(4, 2, 1, [1, 2, 0, 0]);
 const B: Parameters = Parameters::full(4, 3, 2, [1, 2, 3, 0]);
+const C: Parameters = Parameters::full(4, 2, 1, [2, 3, 0, 0]);
 const LARGE: Parameters = Parameters::full(12, 8, 3, [28, 32, 39, 58]);
 
 fn number(generator: &[bool]) -> u64 {
@@ -335,6 +336,77 @@ fn alterations_refused() {
     }
     assert_eq!(judge(&A, &[0x2E, 0x7E, 0xFF, 0x7F]), 0);
     assert_eq!(judge(&A.shortened(6), &[0x2E, 0x00, 0xFF, 0x01]), 32);
+}
+
+/// Sheet A: g_0 is 13 00, of strength 1; sheet C: D1 01, of strength 2. What differs from a multiple in few places is that
+/// multiple afterwards, and the other sub-word stays.
+#[test]
+fn mended_sub_words() {
+    for (p, page, index, expected, places) in [
+        (A, [0xC2, 0x01, 0x13, 0x00], 0, [0xC2, 0x01, 0x13, 0x00], &[][..]),
+        (A, [0xC2, 0x01, 0x33, 0x00], 0, [0xC2, 0x01, 0x33, 0x00], &[]),
+        (A, [0xC2, 0x01, 0x33, 0x00], 1, [0xC2, 0x01, 0x13, 0x00], &[5]),
+        (A, [0xC2, 0x41, 0x33, 0x00], 0, [0xC2, 0x01, 0x33, 0x00], &[14]),
+        (A, [0x00, 0x00, 0x01, 0x00], 1, [0x00, 0x00, 0x00, 0x00], &[0]),
+        // Two flips of 0: 1 + x + x^4 is nearer.
+        (A, [0x03, 0x00, 0x00, 0x00], 0, [0x13, 0x00, 0x00, 0x00], &[4]),
+        // A blank page, and one flip of it: x^14 + .. + 1 is a multiple of every generator.
+        (A, [0xFF, 0x7F, 0xFF, 0x7F], 1, [0xFF, 0x7F, 0xFF, 0x7F], &[]),
+        (A, [0xFF, 0x7F, 0xFF, 0x7E], 1, [0xFF, 0x7F, 0xFF, 0x7F], &[8]),
+        (C, [0xD1, 0x01, 0x00, 0x00], 0, [0xD1, 0x01, 0x00, 0x00], &[]),
+        (C, [0xD0, 0x41, 0x00, 0x00], 0, [0xD1, 0x01, 0x00, 0x00], &[0, 14]),
+        (C, [0xD0, 0x41, 0x00, 0x09], 1, [0xD0, 0x41, 0x00, 0x00], &[8, 11]),
+        (C.shortened(4), [0x00, 0x00, 0x00, 0x06], 1, [0x00, 0x00, 0x00, 0x00], &[9, 10]),
+        (A.shortened(6), [0x00, 0x01, 0x02, 0x00], 0, [0x00, 0x00, 0x02, 0x00], &[8]),
+    ] {
+        let mut listed = vec![0xA5; 2 * p.t[0] as usize];
+        let (mut mended, mut flips) = (page, 0xA5);
+        assert_eq!(mend(&p, &mut mended, index, &mut listed, &mut flips), 0, "{p:?}, {page:02X?}");
+        assert_eq!((mended, usize::from(flips)), (expected, places.len()), "{p:?}, {page:02X?}");
+        let numbers: Vec<u16> = listed.chunks(2).map(|pair| u16::from_le_bytes([pair[0], pair[1]])).collect();
+        let fillers = numbers.len() - places.len();
+        assert_eq!(numbers, [places, &[65535; 2][..fillers]].concat(), "{p:?}, {page:02X?}");
+    }
+}
+
+/// What refuses to mend, and in which order; every byte stays.
+#[test]
+fn sub_words_not_mended() {
+    const MOST: u32 = u32::MAX;
+    for (p, page, index, length, expected) in [
+        (Parameters { q: 5, ..A }, &[0xFF; 3][..], MOST, 0, 1),
+        (Parameters { m: 1, ..A }, &[0xFF; 3], MOST, 0, 2),
+        (Parameters { t: [2, 2, 0, 0], ..A }, &[0xFF; 3], MOST, 0, 3),
+        (Parameters::full(4, 4, 2, [1, 2, 3, 0]).shortened(MOST), &[0xFF; 3], MOST, 0, 4),
+        (A.shortened(7), &[0xFF; 3], MOST, 0, 14),
+        (A, &[0xFF; 3], MOST, 0, 7),
+        (A, &[0x00; 5], 0, 2, 7),
+        (A, &[], 0, 2, 7),
+        // A spare bit anywhere, of an erased page too.
+        (A, &[0xFF; 4], MOST, 0, 8),
+        (A, &[0xFF; 4], 0, 2, 8),
+        (A, &[0x00, 0x00, 0x00, 0x80], 0, 2, 8),
+        (A, &[0x00, 0x80, 0x00, 0x00], 1, 2, 8),
+        (A, &[0x00; 4], 2, 2, 9),
+        (A, &[0x00; 4], MOST, 0, 9),
+        (A, &[0x00; 4], 0, 0, 10),
+        (A, &[0x00; 4], 0, 1, 10),
+        (A, &[0x00; 4], 1, 3, 10),
+        (A, &[0x00; 4], 1, 4, 10),
+        (C, &[0x00; 4], 0, 6, 10),
+        // 1 + x + x^3 differs from every multiple in at least three places; the length comes first.
+        (C, &[0x0B, 0x00, 0x00, 0x00], 0, 2, 10),
+        (C, &[0x0B, 0x00, 0x00, 0x00], 0, 4, 15),
+        // x^10 + x^7 + x^6 and x^14 + x^11 + x^10 without their highest places, which are not stored.
+        (A.shortened(5), &[0xC0, 0x00, 0x00, 0x00], 0, 2, 15),
+        (A.shortened(1), &[0x00, 0x00, 0x00, 0x0C], 1, 2, 15),
+        // Ones in fewer than n places.
+        (C.shortened(4), &[0xFF, 0x07, 0xFF, 0x07], 0, 4, 15),
+    ] {
+        let (mut lent, mut listed, mut flips) = (page.to_vec(), vec![0xA5; length], 0xA5);
+        assert_eq!(mend(&p, &mut lent, index, &mut listed, &mut flips), expected, "{p:?}, {page:02X?}, {index}");
+        assert_eq!((&lent[..], listed, flips), (page, vec![0xA5; length], 0xA5), "{p:?}, {page:02X?}, {index}");
+    }
 }
 
 /// Input 04 02 01 08 01 02 01 01 00 of the writer program gives 00 C2 01 13 00; empty input, all numbers 0, gives 01.

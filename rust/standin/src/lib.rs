@@ -4,10 +4,11 @@
 //! `faults.sh` has the list and asks that the tests find each.
 
 use reference::calls::BLANK;
+use reference::decode::locate;
 use reference::generator::{Level, odd};
 use reference::layout::{add, bit, flip, set};
 use reference::parameters::Sheet;
-use reference::{Parameters, calls, generator, linear};
+use reference::{Parameters, calls, linear};
 use std::cell::Cell;
 use std::collections::BTreeSet;
 use std::hint::black_box;
@@ -186,8 +187,7 @@ fn level_0_only(p: &Parameters, blocks: &[u8], page: &mut [u8]) {
     let sheet = Sheet::of(p);
     let mut words = sheet.words_of_blocks(blocks);
     for word in &mut words {
-        let coefficients: Vec<bool> = (0..sheet.field.n).map(|k| linear::get(word, k)).collect();
-        let rest = generator::divide(&coefficients, &sheet.levels[0].generator).1;
+        let rest = sheet.levels[0].remainder(sheet.field, word);
         rest.iter().enumerate().for_each(|(k, &bit)| linear::put(word, k, bit));
     }
     sheet.put_page(&words, page);
@@ -629,6 +629,257 @@ fn alter(p: &Parameters, page: &mut [u8], block: u32, bit: u32, value: u32) -> u
     if fault("alter-answers-verdict") { verdict } else { 0 }
 }
 
+/// The refusal of mend but 15, by its tests in the order that the fault gives them.
+fn mend_refusal(p: &Parameters, page: &[u8], index: u32, length: usize) -> u32 {
+    match p.refusal() {
+        14 if fault("mend-page-before-14") && page.len() != Sheet::of(&p.shortened(0)).page_bytes() => return 7,
+        14 if fault("mend-index-before-14") && index >= p.m => return 9,
+        0 => {}
+        number => return number,
+    }
+    let sheet = Sheet::of(p);
+    let exact = page.len() == sheet.page_bytes();
+    let spare_bits_of = |i: usize| (0..sheet.spare_bits()).any(|b| bit(page, sheet.place(i, sheet.stored() + b)));
+    let stray = || match () {
+        _ if fault("mend-stray-missed") => false,
+        _ if fault("mend-stray-of-the-sub-word") => index < p.m && spare_bits_of(index as usize),
+        _ if fault("mend-stray-of-the-last") => spare_bits_of(sheet.m - 1),
+        _ if fault("mend-erased-taken") => sheet.page_stray(page) && !sheet.blank(page),
+        _ => sheet.page_stray(page),
+    };
+    let end = match () {
+        _ if fault("mend-index-m") => p.m + 1,
+        _ if fault("mend-index-one-fewer") => p.m - 1,
+        _ if fault("mend-index-by-v") => p.v + 1,
+        _ => p.m,
+    };
+    let bytes = match () {
+        _ if fault("mend-list-as-syndromes") => 4 * p.t[0] as usize,
+        _ if fault("mend-list-by-level-v") => 2 * p.t[p.v as usize] as usize,
+        _ => 2 * p.t[0] as usize,
+    };
+    let fits = match () {
+        _ if fault("mend-list-longer") => length >= bytes,
+        _ if fault("mend-list-odd") => length / 2 == bytes / 2,
+        _ if fault("mend-list-modulo-2-8") => length >= bytes && (length - bytes) % (1 << 8) == 0,
+        _ => length == bytes,
+    };
+    let met = |condition: &u32| match *condition {
+        7 if fault("mend-full-page") => page.len() != full_page_bytes(p),
+        7 => !exact,
+        8 => exact && stray(),
+        9 => index >= end,
+        10 => !fits,
+        BLANK => exact && sheet.blank(page),
+        _ => exact && index < p.m && sheet.mending(&sheet.words_of(page)[index as usize]).is_none(),
+    };
+    let order: &[u32] = match () {
+        _ if fault("mend-index-before-page") => &[9, 7, 8, 10],
+        _ if fault("mend-index-before-stray") => &[7, 9, 8, 10],
+        _ if fault("mend-index-any") => &[7, 8, 10],
+        _ if fault("mend-list-before-page") => &[10, 7, 8, 9],
+        _ if fault("mend-list-before-stray") => &[7, 10, 8, 9],
+        _ if fault("mend-list-before-index") => &[7, 8, 10, 9],
+        _ if fault("mend-15-before-list") => &[7, 8, 9, 15, 10],
+        _ if fault("mend-13-before-stray") => &[7, BLANK, 8, 9, 10],
+        _ if fault("mend-13-of-the-lent") => &[7, 8, 9, 10, BLANK],
+        _ => &[7, 8, 9, 10],
+    };
+    match order.iter().copied().find(met) {
+        Some(BLANK) => 13,
+        number => number.unwrap_or(0),
+    }
+}
+
+/// The places at which mend flips a word of sub-word i.
+fn mend_places(sheet: &Sheet, word: &[u64], i: usize) -> Option<Vec<usize>> {
+    let Sheet { field, m, v, s, .. } = *sheet;
+    let (t, stored) = (sheet.levels[0].t, sheet.stored());
+    let found = sheet.mending(word);
+    let full = || Sheet { field, m, v, s: 0, levels: sheet.levels.clone() }.mending(word);
+    let by_level = |level| Sheet { field, m, v, s, levels: vec![level] }.mending(word).filter(|found| found.len() <= t);
+    match () {
+        _ if fault("mend-no-last-look") => {
+            locate(field, t, word).filter(|found| found.iter().all(|&place| place < stored))
+        }
+        _ if fault("mend-one-more") && found.is_none() && field.q == 4 => (0..stored).find_map(|k| {
+            let mut other = word.to_vec();
+            linear::flip(&mut other, k);
+            let others = sheet.mending(&other).filter(|found| !found.contains(&k))?;
+            Some(BTreeSet::from_iter(others.into_iter().chain([k])).into_iter().collect())
+        }),
+        _ if fault("mend-one-fewer") => found.filter(|found| found.len() < t),
+        _ if fault("mend-search-to-n") => full(),
+        _ if fault("mend-unstored-dropped") => full().map(|found| found.into_iter().filter(|&k| k < stored).collect()),
+        _ if fault("mend-last-place-missed") => found.filter(|found| !found.contains(&(stored - 1))),
+        _ if fault("mend-place-0-missed") => found.filter(|found| !found.contains(&0)),
+        _ if fault("mend-check-bits-missed") => {
+            found.filter(|found| found.iter().all(|&k| k >= sheet.levels[0].degree()))
+        }
+        _ if fault("mend-by-level-1") => by_level(sheet.levels[1]),
+        _ if fault("mend-by-own-level") => by_level(sheet.level(i)),
+        _ if fault("mend-fault-free-15") => found.filter(|found| !found.is_empty()),
+        _ => found,
+    }
+}
+
+/// Lists the places that mend flips in sub-word i.
+fn mend_list(sheet: &Sheet, i: usize, found: &[usize], list: &mut [u8]) {
+    let (n, t) = (sheet.field.n, sheet.levels[0].t);
+    let number = |&k: &usize| match () {
+        _ if fault("mend-places-from-the-end") => sheet.stored() - 1 - k,
+        _ if fault("mend-places-inverse") => (n - k) % n,
+        _ if fault("mend-places-from-1") => k + 1,
+        _ if fault("mend-places-from-the-top") => k + sheet.s,
+        _ if fault("mend-places-of-the-page") => sheet.place(i, k),
+        _ if fault("mend-low-byte-alone") => k % (1 << 8),
+        _ => k,
+    };
+    let filler = match () {
+        _ if fault("mend-filler-0") => 0,
+        _ if fault("mend-filler-255") => 255,
+        _ if fault("mend-filler-n") => n as u16,
+        _ => calls::NO_PLACE,
+    };
+    let mut numbers: Vec<u16> = found.iter().map(|k| number(k) as u16).collect();
+    if fault("mend-falling") {
+        numbers.reverse();
+    }
+    if fault("mend-last-entry-left") && numbers.len() == t {
+        numbers.pop();
+    }
+    numbers.resize(t, filler);
+    if fault("mend-fillers-first") {
+        numbers.rotate_left(found.len().min(t));
+    }
+    let bytes = if fault("mend-high-byte-first") { u16::to_be_bytes } else { u16::to_le_bytes };
+    let written = match () {
+        _ if fault("mend-filler-left") => found.len(),
+        _ if fault("mend-list-left") || fault("mend-list-left-at-0") && found.is_empty() => 0,
+        _ => t,
+    };
+    // What a longer list has behind these numbers stays.
+    for (pair, number) in list.chunks_exact_mut(2).zip(numbers).take(written) {
+        pair.copy_from_slice(&bytes(number));
+    }
+}
+
+fn mend(p: &Parameters, page: &mut [u8], index: u32, places: &mut [u8], flips: &mut u8) -> u32 {
+    let index = match () {
+        _ if fault("mend-index-modulo-2-8") => index % (1 << 8),
+        _ if fault("mend-index-modulo-2-16") => index % (1 << 16),
+        _ => index,
+    };
+    let number = mend_refusal(p, page, index, places.len());
+    if number != 0 {
+        if fault("mend-refusal-writes") && (number == 9 || number == 10) {
+            page[0] ^= 1;
+        }
+        if fault("mend-refusal-lists") {
+            places.fill(0xFF);
+        }
+        if fault("mend-refusal-counts") {
+            *flips = 0;
+        }
+        leave(number, places);
+        return leave(number, page);
+    }
+    let sheet = Sheet::of(p);
+    // Done, with nothing that could be mended.
+    if page.len() != sheet.page_bytes() {
+        return 0;
+    }
+    let i = index as usize % sheet.m;
+    let words = sheet.words_of(page);
+    let taken = &words[if fault("mend-reads-sub-word-0") { 0 } else { i }];
+    let mut found = mend_places(&sheet, taken, i);
+    if let Some(found_places) = &found {
+        let mut mended = page.to_vec();
+        found_places.iter().filter(|&&k| k < sheet.stored()).for_each(|&k| flip(&mut mended, sheet.place(i, k)));
+        let no_multiple = |word: &Vec<u64>| !sheet.levels[0].remainder(sheet.field, word).is_empty();
+        if fault("mend-members-only") && calls::verdict(&sheet, &mended) != 0
+            || fault("mend-others-asked") && sheet.words_of(&mended).iter().any(no_multiple)
+        {
+            found = None;
+        }
+        if fault("mend-13-of-the-mended") && sheet.blank(&mended) {
+            return 13;
+        }
+    }
+    if fault("mend-blank-passed") && sheet.blank(page) {
+        found = Some(Vec::new());
+    }
+    let Some(found) = found else {
+        if fault("mend-15-half-written") {
+            flip(page, sheet.place(i, 0));
+        }
+        if fault("mend-15-lists") || fault("mend-no-15") {
+            places.fill(0xFF);
+        }
+        if fault("mend-15-counts") || fault("mend-no-15") {
+            *flips = 0;
+        }
+        return match () {
+            _ if fault("mend-no-15") => 0,
+            _ if fault("mend-15-as-9") => 9,
+            _ if fault("mend-15-as-verdict") => 32 + index,
+            _ => leave(15, page),
+        };
+    };
+    let old = page.to_vec();
+    let put_into = match () {
+        _ if fault("mend-into-sub-word-0") => 0,
+        _ if fault("mend-into-the-next") => (i + 1) % sheet.m,
+        _ => i,
+    };
+    for &k in found.iter().filter(|&&k| k < sheet.stored() && !fault("mend-page-left")) {
+        let place = sheet.place(put_into, k);
+        if bit(page, place) || !fault("mend-clears-only") {
+            flip(page, place);
+        }
+    }
+    if fault("mend-all-sub-words") {
+        for (k, word) in words.iter().enumerate().filter(|&(k, _)| k != i) {
+            sheet.mending(word).into_iter().flatten().for_each(|place| flip(page, sheet.place(k, place)));
+        }
+    }
+    let last = page.len() - 1;
+    if fault("mend-last-byte-left") {
+        page[last] = old[last];
+    }
+    if fault("mend-next-byte-cleared") && i + 1 < sheet.m {
+        page[(i + 1) * sheet.sub_word_bytes()] = 0;
+    }
+    if fault("mend-spare-set") && sheet.spare_bits() > 0 && !found.is_empty() {
+        set(page, sheet.place(i, sheet.stored()));
+    }
+    if fault("mend-one-strength") && p.t[0] == 63 {
+        flip(page, sheet.place(i, 0));
+    }
+    mend_list(&sheet, i, &found, places);
+    *flips = match () {
+        _ if fault("mend-count-off") => found.len() as u8 + 1,
+        _ if fault("mend-count-of-the-list") => p.t[0] as u8,
+        _ if fault("mend-count-bytes") => 2 * found.len() as u8,
+        _ if fault("mend-count-left-at-0") && found.is_empty() || fault("mend-count-left") => *flips,
+        _ => found.len() as u8,
+    };
+    if fault("mend-overrun") {
+        unsafe { *black_box(page.as_mut_ptr()).add(page.len()) = 0 };
+    }
+    if fault("mend-list-overrun") {
+        unsafe { *black_box(places.as_mut_ptr()).add(places.len()) = 0xFF };
+    }
+    if fault("mend-count-overrun") {
+        unsafe { *black_box(std::ptr::from_mut(flips)).add(1) = 0 };
+    }
+    match () {
+        _ if fault("mend-answers-flips") => found.len() as u32,
+        _ if fault("mend-answers-verdict") => calls::verdict(&sheet, page),
+        _ => 0,
+    }
+}
+
 fn read_out(p: &Parameters, page: &[u8], blocks: &mut [u8]) -> u32 {
     let erased = sheet_of(p, page).filter(|sheet| sheet.blank(page));
     let cut = erased.as_ref().is_some_and(|sheet| blocks.len() != sheet.blocks_bytes());
@@ -830,6 +1081,8 @@ exported! {
             from_raw_parts_mut(list, list_len));
     gii_alter(page: *mut u8, page_len: usize, block: u32, bit: u32, value: u32)
         = alter(from_raw_parts_mut(page, page_len), block, bit, value);
+    gii_mend(page: *mut u8, page_len: usize, index: u32, places: *mut u8, places_len: usize, flips: *mut u8)
+        = mend(from_raw_parts_mut(page, page_len), index, from_raw_parts_mut(places, places_len), &mut *flips);
     gii_read_out(page: *const u8, page_len: usize, blocks: *mut u8, blocks_len: usize)
         = read_out(from_raw_parts(page, page_len), from_raw_parts_mut(blocks, blocks_len));
     gii_judge(page: *const u8, page_len: usize)

@@ -29,7 +29,6 @@ cast-flip c = let l = c .before .before .before in record { fits = Nat.lt-of-lt-
 
 flip-requires : tie.Need-flip-requires Inv-loop μ-loop
 flip-requires c κs =
- 
     let l = c .before .before .before in
     let s = l .before .before .before in
     omega (arith, s .pre .1 .below (l .loop .j) (c .before .before .loop-test .taken), l .loop .inv .0 .size)
@@ -53,7 +52,6 @@ same-length c = search needs
 
 returns : tie.Need-returns Inv-loop μ-loop
 returns c =
- 
     let l = c .before in
     let s = l .before .before .before in
     let e : l .loop .j ≡ s .args .c = omega (arith, l .loop .inv .1, c .loop-test .left) in

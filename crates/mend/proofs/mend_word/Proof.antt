@@ -7,6 +7,8 @@ use native.Mathlib.Omega.{arith}
 use lib.Dec.{leb, lit<}
 use lib.ListN.{length, getD, take}
 use Rattle.polynomial.specs.Digits.{value}
+use Rattle.polynomial.specs.Xor.{xor}
+use Rattle.field.specs.Flips.{flips}
 use Rattle.locator.specs.Locate.{kept}
 use Rattle.code.specs.declared.Parameters.{Parameters}
 use Rattle.code.specs.Accepted.{accepted, rising}
@@ -16,6 +18,7 @@ use Rattle.code.specs.Mend.{word-low}
 use Rattle.code.specs.Parameters.{stored, strength}
 use Rattle.code.specs.Placement.{word-at}
 use Rattle.layout.specs.SubWords.{part-is}
+use Rattle.layout.specs.Written.{written}
 use Rattle.mend.specs.Call.{found-flips, found-long, found-none, found-places, found-some, mend-made, mend-nowhere, written-flipped}
 use Rattle.mend.proofs.mend_word.Statement.{statement}
 use Rattle.mend.proofs.mend_word.Tie as tie
@@ -60,8 +63,16 @@ module _ (i : tie.Else1) where
   abbrev count : ℕ
   count = c k
 
+  most : count ≤ s k .args .t
+  most = omega (arith, i .if1 .left)
+
   counts : count ≤ length (list k)
-  counts = omega (arith, i .if1 .left, few (s k), i .before .list2 .given)
+  counts = omega (arith, most, few (s k), i .before .list2 .given)
+
+-- and flipped
+flips-in : (f : tie.After-flip-in) → (let i = f .before .before .before in
+    f .flip-in .last .1 .0 ≡ written (p (k i)) (x (k i)) (s (k i) .args .i) (xor (word (k i)) (flips (take (count i) (list (k i))))))
+flips-in f = f .flip-in .ensures
 
 sub-word-requires : tie.Need-sub-word-requires
 sub-word-requires c κs = search needs
@@ -93,7 +104,7 @@ flip-in-requires : tie.Need-flip-in-requires
 flip-in-requires c κs =
     let i = c .before .before in
     let u = s (k i) .pre .0 in
-    (u .accepted, u .page .exact, u .index, counts i, found-places (p (k i)) (u .accepted) (word (k i)) (within i) _ _ _ (found (k i)) (i .if1 .left) (counts i))
+    (u .accepted, u .page .exact, u .index, counts i, found-places (p (k i)) (u .accepted) (word (k i)) (within i) _ _ _ (found (k i)) (most i) (counts i))
 
 slice-aggregate-list-into : tie.Need-slice-aggregate-list-into
 slice-aggregate-list-into c = search needs
@@ -102,12 +113,12 @@ list-into-requires : tie.Need-list-into-requires
 list-into-requires c κs =
     let i = c .before .before .before .before .before .before .before in
     let u = s (k i) .pre .0 in
-    (counts i, omega (arith, u .list, i .if1 .left, s (k i) .pre .1))
+    (counts i, omega (arith, u .list, most i, s (k i) .pre .1))
 
 cast-flips : tie.Need-cast-flips
 cast-flips c =
     let i = c .before .before .before .before .before .before .before .before .before .before in
-    record { fits = Nat.lt-of-le-of-lt (Nat.le-trans (i .if1 .left) (few (s (k i)))) (lit< tt) }
+    record { fits = Nat.lt-of-le-of-lt (Nat.le-trans (most i) (few (s (k i)))) (lit< tt) }
 
 same-length-2 : tie.Need-same-length-2
 same-length-2 c = search needs
@@ -123,10 +134,10 @@ returns-2 c =
     let a = s (k i) .args in
     let u = s (k i) .pre .0 in
     let Q = take (count i) (list (k i)) in
-    let r = found-flips (a .p) (u .accepted) (word (k i)) (within i) _ _ _ (found (k i)) (i .if1 .left) .rising in
+    let r = found-flips (a .p) (u .accepted) (word (k i)) (within i) _ _ _ (found (k i)) (most i) .rising in
     mend-made (a .p) (a .page .now) (a .i) (a .places .now) (a .flips .now) u Q _ _ _
-    (found-some (a .p) (u .accepted) (word (k i)) (within i) _ _ _ (found (k i)) (i .if1 .left))
-    (f .flip-in .ensures ∙ written-flipped (a .p) (u .accepted) (a .page .now) (u .page) (a .i) (u .index) Q r)
+    (found-some (a .p) (u .accepted) (word (k i)) (within i) _ _ _ (found (k i)) (most i))
+    (flips-in f ∙ written-flipped (a .p) (u .accepted) (a .page .now) (u .page) (a .i) (u .index) Q r)
     (l .list-into .ensures ∙ ap (λ (n : ℕ). placeList n Q) (u .list ∙ Nat.one-mul (strength (a .p) 0)))
     (sym (found-long (a .p) (u .accepted) (word (k i)) (within i) _ _ _ (found (k i)) (counts i)))
 

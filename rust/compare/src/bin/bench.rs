@@ -7,14 +7,16 @@
 //! Samples of all rows take turns, so that a disturbance of the machine falls on all. Buffers are not cleared between
 //! calls, and the data are drawn once. The reference keeps its generators and tables between calls, the archive nothing.
 //! The time of a write of 16 pages is that of each: a sixteenth of the call's. A bit is altered to and fro, so that each call
-//! changes the page.
-//! Last, write on shortened sub-words in times of write on full ones, 16 pages in one call in times of single calls, and an
-//! altered bit in times of a write; ends with status 1 where one is above its limit.
+//! changes the page. A sub-word is damaged anew before each call that mends it, by a copy of the page, which is timed with it.
+//! Last, write on shortened sub-words in times of write on full ones, 16 pages in one call in times of single calls, an
+//! altered bit in times of a write, and a mended sub-word in times of a CRC-32; ends with status 1 where one is above its
+//! limit.
 
-use compare::call::{Call, Name};
+use compare::call::{Call, Name, Side};
 use compare::draw::many;
 use compare::work::{
-    ALTER_LIMITS, LIMIT, MANY_LIMIT, PAGES, WIDTHS, alter_stated, alterations, altering, many_stated, stated, within,
+    ALTER_LIMITS, CRC_BYTES, LIMIT, MANY_LIMIT, MEND_LIMITS, PAGES, STRONGEST, WIDTHS, alter_stated, alterations,
+    altering, crc, crc_table, many_stated, mend_stated, mendings, stated, title, within,
 };
 use reference::Parameters;
 use reference::calls::QUOTE_BYTES;
@@ -78,28 +80,19 @@ struct Row {
     sides: Vec<(&'static str, Timed)>,
 }
 
-fn crc_table() -> [u32; 256] {
-    std::array::from_fn(|byte| (0..8).fold(byte as u32, |c, _| if c & 1 == 1 { c >> 1 ^ 0xEDB8_8320 } else { c >> 1 }))
-}
-
-/// CRC-32, a byte at a time.
-fn crc(table: &[u32; 256], bytes: &[u8]) -> u32 {
-    !bytes.iter().fold(!0, |c, &byte| c >> 8 ^ table[(c as u8 ^ byte) as usize])
-}
-
 fn rows() -> Vec<Row> {
     let mut random = Random::new(1);
     let plain = |call, run: Timed| Row {
         sheet: String::new(),
         call,
         width: String::new(),
-        bytes: 4096,
+        bytes: CRC_BYTES,
         sides: vec![("", run)],
     };
 
-    let (from, mut to) = (random.bytes(4096), vec![0; 4096]);
+    let (from, mut to) = (random.bytes(CRC_BYTES), vec![0; CRC_BYTES]);
     let memcpy = Timed::new(1, move || black_box(&mut to[..]).copy_from_slice(black_box(&from)));
-    let (table, bytes) = (crc_table(), random.bytes(4096));
+    let (table, bytes) = (crc_table(), random.bytes(CRC_BYTES));
     assert_eq!(crc(&table, b"123456789"), 0xCBF4_3926);
     let crc = Timed::new(1, move || {
         black_box(crc(black_box(&table), black_box(&bytes)));
@@ -107,7 +100,36 @@ fn rows() -> Vec<Row> {
 
     let mut rows = vec![plain("memcpy", memcpy), plain("CRC-32", crc)];
     rows.extend(SHEETS.into_iter().flat_map(|p| sheet_rows(&mut random, p)));
+    rows.extend(mend_rows(STRONGEST));
     rows
+}
+
+/// A call, made over and over to the archive and to the reference.
+fn row(name: &'static str, width: String, call: Call) -> Row {
+    let bytes = if call.name.has_page() { Sheet::of(&call.p).page_bytes() } else { 0 };
+    let outcome = call.outcome(Call::by_reference);
+    assert!(!call.name.refuses(outcome.number) || outcome.number == 15, "{name} is refused by {}", outcome.number);
+    let pages = if call.name == Name::WriteMany { PAGES } else { 1 };
+    assert!(pages == 1 || outcome.list.iter().all(|&listed| listed == 0), "{name} lists {:?}", outcome.list);
+    let timed = |side: Side| {
+        let (mut call, mut lent, mut list, mut flips) = (call.clone(), call.lent.clone(), call.list.clone(), 0);
+        Timed::new(pages, move || {
+            if call.name == Name::Mend {
+                lent.copy_from_slice(&call.lent);
+            }
+            let (read, lent, list) = (black_box(&call.read), black_box(&mut lent), black_box(&mut list));
+            assert_eq!(side(black_box(&call), read, lent, list, black_box(&mut flips)), outcome.number);
+            // To and fro; of no meaning to any call but alter.
+            call.value ^= 1;
+        })
+    };
+    let sides = vec![("archive", timed(Call::by_archive)), ("reference", timed(Call::by_reference))];
+    Row { sheet: title(&call.p), call: name, width, bytes, sides }
+}
+
+/// Sub-words of a member mended, with more and more flips.
+fn mend_rows(p: Parameters) -> Vec<Row> {
+    mendings(&p).map(|(name, call)| row(name, String::new(), call)).into()
 }
 
 /// Drawn blocks, unused bits 0.
@@ -120,62 +142,31 @@ fn drawn_blocks(random: &mut Random, sheet: &Sheet) -> Vec<u8> {
 /// Every call on a member of drawn data.
 fn sheet_rows(random: &mut Random, p: Parameters) -> Vec<Row> {
     let sheet = Sheet::of(&p);
-    let t: Vec<String> = p.t[..=p.v as usize].iter().map(u32::to_string).collect();
-    let shortened = if p.s == 0 { String::new() } else { format!(" s {}", p.s) };
-    let title = format!("q {} m {} v {} t {}{shortened}", p.q, p.m, p.v, t.join(" "));
     let blocks = drawn_blocks(random, &sheet);
     let mut page = vec![0; sheet.page_bytes()];
     let write = |number| Call::new(Name::Write, &p, number, blocks.clone(), vec![0; sheet.page_bytes()]);
-    assert_eq!(write(64).by_reference(&blocks, &mut page, &mut []), 0);
+    assert_eq!(write(64).by_reference(&blocks, &mut page, &mut [], &mut 0), 0);
     let read = |name, lent| Call::new(name, &p, 0, page.clone(), vec![0; lent]);
     let without_page = |name, lent| Call::new(name, &p, 0, Vec::new(), vec![0; lent]);
     let sets: Vec<Vec<u8>> = (0..PAGES).map(|_| drawn_blocks(random, &sheet)).collect();
     let write_many = many(random, &p, &sets);
 
-    let row = |call: Call| {
-        let (name, width) = match call.name {
-            Name::Write => ("write", call.number.to_string()),
-            Name::WriteMany => ("write of 16 pages (each)", call.number.to_string()),
-            Name::Alter => {
-                let named = |(_, block, bit): &(_, u32, u32)| (*block, *bit) == (call.number, call.bit);
-                (alterations(&p).into_iter().find(named).unwrap().0, String::new())
-            }
-            Name::ReadOut => ("read out", String::new()),
-            Name::Judge => ("judge", String::new()),
-            Name::Syndromes => ("syndromes", String::new()),
-            Name::NestedSyndromes => ("nested syndromes", String::new()),
-            Name::Quote => ("quote", String::new()),
-            Name::PageBytes => ("page bytes", String::new()),
-            Name::DataBytes => ("data bytes", String::new()),
-            Name::Distance => ("distance", String::new()),
-        };
-        let bytes = if call.name.has_page() { sheet.page_bytes() } else { 0 };
-        let mut list = call.list.clone();
-        let answer = call.by_reference(&call.read, &mut call.lent.clone(), &mut list);
-        assert!(!call.name.refuses(answer), "{name} is refused by {answer}");
-        assert!(list.iter().all(|&listed| listed == 0), "{name} lists {list:?}");
-        let pages = if call.name == Name::WriteMany { PAGES } else { 1 };
-        let timed = |made: fn(&Call, &[u8], &mut [u8], &mut [u8]) -> u32| {
-            let (mut call, mut lent, mut list) = (call.clone(), call.lent.clone(), call.list.clone());
-            Timed::new(pages, move || {
-                let number = made(black_box(&call), black_box(&call.read), black_box(&mut lent), black_box(&mut list));
-                assert_eq!(number, answer);
-                // To and fro; of no meaning to any call but alter.
-                call.value ^= 1;
-            })
-        };
-        let sides = vec![("archive", timed(Call::by_archive)), ("reference", timed(Call::by_reference))];
-        Row { sheet: title.clone(), call: name, width, bytes, sides }
-    };
-    let mut rows: Vec<Row> = WIDTHS.into_iter().map(|width| row(write(width))).collect();
-    rows.extend(WIDTHS.into_iter().map(|width| row(Call { number: width, ..write_many.clone() })));
-    rows.extend(alterations(&p).map(|(_, block, bit)| row(altering(&p, &page, block, bit))));
-    rows.push(row(read(Name::ReadOut, blocks.len())));
-    rows.push(row(read(Name::Judge, 0)));
-    rows.push(row(read(Name::Syndromes, 4 * p.t[0] as usize)));
-    rows.push(row(read(Name::NestedSyndromes, 4 * p.t[p.v as usize] as usize)));
-    rows.push(row(without_page(Name::Quote, QUOTE_BYTES)));
-    rows.extend([Name::PageBytes, Name::DataBytes, Name::Distance].map(|name| row(without_page(name, 0))));
+    let mut rows: Vec<Row> = WIDTHS.into_iter().map(|width| row("write", width.to_string(), write(width))).collect();
+    rows.extend(
+        WIDTHS
+            .into_iter()
+            .map(|number| row("write of 16 pages (each)", number.to_string(), Call { number, ..write_many.clone() })),
+    );
+    let plain = |name, call| row(name, String::new(), call);
+    rows.extend(alterations(&p).map(|(name, block, bit)| plain(name, altering(&p, &page, block, bit))));
+    rows.extend(mend_rows(p));
+    rows.push(plain("read out", read(Name::ReadOut, blocks.len())));
+    rows.push(plain("judge", read(Name::Judge, 0)));
+    rows.push(plain("syndromes", read(Name::Syndromes, 4 * p.t[0] as usize)));
+    rows.push(plain("nested syndromes", read(Name::NestedSyndromes, 4 * p.t[p.v as usize] as usize)));
+    rows.push(plain("quote", without_page(Name::Quote, QUOTE_BYTES)));
+    let sizes = [("page bytes", Name::PageBytes), ("data bytes", Name::DataBytes), ("distance", Name::Distance)];
+    rows.extend(sizes.map(|(name, call)| plain(name, without_page(call, 0))));
     rows
 }
 
@@ -262,9 +253,11 @@ fn main() {
         std::fs::write(&file, csv).expect("the file can be written");
     }
 
-    let ((line, ratios), (many_line, many), (alter_line, alter)) = (stated(), many_stated(), alter_stated());
-    println!("\n{line}.\n\n{many_line}.\n\n{alter_line}.");
-    if !(within(ratios, [LIMIT]) && within(many, [MANY_LIMIT]) && within(alter, ALTER_LIMITS)) {
+    let ((line, ratios), (many_line, many)) = (stated(), many_stated());
+    let ((alter_line, alter), (mend_line, mend)) = (alter_stated(), mend_stated());
+    println!("\n{line}.\n\n{many_line}.\n\n{alter_line}.\n\n{mend_line}.");
+    let kept = within(ratios, [LIMIT]) && within(many, [MANY_LIMIT]);
+    if !(kept && within(alter, ALTER_LIMITS) && within(mend, MEND_LIMITS)) {
         std::process::exit(1);
     }
 }

@@ -1,6 +1,6 @@
 //! Any calls, archive and reference alike: fuzz CALLS, 100,000 if none is given. The seed is GII_SEED, or 1.
 
-use compare::call::{NAMES, Name};
+use compare::call::{NAMES, Name, Outcome};
 use compare::draw;
 use reference::sample::Random;
 use std::collections::BTreeMap;
@@ -13,10 +13,11 @@ fn main() {
     let mut answers = BTreeMap::new();
     let mut pages = BTreeMap::new();
     let mut altered = 0;
+    let mut mended = BTreeMap::new();
     for count in 1..=calls {
         let call = draw::any(&mut random);
         match call.compare(random.from_to(0, 255)) {
-            Ok((number, lent, list)) => {
+            Ok(Outcome { number, lent, list, flips }) => {
                 // Sizes are counted together.
                 let number = if call.name.is_size() { number.min(1) } else { number };
                 *answers.entry((call.name, number)).or_insert(0) += 1;
@@ -24,6 +25,9 @@ fn main() {
                     list.iter().for_each(|listed| *pages.entry(*listed).or_insert(0) += 1);
                 }
                 altered += u64::from(call.name == Name::Alter && lent != call.lent);
+                if call.name == Name::Mend && number == 0 {
+                    *mended.entry(flips).or_insert(0) += 1;
+                }
             }
             Err(found) => {
                 println!("seed {seed}, call {count}: {found}");
@@ -47,5 +51,7 @@ fn main() {
     }
     let listed: Vec<String> = pages.iter().map(|(listed, times)| format!("{listed}: {times}")).collect();
     println!("of many pages listed  {}; pages altered  {altered}", listed.join(", "));
+    let flips: Vec<String> = mended.iter().map(|(flips, times)| format!("{flips}: {times}")).collect();
+    println!("flips of mended sub-words  {}", flips.join(", "));
     println!("{calls} calls alike");
 }
