@@ -1,8 +1,11 @@
 use borrow.Author.Needs.{needs}
-use mathlib.Core.Path.{sym, _∙_}
+use mathlib.Core.Path.{_≡_, sym, _∙_}
 use mathlib.Core.List.{List}
-use Prim.Native.Nat.{ℕ}
+use Prim.Native.Nat.{ℕ, _*_}
 use native.Mathlib.Omega.{arith}
+use lib.ListN.{take}
+use Rattle.locator.specs.Locate.{agree}
+use Rattle.locating.specs.Look.{listed}
 use Rattle.locating.specs.Whole.{Candidates, candidates, places, whole-far, whole-found, whole-many, whole-none}
 use Rattle.locating.proofs.locate_in.Statement.{statement}
 use Rattle.locating.proofs.locate_in.Tie as tie
@@ -84,6 +87,11 @@ agrees-requires c κs =
       omega (arith, s .pre .3),
     )
 
+-- the last look, at all 2 t syndromes
+looked : (a : tie.After-agrees) → (let r = a .before .before .before .before .before in
+    a .agrees .result ≡ agree (q (m r)) (listed (S (m r))) (take (r .roots .result) (r .roots .last .1 .1 .1 .1 .1 .1 .0)) (2 * s (m r) .args .t))
+looked a = a .agrees .ensures
+
 same-length-6 : tie.Need-same-length-6
 same-length-6 c = search needs
 
@@ -97,7 +105,7 @@ returns-3 : tie.Need-returns-3
 returns-3 c =
     let r = c .before .before .before .before .before .before in
     let s = s (m r) in
-    whole-found (s .args .f .q) (s .args .s .now) (s .args .t) (s .args .z) (given r) (c .before .before .before .if2 .left) (s .pre .6) (sym (c .if3 .taken) ∙ c .before .agrees .ensures)
+    whole-found (s .args .f .q) (s .args .s .now) (s .args .t) (s .args .z) (given r) (c .before .before .before .if2 .left) (s .pre .6) (sym (c .if3 .taken) ∙ looked (c .before))
 
 add-result-3 : tie.Need-add-result-3
 add-result-3 c = search needs
@@ -115,7 +123,7 @@ returns-4 : tie.Need-returns-4
 returns-4 c =
     let r = c .before .before .before .before .before .before in
     let s = s (m r) in
-    whole-none (s .args .f .q) (s .args .s .now) (s .args .t) (s .args .z) (given r) (c .before .before .before .if2 .left) (s .pre .6) (sym (c .if3 .left) ∙ c .before .agrees .ensures)
+    whole-none (s .args .f .q) (s .args .s .now) (s .args .t) (s .args .z) (given r) (c .before .before .before .if2 .left) (s .pre .6) (sym (c .if3 .left) ∙ looked (c .before))
 
 pub locate-in-spec : {M : Type 1} → statement M
 locate-in-spec =
