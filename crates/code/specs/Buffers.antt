@@ -1,5 +1,5 @@
 -- Divisors, and what the buffers hold: remainders, nested words, syndromes and generators can be read back from what is laid out.
-use mathlib.Core.Path.{_≡_, refl, sym, ap, _∙_}
+use mathlib.Core.Path.{_≡_, refl, sym, ap, _∙_, ap₂}
 use mathlib.Core.Logic.{_⊎_, inl, inr}
 use mathlib.Core.Bool.{Bool, true, false, cond}
 use mathlib.Core.List.{List, [], _∷_, _++_, map}
@@ -7,9 +7,9 @@ use Prim.Native.Nat.{ℕ, zero, suc, _+_, _-_, _*_, _/_, _^_, _≤_, _<_, zero-l
 use native.Mathlib.Nat as Nat
 use native.Mathlib.Omega.{arith}
 use lib.Dec.{T, leb, le→leb, lit≤}
-use lib.ListN.{length, getD, take, drop, length-map}
+use lib.ListN.{length, getD, take, drop, length-map, length-append}
 use lib.Pow.{pow-mono}
-use lib.Seq.{take-at, drop-at, drop-drop}
+use lib.Seq.{take-at, drop-at, drop-drop, ext-getD}
 use Rattle.polynomial.specs.Clmul.{clmul, clmul-zero-l}
 use Rattle.polynomial.specs.Digits.{digits, length-digits, value, value-digits}
 use Rattle.polynomial.specs.Division.{Deg, deg, deg-is, deg-mul, deg-unique, lt-of-deg, quot, quot-is, rem, rem-lt, unity-deg}
@@ -22,7 +22,7 @@ use Rattle.field.specs.Fields.{Known, by-known, fieldOf}
 use Rattle.generator.specs.Generator.{generator-divides}
 use Rattle.code.specs.declared.Parameters.{Parameters}
 use Rattle.code.specs.Accepted.{Rules, degree-high, lawful, rising, degree-of}
-use Rattle.code.specs.Calls.{asBytes, generatorRow, generators, nestedOf, nestedWordBytes}
+use Rattle.code.specs.Calls.{asBytes, generatorRow, generators, nestedOf, nestedWordBytes, asNumbers, numberAt}
 use Rattle.code.specs.Calls.{remainderBytes, rowsBy, shortBytes, subWordOf}
 use Rattle.code.specs.Code.{degree, divisor, gen, nested, nestedSum, remainder, shortRemainder, syndromes}
 use Rattle.code.specs.Layout.{wordsOf}
@@ -172,3 +172,30 @@ bytes-at (x ∷ l) h (suc j) b =
   where
     two : 2 * suc j ≡ 2 + 2 * j
     two = omega arith
+
+pub length-bytes : (l : List ℕ) → length (asBytes l) ≡ 2 * length l
+unfolding asBytes
+length-bytes [] = refl
+length-bytes (x ∷ l) =
+    let e : 2 + 2 * length l ≡ 2 * suc (length l) = omega arith in
+    length-append (digits 8 2 x) (asBytes l) ∙ ap₂ _+_ (length-digits 8 2 x) (length-bytes l) ∙ e
+
+-- read back
+pub length-numbers : (b : List ℕ) → length (asNumbers b) ≡ length b / 2
+unfolding asNumbers
+length-numbers b = length-map (range 0 (length b / 2)) (numberAt b) ∙ length-range 0 (length b / 2)
+
+pub numbers-at : (b : List ℕ) (j : ℕ) → j < length b / 2 → getD (asNumbers b) j 0 ≡ numberAt b j
+unfolding asNumbers
+numbers-at b j h = getD-map-range (numberAt b) 0 (length b / 2) j h ∙ ap (numberAt b) (Nat.zero-add j)
+
+pub numbers-back : (l : List ℕ) → All (λ x. x < 2 ^ 16) l → asNumbers (asBytes l) ≡ l
+numbers-back l h =
+    ext-getD 0 (asNumbers (asBytes l)) l size
+    (λ j b. let k : j < length l = rw size at b in numbers-at (asBytes l) j (omega (arith, half)) ∙ bytes-at l h j k)
+  where
+    half : length (asBytes l) / 2 ≡ length l
+    half = omega (arith, length-bytes l)
+
+    size : length (asNumbers (asBytes l)) ≡ length l
+    size = length-numbers (asBytes l) ∙ half

@@ -16,9 +16,9 @@ use mathlib.Core.Bool.{cond}
 use mathlib.Core.Logic.{_≢_, _↔_}
 use mathlib.Core.List.{List, [], _∷_, _++_, map}
 use mathlib.Core.Option.{Option, none, some}
-use Prim.Native.Nat.{ℕ, zero, suc, _+_, _-_, _*_, _^_, _≤_}
+use Prim.Native.Nat.{ℕ, zero, suc, _+_, _-_, _*_, _/_, _^_, _≤_}
 use lib.Dec.{leb, ltb}
-use lib.ListN.{length, getD, replicate}
+use lib.ListN.{length, getD, replicate, take, drop}
 use Rattle.polynomial.specs.Digits.{value, digits}
 use Rattle.polynomial.specs.Division.{rem}
 use Rattle.polynomial.specs.Xor.{xor}
@@ -29,10 +29,10 @@ use Rattle.code.specs.declared.Nesting.{Nesting}
 use Rattle.code.specs.Register.{Register, Fed}
 use Rattle.code.specs.Lists.{range, part, runs, _orElse_, valuesBy, lastRefusal}
 use Rattle.code.specs.Parameters.{nestedBytes, strength, sheetRefusal}
-use Rattle.code.specs.Code.{gen, degree, remainder, nested, N, shortRemainder, syndromes, verdict, failingNumber, failingValues}
+use Rattle.code.specs.Code.{gen, degree, remainder, nested, N, shortRemainder, oddSyndromes, allSyndromes, verdict, failingNumber, failingValues}
 use Rattle.code.specs.Layout.{altered, flipped, mending, placeList, wordsOf, blank, pageBytes, pageOf, dataBits, dataBytes, dataOf}
 use Rattle.code.specs.Refusals.{writeRefusal, manyRefusal, alterRefusal, mendRefusal, readRefusal, judgeRefusal, remainderRefusal, shortRefusal, nestedRefusal}
-use Rattle.code.specs.Refusals.{syndromesRefusal, nestedSyndromesRefusal, openRefusal, feedRefusal, quoteRefusal, nestingRefusal}
+use Rattle.code.specs.Refusals.{syndromesRefusal, nestedSyndromesRefusal, allRefusal, openRefusal, feedRefusal, quoteRefusal, nestingRefusal}
 
 -- ---- numbers and values of the answers
 abbrev pub outcomeNumber : Outcome → ℕ
@@ -203,12 +203,12 @@ unfolding digits nested wordsOf
 nestedWordBytes p page l = digits 8 (nestedBytes p) (nestedOf p page l)
 
 unfoldable pub syndromeList : Parameters → List ℕ → ℕ → List ℕ
-unfolding syndromes wordsOf
-syndromeList p page i = syndromes p (2 * strength p 0) (subWordOf p page i)
+unfolding oddSyndromes wordsOf
+syndromeList p page i = oddSyndromes p (strength p 0) (subWordOf p page i)
 
 unfoldable pub nestedSyndromeList : Parameters → List ℕ → ℕ → List ℕ
-unfolding syndromes nested wordsOf
-nestedSyndromeList p page l = syndromes p (2 * strength p (p .v - l)) (nestedOf p page l)
+unfolding oddSyndromes nested wordsOf
+nestedSyndromeList p page l = oddSyndromes p (strength p (p .v - l)) (nestedOf p page l)
 
 abbrev pub RemainderMade : Parameters → List ℕ → ℕ → List ℕ → List ℕ → Outcome → Type 0
 RemainderMade p page i out after r = Made (remainderRefusal p page i (length out)) (remainderBytes p page i) out after r
@@ -224,6 +224,9 @@ SyndromesMade p page i out after r = Made (syndromesRefusal 1 p page i (length o
 
 abbrev pub NestedSyndromesMade : Parameters → List ℕ → ℕ → List ℕ → List ℕ → Outcome → Type 0
 NestedSyndromesMade p page l out after r = Made (nestedSyndromesRefusal 1 p page l (length out)) (nestedSyndromeList p page l) out after r
+
+abbrev pub AllMade : Parameters → ℕ → List ℕ → List ℕ → List ℕ → Outcome → Type 0
+AllMade p level odd out after r = Made (allRefusal 1 p level (length odd) (length out)) (allSyndromes p odd) out after r
 
 -- ---- mend: sub-word i with the places R flipped, the list of these places, and their number
 abbrev pub mendingPlaces : Option (List ℕ) → List ℕ
@@ -244,6 +247,14 @@ unfoldable pub asBytes : List ℕ → List ℕ
 unfolding digits
 asBytes [] = []
 asBytes (x ∷ l) = digits 8 2 x ++ asBytes l
+
+-- number k of such bytes, and all of them
+abbrev pub numberAt : List ℕ → ℕ → ℕ
+numberAt bytes k = value 8 (take 2 (drop (2 * k) bytes))
+
+unfoldable pub asNumbers : List ℕ → List ℕ
+unfolding value range
+asNumbers bytes = map (numberAt bytes) (range 0 (length bytes / 2))
 
 pub record MadeC (refusal : ℕ) (result old after : List ℕ) (answer : ℕ) : Type 0 where
   pub answers : answer ≡ refusal
@@ -282,6 +293,10 @@ SyndromesMadeC p page i out after r = MadeC (syndromesRefusal 2 p page i (length
 abbrev pub NestedSyndromesMadeC : Parameters → List ℕ → ℕ → List ℕ → List ℕ → ℕ → Type 0
 NestedSyndromesMadeC p page l out after r =
     MadeC (nestedSyndromesRefusal 2 p page l (length out)) (asBytes (nestedSyndromeList p page l)) out after r
+
+abbrev pub AllMadeC : Parameters → ℕ → List ℕ → List ℕ → List ℕ → ℕ → Type 0
+AllMadeC p level odd out after r =
+    MadeC (allRefusal 2 p level (length odd) (length out)) (asBytes (allSyndromes p (asNumbers odd))) out after r
 
 -- ---- the register
 abbrev pub empty : ℕ → Register

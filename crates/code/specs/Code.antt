@@ -11,6 +11,8 @@
 --   verdict p cs        member, or the first word that fails: sub-words before nested words
 --   failingNumber p cs  its number, apart from the enum: 32 + i, 64 + l, or 0; failingValues p cs its values: i, l, or none
 --   syndromes p k c     S_1 to S_k of a word
+--   oddSyndromes p t c  S_1, S_3, .., t of them: the list that calls give
+--   allSyndromes p l    S_1, S_2, .. by squares, from the list l of S_1, S_3, ..
 --   divisor p l         g_(v-l) / g_0; shortRemainder p l cs is the remainder of nested word l by it
 --   tried P k z t y     of the places k, k + 1, .., z of them, the first rising list of at most t whose flips take y to a word that passes P
 --   nearest p a y       the flips that mend y at level a: the stored places to flip for a multiple of g_a, at most t_a of them; or none
@@ -29,6 +31,7 @@ use Rattle.polynomial.specs.Multiple.{Multiple}
 use Rattle.polynomial.specs.Xor.{xor}
 use Rattle.field.specs.Bch.{weight}
 use Rattle.field.specs.Elements.{syndrome}
+use Rattle.field.specs.Odd.{fromOdd}
 use Rattle.field.specs.Fields.{fieldOf}
 use Rattle.field.specs.Flips.{Rising, flips}
 use Rattle.generator.specs.Generator.{generator}
@@ -159,6 +162,14 @@ failingValues p cs =
 unfoldable pub syndromes : Parameters → ℕ → ℕ → List ℕ
 unfolding syndrome range
 syndromes p k c = map (λ j. syndrome (p .q) c j) (range 1 k)
+
+unfoldable pub oddSyndromes : Parameters → ℕ → ℕ → List ℕ
+unfolding syndrome range
+oddSyndromes p t c = map (λ i. syndrome (p .q) c (2 * i + 1)) (range 0 t)
+
+unfoldable pub allSyndromes : Parameters → List ℕ → List ℕ
+unfolding fromOdd range
+allSyndromes p l = map (fromOdd (p .q) (λ i. getD l i 0)) (range 1 (2 * length l))
 
 unfoldable pub divisor : Parameters → ℕ → ℕ
 unfolding quot gen degree

@@ -5,6 +5,7 @@
 --   Demand2 p            fields, generators, remainders, syndromes, registers, placement,
 --                        membership and written pages are those of the code
 --   Demand3 p            alike at every two widths; sums; members are what is written again; distance
+--   OddLaws p            all syndromes from the odd ones that calls give
 --   StoredLaws, WholeLaws, ShortenedLaws   what s leaves out; a sheet with s = 0; a shortened sheet beside the full one
 --   BlankReadLaws, BlankWriteLaws    what read out gives of a blank page, and write of blocks that would make one
 --   QuoteLaws p number   the numbers that the quote gives; QuotedPage p number blocks page: a written page has so many check and data bits
@@ -23,6 +24,7 @@
 --   ManyC p              many pages in C: a listed byte is the number of a single call
 --   AlterC p             one bit altered, in C
 --   MendC p              one sub-word mended, in C: the list is bytes
+--   OddC p               all syndromes from the odd ones, in C
 use mathlib.Core.Path.{_≡_}
 use mathlib.Core.Logic.{_≢_, _↔_, _⊎_}
 use mathlib.Core.Bool.{_&&_, _||_, cond}
@@ -37,7 +39,7 @@ use Rattle.polynomial.specs.Division.{Deg, deg}
 use Rattle.polynomial.specs.Sums.{All, add}
 use Rattle.polynomial.specs.Multiple.{Multiple}
 use Rattle.polynomial.specs.Xor.{xor}
-use Rattle.field.specs.Elements.{power, sumBelow, syndrome}
+use Rattle.field.specs.Elements.{power, sumBelow, syndrome, times}
 use Rattle.field.specs.Fields.{fieldPolynomial}
 use Rattle.field.specs.Flips as F
 use Rattle.field.specs.Irreducible.{NoFactor}
@@ -45,10 +47,11 @@ use Rattle.code.specs.declared.Parameters.{Parameters}
 use Rattle.code.specs.declared.Outcome.{Outcome}
 use Rattle.code.specs.declared.Verdict.{Verdict}
 use Rattle.code.specs.Calls.{Altered, AlteredC, Judged, JudgedC, Mended, MendedC, QuoteMade, QuoteMadeC, ReadOut, ReadOutC, Written, WrittenC, WrittenMany, WrittenManyC, asBytes}
-use Rattle.code.specs.Calls.{empty, generators, nestedOf, nestedSyndromeList, nestedWordBytes}
+use Rattle.code.specs.Calls.{AllMade, AllMadeC, NestedSyndromesMade, NestedSyndromesMadeC, SyndromesMade, SyndromesMadeC}
+use Rattle.code.specs.Calls.{empty, generators, nestedOf, nestedSyndromeList, nestedWordBytes, numberAt}
 use Rattle.code.specs.Calls.{opened, outcome, pageVerdict, remainderBytes, shortBytes, subWordOf, syndromeList}
 use Rattle.code.specs.Code.{Flips, IsMember, N, Near, carried, dataWords, degree, distance, divisor, encode, gen}
-use Rattle.code.specs.Code.{nested, newton, remainder, shortRemainder, verdict}
+use Rattle.code.specs.Code.{allSyndromes, nested, newton, oddSyndromes, remainder, shortRemainder, syndromes, verdict}
 use Rattle.code.specs.Layout.{Bytes, Fits, IsBlank, IsPage, altered, blockBit, blockSizes, blocksClear, blocksOf, coefficientOf, dataBytes}
 use Rattle.code.specs.Layout.{dataOf, differences, pageBytes, pageClear, pageOf, storedOf, wordsOf}
 use Rattle.code.specs.Lists.{addBelow, any, countBelow, each, fitsIn, join, onesIn, part, range, runs, split, sum}
@@ -105,6 +108,7 @@ pub record ShortLaws (p : Parameters) (l : ℕ) (cs : List ℕ) : Type 0 where
 pub record SyndromeLaws (p : Parameters) (c j : ℕ) : Type 0 where
   pub is-sum : c < 2 ^ len p → syndrome (p .q) c j ≡ sumBelow (len p) (λ k. coefficient c k * power (p .q) (j * k))
   pub below : syndrome (p .q) c j < 2 ^ p .q
+  pub doubled : times (p .q) (syndrome (p .q) c j) (syndrome (p .q) c j) ≡ syndrome (p .q) c (2 * j)
 
 -- a polynomial c fed from the empty register, highest power first, in parts of the widths Ls
 pub record RegisterLaws (p : Parameters) (a c : ℕ) (Ls : List ℕ) : Type 0 where
@@ -119,13 +123,22 @@ pub record BufferLaws (p : Parameters) (x : List ℕ) : Type 0 where
   pub remainder-bytes : (i : ℕ) → value 8 (remainderBytes p x i) ≡ remainder p 0 (subWordOf p x i)
   pub short-bytes : (l : ℕ) → value 8 (shortBytes p x l) ≡ shortRemainder p l (wordsOf p x)
   pub nested-bytes : (l : ℕ) → value 8 (nestedWordBytes p x l) ≡ nestedOf p x l
-  pub syndrome-at : (i j : ℕ) → j < 2 * strength p 0 → getD (syndromeList p x i) j 0 ≡ syndrome (p .q) (subWordOf p x i) (suc j)
-  pub nested-syndrome-at : (l j : ℕ) → j < 2 * strength p (p .v - l)
-      → getD (nestedSyndromeList p x l) j 0 ≡ syndrome (p .q) (nestedOf p x l) (suc j)
-  pub syndrome-bytes : (i j : ℕ) → j < 2 * strength p 0
-      → value 8 (take 2 (drop (2 * j) (asBytes (syndromeList p x i)))) ≡ syndrome (p .q) (subWordOf p x i) (suc j)
-  pub nested-syndrome-bytes : (l j : ℕ) → j < 2 * strength p (p .v - l)
-      → value 8 (take 2 (drop (2 * j) (asBytes (nestedSyndromeList p x l)))) ≡ syndrome (p .q) (nestedOf p x l) (suc j)
+  pub syndrome-at : (i j : ℕ) → j < strength p 0 → getD (syndromeList p x i) j 0 ≡ syndrome (p .q) (subWordOf p x i) (2 * j + 1)
+  pub nested-syndrome-at : (l j : ℕ) → j < strength p (p .v - l)
+      → getD (nestedSyndromeList p x l) j 0 ≡ syndrome (p .q) (nestedOf p x l) (2 * j + 1)
+  pub syndrome-bytes : (i j : ℕ) → j < strength p 0
+      → numberAt (asBytes (syndromeList p x i)) j ≡ syndrome (p .q) (subWordOf p x i) (2 * j + 1)
+  pub nested-syndrome-bytes : (l j : ℕ) → j < strength p (p .v - l)
+      → numberAt (asBytes (nestedSyndromeList p x l)) j ≡ syndrome (p .q) (nestedOf p x l) (2 * j + 1)
+
+-- all syndromes from the odd ones: of every word, and of what the calls give
+pub record OddLaws (p : Parameters) : Type 0 where
+  pub whole : (c t : ℕ) → allSyndromes p (oddSyndromes p t c) ≡ syndromes p (2 * t) c
+  pub sub-word : (x list odd old after : List ℕ) (i : ℕ) (o : Outcome) → SyndromesMade p x i list odd Outcome.Done → length old ≡ 2 * strength p 0
+      → AllMade p 0 odd old after o → (o ≡ Outcome.Done) × (after ≡ syndromes p (2 * strength p 0) (subWordOf p x i))
+  pub nested-word : (x list odd old after : List ℕ) (l : ℕ) (o : Outcome) → NestedSyndromesMade p x l list odd Outcome.Done
+      → length old ≡ 2 * strength p (p .v - l) → AllMade p (p .v - l) odd old after o
+      → (o ≡ Outcome.Done) × (after ≡ syndromes p (2 * strength p (p .v - l)) (nestedOf p x l))
 
 -- ---- demand 2: placement, membership, written pages
 pub record PlacementLaws (p : Parameters) : Type 0 where
@@ -243,6 +256,7 @@ pub record Demand2 (p : Parameters) : Type 0 where
   pub syndrome-laws : (c j : ℕ) → SyndromeLaws p c j
   pub register-laws : (a : ℕ) → a ≤ p .v → (c : ℕ) (Ls : List ℕ) → All Width Ls → sum Ls ≤ full p → c < 2 ^ sum Ls → RegisterLaws p a c Ls
   pub buffer-laws : (x : List ℕ) → BufferLaws p x
+  pub odd-laws : OddLaws p
   pub placement-laws : PlacementLaws p
   pub stored-laws : StoredLaws p
   pub whole-laws : p .s ≡ 0 → WholeLaws p
@@ -542,10 +556,15 @@ pub record BurstC (p : Parameters) : Type 0 where
   pub stray : (y : List ℕ) (j k r : ℕ) → Bytes y → PageBuffer p y → (¬ IsBlank p y) → j < p .m → stored p ≤ k → k < 8 * subWordBytes p
       → coefficientOf p y j k ≡ 1 → JudgedC p y r → r ≡ 8
 
--- ---- the quote of C: number k stands at bytes 2k and 2k + 1 of 24, low byte first
-abbrev pub numberAt : List ℕ → ℕ → ℕ
-numberAt list k = value 8 (take 2 (drop (2 * k) list))
+-- ---- all syndromes from the odd ones, in C: number k stands at bytes 2k and 2k + 1, low byte first
+pub record OddC (p : Parameters) : Type 0 where
+  pub sub-word : (x list odd old after : List ℕ) (i o : ℕ) → SyndromesMadeC p x i list odd 0 → length old ≡ 4 * strength p 0
+      → AllMadeC p 0 odd old after o → (o ≡ 0) × (after ≡ asBytes (syndromes p (2 * strength p 0) (subWordOf p x i)))
+  pub nested-word : (x list odd old after : List ℕ) (l o : ℕ) → NestedSyndromesMadeC p x l list odd 0 → length old ≡ 4 * strength p (p .v - l)
+      → AllMadeC p (p .v - l) odd old after o → (o ≡ 0) × (after ≡ asBytes (syndromes p (2 * strength p (p .v - l)) (nestedOf p x l)))
+  pub number : (c k j : ℕ) → j < k → numberAt (asBytes (syndromes p k c)) j ≡ syndrome (p .q) c (suc j)
 
+-- ---- the quote of C: number k stands at bytes 2k and 2k + 1 of 24, low byte first
 pub record QuotedC (p : Parameters) : Type 0 where
   pub quote-laws : (list after : List ℕ) (k : ℕ) → length list ≡ 24 → QuoteMadeC p list after k → (k ≡ 0) × QuoteLaws p (numberAt after)
   pub quoted-pages : (number : ℕ → ℕ) (L : ℕ) (blocks old after : List ℕ) (r : ℕ) → QuoteLaws p number → Width L → Fits p blocks
@@ -635,6 +654,6 @@ Shortening =
 abbrev pub Demands : Type 0
 Demands = (p : Parameters) → Accepted p → Demand2 p × Demand3 p × BurstLaws p × ManyLaws p × AlterLaws p × MendLaws p
 
--- ---- and, of the C calls, demand 3, blank pages, the quote, bursts, many pages, one bit altered and one sub-word mended
+-- ---- and, of the C calls, demand 3, blank pages, the quote, bursts, many pages, one bit altered, one sub-word mended and all syndromes from the odd ones
 abbrev pub DemandsC : Type 0
-DemandsC = (p : Parameters) → Accepted p → Demand3C p × BlankC p × QuotedC p × BurstC p × ManyC p × AlterC p × MendC p
+DemandsC = (p : Parameters) → Accepted p → Demand3C p × BlankC p × QuotedC p × BurstC p × ManyC p × AlterC p × MendC p × OddC p

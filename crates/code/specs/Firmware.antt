@@ -2,7 +2,7 @@
 use mathlib.Core.Path.{_≡_, refl, sym, ap, _∙_}
 use mathlib.Core.Logic.{_↔_, _⊎_, inl, inr}
 use mathlib.Core.List.{List, [], _∷_}
-use Prim.Native.Nat.{ℕ, zero, suc, _+_, _-_, _*_}
+use Prim.Native.Nat.{ℕ, zero, suc, _+_, _-_, _*_, _≤_, zero-le}
 use native.Mathlib.Nat as Nat
 use native.Mathlib.Omega.{arith}
 use lib.ListN.{length, getD, replicate}
@@ -13,20 +13,21 @@ use Rattle.code.specs.declared.Parameters.{Parameters}
 use Rattle.code.specs.declared.Verdict.{Verdict}
 use Rattle.code.specs.Accepted.{accepted}
 use Rattle.code.specs.Answers.{judged, judged-blanks, judged-zero, leaves-refused, made-of, outcome-number, read, read-as-judge, read-zero}
-use Rattle.code.specs.Buffers.{bytes-at}
-use Rattle.code.specs.Calls.{Altered, AlteredC, Judged, JudgedC, MendedC, QuoteMadeC, ReadOut, ReadOutC, Written, WrittenC, WrittenMany, WrittenManyC, asBytes, judgeAnswer}
+use Rattle.code.specs.Buffers.{bytes-at, length-bytes}
+use Rattle.code.specs.Calls.{Altered, AlteredC, Judged, JudgedC, MendedC, QuoteMadeC, ReadOut, ReadOutC, Written, WrittenC, WrittenMany, WrittenManyC, asBytes, judgeAnswer, numberAt, AllMadeC, asNumbers, nestedOf, nestedSyndromeList, syndromeList}
 use Rattle.code.specs.Calls.{leaves, outcome, outcomeNumber, placesOf, quote, readAnswer, subWordOf, verdictNumber}
-use Rattle.code.specs.Code.{Near}
+use Rattle.code.specs.Code.{Near, oddSyndromes, allSyndromes, syndromes}
 use Rattle.code.specs.Demands.{AlterC, AlteredMemberC, MendC, Mends, NamesBit, SetTo}
-use Rattle.code.specs.Demands.{AlikeC, AlikeManyC, BlankC, BlankWriteLaws, BurstC, Demand3C, DemandsC, ManyC, QuoteLaws, QuotedC, RewritesC, SumsC, numberAt}
+use Rattle.code.specs.Demands.{AlikeC, AlikeManyC, BlankC, BlankWriteLaws, BurstC, Demand3C, DemandsC, ManyC, QuoteLaws, QuotedC, RewritesC, SumsC, OddC}
 use Rattle.code.specs.Layout.{Bytes, Fits, IsBlank, IsPage, altered, blockBit, differences, noPlace, pageOf, placeList}
 use Rattle.code.specs.Mend.{places-eq}
 use Rattle.code.specs.Parameters.{Accepted, strength}
 use Rattle.code.specs.Quote.{quote-length, quote-none, quote-small}
-use Rattle.code.specs.Refusals.{alterRefusal, manyRefusal, mendRefusal, quoteRefusal, writeRefusal}
-use Rattle.code.specs.Refused.{BlocksBuffer, PageBuffer, Width, judged-page}
+use Rattle.code.specs.Refusals.{alterRefusal, manyRefusal, mendRefusal, quoteRefusal, writeRefusal, allRefusal}
+use Rattle.code.specs.Refused.{BlocksBuffer, PageBuffer, Width, judged-page, open-none}
 use Rattle.code.specs.Theorems.{alters, bursts, demand2, demand3, many, quote-numbers, whole-13}
 use Rattle.code.specs.Theorems.{member-multiple, mend-15-iff, mend-clean, mend-stays, mend-zero-iff, mends-of, number-of, undamaged}
+use Rattle.code.specs.Odd.{all-none, all-odd, all-bytes, length-odd, odd-back}
 
 module _ (p : Parameters) (A : Accepted p) where
   abbrev refusal : ℕ → List ℕ → List ℕ → ℕ
@@ -340,5 +341,28 @@ module _ (p : Parameters) (A : Accepted p) where
           mends-of p A 2 x after i (length l) (placeList (strength p 0) (placesOf p x i)) counted y z (rw z at (M .0 .buffer)) refl
           (number-of p A counted (length (placesOf p x i)) (rw z at (M .2 .buffer)))
 
+  -- ---- all syndromes from the odd ones
+  all-from-c : (a c : ℕ) → a ≤ p .v → (odd old after : List ℕ) (o : ℕ) → odd ≡ asBytes (oddSyndromes p (strength p a) c) → length old ≡ 4 * strength p a
+      → AllMadeC p a odd old after o → (o ≡ 0) × (after ≡ asBytes (syndromes p (2 * strength p a) c))
+  all-from-c a c h odd old after o e l M =
+      let R = accepted p A in
+      let t = strength p a in
+      let z : allRefusal 2 p a (length odd) (length old) ≡ 0 = all-none 2 p a (length odd) (length old) (sym (open-none p a A h))
+      (ap length e ∙ length-bytes (oddSyndromes p t c) ∙ ap (λ (k : ℕ). 2 * k) (length-odd p t c)) (omega arith) in (
+        M .answers ∙ z,
+        rw z at (M .buffer) ∙ ap (λ (l : List ℕ). asBytes (allSyndromes p l)) (ap asNumbers e ∙ odd-back p (R .known) t c)
+            ∙ ap asBytes (all-odd p (R .known) c t),
+      )
+
+  pub odd-c : OddC p
+  unfolding syndromeList nestedSyndromeList
+  odd-c = record {
+    sub-word = λ x list odd old after i o S l M.
+        all-from-c 0 (subWordOf p x i) zero-le odd old after o (rw (sym (S .answers)) at (S .buffer)) l M;
+    nested-word = λ x list odd old after l o S e M.
+        all-from-c (p .v - l) (nestedOf p x l) (Nat.sub-le (p .v) l) odd old after o (rw (sym (S .answers)) at (S .buffer)) e M;
+    number = λ c k j h. (let R = accepted p A in all-bytes p (R .known) k c j h);
+  }
+
 pub demands-c : DemandsC
-demands-c p A = (demand3-c p A, blank-c p A, quote-c p A, burst-c p A, many-c p A, alter-c p A, mend-c p A)
+demands-c p A = (demand3-c p A, blank-c p A, quote-c p A, burst-c p A, many-c p A, alter-c p A, mend-c p A, odd-c p A)

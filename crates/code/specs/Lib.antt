@@ -29,6 +29,7 @@ pub mod Shortened
 pub mod Registers
 pub mod Buffers
 pub mod Degrees
+pub mod Odd
 pub mod Quote
 pub mod Many
 -- What demands 2 and 3 say, and the theorems; Firmware is demand 3 of the C calls:

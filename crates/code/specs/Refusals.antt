@@ -112,12 +112,12 @@ shortRefusal p page l out = wordRefusal p page l (p .v) out 96
 abbrev pub nestedRefusal : Parameters → List ℕ → ℕ → ℕ → ℕ
 nestedRefusal p page l out = wordRefusal p page l (p .v) out (nestedBytes p)
 
--- syndromes of sub-word i, and of nested word l; a number takes `size` places: 1 in a list of numbers, 2 in C's bytes
+-- the odd syndromes of sub-word i, and of nested word l; a number takes `size` places: 1 in a list of numbers, 2 in C's bytes
 abbrev pub syndromesRefusal : ℕ → Parameters → List ℕ → ℕ → ℕ → ℕ
-syndromesRefusal size p page i out = wordRefusal p page i (p .m) out (size * (2 * strength p 0))
+syndromesRefusal size p page i out = wordRefusal p page i (p .m) out (size * strength p 0)
 
 abbrev pub nestedSyndromesRefusal : ℕ → Parameters → List ℕ → ℕ → ℕ → ℕ
-nestedSyndromesRefusal size p page l out = wordRefusal p page l (p .v) out (size * (2 * strength p (p .v - l)))
+nestedSyndromesRefusal size p page l out = wordRefusal p page l (p .v) out (size * strength p (p .v - l))
 
 -- ---- mend: the places take `size` each of a lent list of `out`; 15 where no multiple of g_0 is near enough
 abbrev pub nowhere : Option (List ℕ) → Bool
@@ -132,6 +132,14 @@ mendRefusal size p page i out = wordRefusal p page i (p .m) out (size * strength
 unfoldable pub openRefusal : Parameters → ℕ → ℕ
 unfolding sheetRefusal
 openRefusal p level = sheetRefusal p orElse 9 when ltb (p .v) level
+
+-- ---- all syndromes of a word of a level, 2t of them, from the t odd ones; a number takes `size` places
+unfoldable pub allRefusal : ℕ → Parameters → ℕ → ℕ → ℕ → ℕ
+unfolding openRefusal
+allRefusal size p level odd out =
+    openRefusal p level
+    orElse 10 when notExact odd (size * strength p level)
+    orElse 10 when notExact out (size * (2 * strength p level))
 
 unfoldable pub feedRefusal : Parameters → ℕ → Register → ℕ → ℕ
 unfolding sheetRefusal degree value

@@ -6,7 +6,7 @@ use mathlib.Core.Path.{_≡_, refl, sym, ap, _∙_}
 use mathlib.Core.Logic.{_⊎_, inl, inr}
 use mathlib.Core.Bool.{Bool, true, false, not, _||_, cond}
 use mathlib.Core.List.{List}
-use Prim.Native.Nat.{ℕ, zero, suc, _≤_}
+use Prim.Native.Nat.{ℕ, zero, suc, _≤_, _<_}
 use native.Mathlib.Nat as Nat
 use native.Mathlib.Omega.{arith}
 use lib.Dec.{T, eqb, leb, ltb, eqb→eq, ltb→lt, nltb→le, lit≤, lit<, not-T}
@@ -15,15 +15,16 @@ use Rattle.code.specs.declared.Parameters.{Parameters}
 use Rattle.code.specs.declared.Outcome.{Outcome}
 use Rattle.code.specs.declared.Verdict.{Verdict}
 use Rattle.code.specs.Accepted.{from-4}
-use Rattle.code.specs.Chains.{either, exact-none, exact-of, given, left, neither, nonzero}
+use Rattle.code.specs.Chains.{either, exact-none, exact-of, given, left, neither, nonzero, first-of, or-none, last}
 use Rattle.code.specs.Chains.{off, off′, on, or-assoc, or-le, or-none, or-second, or-zero, past, right, unless, when-le}
 use Rattle.code.specs.Calls.{judgeAnswer, pageVerdict, readLeaves, unlessRefused, writeAnswer, writeLeaves}
 use Rattle.code.specs.Code.{failing, failingNested, verdict}
 use Rattle.code.specs.Layout.{Bytes, Fits, IsPage, blank, blocksClear, dataBytes, dataOf, pageBytes, pageClear, pageOf, wordsOf}
 use Rattle.code.specs.Lists.{_orElse_, _when_, lastRefusal}
 use Rattle.code.specs.Parameters.{Accepted, clashes, fieldKnown, shapeFits, sheetRefusal, shortFits, strengthsFit}
-use Rattle.code.specs.Refusals.{badWidth, judgeLengths, judgeRefusal, notExact, pageRefusal, readLengths}
+use Rattle.code.specs.Refusals.{badWidth, judgeLengths, judgeRefusal, notExact, pageRefusal, readLengths, openRefusal}
 use Rattle.code.specs.Refusals.{readRefusal, stray, wordRefusal, writeLengths, writeRefusal}
+use borrow.Author.Tests.{lt-ltb, le-ltb}
 
 pub record Width (L : ℕ) : Type 0 where
   pub low : 1 ≤ L
@@ -346,3 +347,31 @@ module _ (p : Parameters) where
 
       pub write-keeps : T (blank p (pageOf p a)) → writeLeaves p L a old ≡ old
       write-keeps n = rw (write-made A L a old w h e n) refl
+
+-- ---- opening
+module _ (p : Parameters) (level : ℕ) where
+  open-eq : openRefusal p level ≡ (sheetRefusal p orElse 9 when ltb (p .v) level)
+  unfolding openRefusal
+  open-eq = refl
+
+  pub open-le : openRefusal p level ≤ lastRefusal
+  open-le = rw open-eq (or-le (sheetRefusal p) (9 when ltb (p .v) level) (sheet-le p) (when-le 9 (ltb (p .v) level) (lit≤ tt)))
+
+  pub open-sheet : (k : ℕ) → k ≡ sheetRefusal p → (k ≡ 0 → ⊥) → k ≡ openRefusal p level
+  open-sheet k e h = first-of k (sheetRefusal p) (9 when ltb (p .v) level) e h ∙ sym open-eq
+
+  -- a chain that ends in 0
+  pub open-zero : openRefusal p level ≡ 0 → Accepted p × (level ≤ p .v)
+  open-zero z =
+      let s = or-none (sheetRefusal p) (9 when ltb (p .v) level) (sym open-eq ∙ z) in
+      (s .0, nltb→le (p .v) level (last 8 (ltb (p .v) level) (s .1)))
+
+  module _ (A : Accepted p) where
+    open-accepted : openRefusal p level ≡ (9 when ltb (p .v) level)
+    open-accepted = open-eq ∙ or-second (sheetRefusal p) (9 when ltb (p .v) level) A
+
+    pub open-above : p .v < level → 9 ≡ openRefusal p level
+    open-above h = sym (open-accepted ∙ simp (lt-ltb (p .v) level h))
+
+    pub open-none : level ≤ p .v → 0 ≡ openRefusal p level
+    open-none h = sym (open-accepted ∙ simp (le-ltb (p .v) level h))

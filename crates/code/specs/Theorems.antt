@@ -20,7 +20,7 @@ use Rattle.polynomial.specs.Sums.{All, add, all-at, at-all}
 use Rattle.polynomial.specs.Multiple.{Multiple, multiple-same, rem-differ}
 use Rattle.polynomial.specs.Xor.{xor, xor-cancel, xor-self}
 use Rattle.field.specs.Bch.{weight, weight-zero}
-use Rattle.field.specs.Elements.{power-full, power-order, syndrome, syndrome-iff, syndrome-lt, syndrome-sum}
+use Rattle.field.specs.Elements.{power-full, power-order, syndrome, syndrome-iff, syndrome-lt, syndrome-sum, square}
 use Rattle.field.specs.Fields.{BinaryField, fieldOf, irreducible, polynomial-degree, polynomial-irreducible}
 use Rattle.field.specs.Flips.{flips, flips-ones, length-ones, ones, ones-rising}
 use Rattle.generator.specs.Generator.{HasRoots, generator-is}
@@ -40,12 +40,12 @@ use Rattle.code.specs.Buffers.{bytes-at, divides-up, divisor-deg, diviso
 use Rattle.code.specs.Buffers.{nested-back, remainder-back, row-back, short-back, short-differ, short-lt, syndromes-at}
 use Rattle.code.specs.Bursts.{another, apart-pages, apart-places, burst-same, bytes-burst, cyclic, moved-divides, moved-lt, others-same}
 use Rattle.code.specs.Bursts.{single-has, single-is, single-passing, single-unblank, singlePage}
-use Rattle.code.specs.Calls.{Altered, Judged, Mended, QuoteMade, ReadOut, Written, WrittenMany, asBytes, empty, judgeAnswer, leaves}
+use Rattle.code.specs.Calls.{Altered, Judged, Mended, QuoteMade, ReadOut, Written, WrittenMany, asBytes, empty, judgeAnswer, leaves, AllMade}
 use Rattle.code.specs.Calls.{mendingPlaces, nestedOf, nestedSyndromeList, outcome, outcomeNumber, pagesBy, placesOf, quote, statuses, subWordOf, syndromeList}
 use Rattle.code.specs.Chains.{off′, on}
-use Rattle.code.specs.Code.{Flips, IsMember, Near, checkBits, degree, distance, gen, least, nested, newton, remainder, syndromes, verdict}
+use Rattle.code.specs.Code.{Flips, IsMember, Near, checkBits, degree, distance, gen, least, nested, newton, remainder, syndromes, verdict, oddSyndromes, allSyndromes}
 use Rattle.code.specs.Degrees.{degree-exact}
-use Rattle.code.specs.Demands.{AlterLaws, AlteredMember, Damaged, MendLaws, MendLent, Mends, NamesBit, SetTo}
+use Rattle.code.specs.Demands.{AlterLaws, AlteredMember, Damaged, MendLaws, MendLent, Mends, NamesBit, SetTo, OddLaws}
 use Rattle.code.specs.Demands.{Alike, AlikeMany, BlankReadLaws, BlankWriteLaws, BufferLaws, Burst, BurstLaws, Demand2, Demand3, Demands, GeneratorLaws, GeneratorOf}
 use Rattle.code.specs.Demands.{JudgeLaws, ManyLaws, QuoteLaws, QuotedPage, RegisterLaws, Rewrites, ShortLaws, ShortenedLaws, Smallest}
 use Rattle.code.specs.Demands.{Shortening, StoredLaws, Sums, Vanishes, WholeLaws, WriteLaws}
@@ -67,8 +67,8 @@ use Rattle.code.specs.Parameters.{Accepted, full, len, stored, strength,
 use Rattle.code.specs.Placement.{all-places, any-fit, any-has, blocks-same, check-bits, data-room, place-bit, read-bit, sub-word-bit, word-at, written-bit}
 use Rattle.code.specs.Places.{addBelow-ext, addBelow-none, addBelow-single, countBelow-eq, countBelow-ext, differing, distance-places, words-differ}
 use Rattle.code.specs.Quote.{quote-bits, quote-degree, quote-length, quote-none, quote-past-m, quote-past-v}
-use Rattle.code.specs.Refusals.{alterRefusal, manyRefusal, mendRefusal, nowhere, quoteRefusal, writeRefusal}
-use Rattle.code.specs.Refused.{BlocksBuffer, PageBuffer, Width, blank-judgeable, judge-is, judge-stray, judged-blank, judged-else, judged-page}
+use Rattle.code.specs.Refusals.{alterRefusal, manyRefusal, mendRefusal, nowhere, quoteRefusal, writeRefusal, allRefusal}
+use Rattle.code.specs.Refused.{BlocksBuffer, PageBuffer, Width, blank-judgeable, judge-is, judge-stray, judged-blank, judged-else, judged-page, open-none}
 use Rattle.code.specs.Refused.{page-judgeable, read-leaves, verdict-blank, verdict-else, write-alike, write-done, write-keeps}
 use Rattle.code.specs.Refused.{write-13, write-leaves, write-left, write-refused}
 use Rattle.code.specs.Registers.{cut, fed-done, fed-holds, feedings, holding, opened-empty, register-back}
@@ -76,6 +76,7 @@ use Rattle.code.specs.Shortened.{lengthened-fits, lengthened-keeps, leng
 use Rattle.code.specs.Shortened.{unshortened-accepted, whole-blocks, whole-bytes, whole-clear, whole-data}
 use Rattle.code.specs.Shortened.{whole-page, whole-unused, whole-verdict}
 use Rattle.code.specs.Steps.{Divides, gen-eq}
+use Rattle.code.specs.Odd.{odd-at, odd-bytes, all-odd, all-none, length-odd}
 
 -- ---- the distance is the smallest of its formulas
 abbrev formula : Parameters → ℕ → ℕ
@@ -167,27 +168,36 @@ module _ (p : Parameters) (A : Accepted p) where
         remainder-is = ap (λ (r : Register). value 64 (r .remainder)) e ∙ register-back p A a h c;
       }
 
-  -- a syndrome takes at most 12 bits, so 16 hold it
-  all-small : (k c : ℕ) → All (λ x. x < 2 ^ 16) (syndromes p k c)
-  all-small k c =
-      at-all (λ x. x < 2 ^ 16) (syndromes p k c) (λ j l.
-      rw (syndromes-at p k c j (rw (length-syndromes p k c) at l)) (Nat.lt-of-lt-of-le (syndrome-lt (p .q) (R .known) c (suc j))
-      (pow-mono {j = 16} (Nat.le-trans (q-high (p .q) (R .known)) (lit≤ {m = 12} {n = 16} tt)))))
-
   buffers-are : (x : List ℕ) → BufferLaws p x
   unfolding syndromeList nestedSyndromeList
   buffers-are x = record {
     remainder-bytes = remainder-back p R x;
     short-bytes = λ l. short-back p R l x;
     nested-bytes = nested-back p R x;
-    syndrome-at = λ i j h. syndromes-at p (2 * strength p 0) (subWordOf p x i) j h;
-    nested-syndrome-at = λ l j h. syndromes-at p (2 * strength p (p .v - l)) (nestedOf p x l) j h;
-    syndrome-bytes = λ i j h. in-bytes (2 * strength p 0) (subWordOf p x i) j h;
-    nested-syndrome-bytes = λ l j h. in-bytes (2 * strength p (p .v - l)) (nestedOf p x l) j h;
+    syndrome-at = λ i j h. odd-at p (strength p 0) (subWordOf p x i) j h;
+    nested-syndrome-at = λ l j h. odd-at p (strength p (p .v - l)) (nestedOf p x l) j h;
+    syndrome-bytes = λ i j h. odd-bytes p (R .known) (strength p 0) (subWordOf p x i) j h;
+    nested-syndrome-bytes = λ l j h. odd-bytes p (R .known) (strength p (p .v - l)) (nestedOf p x l) j h;
   }
-    where
-      in-bytes : (k c j : ℕ) → j < k → value 8 (take 2 (drop (2 * j) (asBytes (syndromes p k c)))) ≡ syndrome (p .q) c (suc j)
-      in-bytes k c j h = bytes-at (syndromes p k c) (all-small k c) j (rw (length-syndromes p k c) h) ∙ syndromes-at p k c j h
+
+  -- the odd syndromes of a word c of level a, as a call gives them, and all from them
+  all-from : (a c : ℕ) → a ≤ p .v → (odd old after : List ℕ) (o : Outcome) → odd ≡ oddSyndromes p (strength p a) c → length old ≡ 2 * strength p a
+      → AllMade p a odd old after o → (o ≡ Outcome.Done) × (after ≡ syndromes p (2 * strength p a) c)
+  all-from a c h odd old after o e l M =
+      let t = strength p a in
+      let z : allRefusal 1 p a (length odd) (length old) ≡ 0 = all-none 1 p a (length odd) (length old) (sym (open-none p a A h))
+      (ap length e ∙ length-odd p t c ∙ sym (Nat.one-mul t)) (l ∙ sym (Nat.one-mul (2 * t))) in
+      (M .answers ∙ ap outcome z, rw z at (M .buffer) ∙ ap (allSyndromes p) e ∙ all-odd p (R .known) c t)
+
+  odds-are : OddLaws p
+  unfolding syndromeList nestedSyndromeList
+  odds-are = record {
+    whole = all-odd p (R .known);
+    sub-word = λ x list odd old after i o S l M.
+        all-from 0 (subWordOf p x i) zero-le odd old after o (rw (sym (S .number)) at (S .buffer)) l M;
+    nested-word = λ x list odd old after l o S e M.
+        all-from (p .v - l) (nestedOf p x l) (Nat.sub-le (p .v) l) odd old after o (rw (sym (S .number)) at (S .buffer)) e M;
+  }
 
   -- ---- shortened sheets
   stored-are : StoredLaws p
@@ -408,9 +418,14 @@ module _ (p : Parameters) (A : Accepted p) where
       differs = rem-differ (gen p a) (degree p a) (degree-of p R a h) c;
     };
     short-laws = λ l h cs. shorts-are l cs;
-    syndrome-laws = λ c j. record { is-sum = syndrome-sum (p .q) (R .known) (len p) c j; below = syndrome-lt (p .q) (R .known) c j };
+    syndrome-laws = λ c j. record {
+      is-sum = syndrome-sum (p .q) (R .known) (len p) c j;
+      below = syndrome-lt (p .q) (R .known) c j;
+      doubled = square (p .q) (R .known) c j ∙ ap (syndrome (p .q) c) (omega arith);
+    };
     register-laws = registers-are;
     buffer-laws = buffers-are;
+    odd-laws = odds-are;
     placement-laws = record {
       sub-word = λ x h. sub-word-bit p R x (h .bytes);
       written = written-bit p R;
@@ -993,12 +1008,9 @@ module _ (p : Parameters) (A : Accepted p) where
         ap (flipped p x i) t ∙ flipped-none p R x (g .page) i (g .sub-word),
       )
 
-  -- a damaged member
-  module _ (z x : List ℕ) (i : ℕ) (h : IsPage p x) (li : i < p .m) (u : IsPage p z) (D : Damaged p z x i) where
-    same-word : (j : ℕ) → j < p .m → j ≢ i → subWordOf p z j ≡ subWordOf p x j
-    same-word j l n = word-at p z j l ∙ ap (value 8) (sym (D .elsewhere j l n)) ∙ sym (word-at p x j l)
-
-    damage : differences p x z ≡ weight (xor (subWordOf p x i) (subWordOf p z i))
+  -- pages with one sub-word that differs
+  module _ (z x : List ℕ) (i : ℕ) (h : IsPage p x) (li : i < p .m) (u : IsPage p z) (same-word : (j : ℕ) → j < p .m → j ≢ i → subWordOf p z j ≡ subWordOf p x j) where
+    pub damage : differences p x z ≡ weight (xor (subWordOf p x i) (subWordOf p z i))
     damage =
         differences-are x z h u
         ∙ addBelow-single (p .m) i (differing (stored p) (wordsOf p x) (wordsOf p z)) li (λ j l n. none-at j l n)
@@ -1009,11 +1021,16 @@ module _ (p : Parameters) (A : Accepted p) where
             words-differ (stored p) (subWordOf p x j) (subWordOf p z j) (sub-low x j h l) (sub-low z j u l)
             ∙ ap (λ (c : ℕ). weight (xor (subWordOf p x j) c)) (same-word j l n) ∙ ap weight (xor-self (subWordOf p x j)) ∙ weight-zero
 
+  -- a damaged member
+  module _ (z x : List ℕ) (i : ℕ) (h : IsPage p x) (li : i < p .m) (u : IsPage p z) (D : Damaged p z x i) where
+    same : (j : ℕ) → j < p .m → j ≢ i → subWordOf p z j ≡ subWordOf p x j
+    same j l n = word-at p z j l ∙ ap (value 8) (sym (D .elsewhere j l n)) ∙ sym (word-at p x j l)
+
     pub undamaged : Multiple (gen p 0) (subWordOf p z i) → (size k : ℕ) → MendLent size p x i k
         → (mendRefusal size p x i k ≡ 0) × (flipped p x i (placesOf p x i) ≡ z) × (length (placesOf p x i) ≡ differences p x z)
     undamaged m size k g =
         let c = subWordOf p z i in
-        let w : Near p 0 (subWordOf p x i) c = record { stores = sub-low z i u li; multiple = m; near = rw (← damage) (D .few) } in
+        let w : Near p 0 (subWordOf p x i) c = record { stores = sub-low z i u li; multiple = m; near = rw (← damage z x i h li u same) (D .few) } in
         let e = mending-some x i h li c w in
         let Q = ones (stored p) (xor (subWordOf p x i) c) in
         let b : xor (subWordOf p x i) c < 2 ^ stored p = xor-lt (stored p) (subWordOf p x i) c (sub-low x i h li) (sub-low z i u li) in
@@ -1022,8 +1039,8 @@ module _ (p : Parameters) (A : Accepted p) where
           ap (flipped p x i) t
               ∙ flipped-is p R x h i li Q (ones-rising (stored p) (xor (subWordOf p x i) c)) z u
               (sym (ap (xor (subWordOf p x i)) (flips-ones (stored p) (xor (subWordOf p x i) c) b) ∙ xor-cancel (subWordOf p x i) c))
-              (λ j l n. same-word j l n),
-          ap length t ∙ length-ones (stored p) (xor (subWordOf p x i) c) b ∙ sym damage,
+              same,
+          ap length t ∙ length-ones (stored p) (xor (subWordOf p x i) c) b ∙ sym (damage z x i h li u same),
         )
 
   pub member-multiple : (z : List ℕ) → IsPage p z → judgeAnswer p z ≡ Verdict.Member → (i : ℕ) → i < p .m → Multiple (gen p 0) (subWordOf p z i)

@@ -10,3 +10,4 @@ pub mod Extension
 pub mod Fields
 pub mod Powers
 pub mod Elements
+pub mod Odd

@@ -35,34 +35,6 @@ assoc-four a b c d t =
     or-assoc a (b orElse c orElse d) t
     ∙ ap (λ (s : ℕ). a orElse s) (or-assoc b (c orElse d) t ∙ ap (λ (s : ℕ). b orElse s) (or-assoc c d t))
 
--- ---- opening
-module _ (p : Parameters) (level : ℕ) where
-  open-eq : openRefusal p level ≡ (sheetRefusal p orElse 9 when ltb (p .v) level)
-  unfolding openRefusal
-  open-eq = refl
-
-  pub open-le : openRefusal p level ≤ lastRefusal
-  open-le = rw open-eq (or-le (sheetRefusal p) (9 when ltb (p .v) level) (sheet-le p) (when-le 9 (ltb (p .v) level) (lit≤ tt)))
-
-  pub open-sheet : (k : ℕ) → k ≡ sheetRefusal p → (k ≡ 0 → ⊥) → k ≡ openRefusal p level
-  open-sheet k e h = first-of k (sheetRefusal p) (9 when ltb (p .v) level) e h ∙ sym open-eq
-
-  -- a chain that ends in 0
-  pub open-zero : openRefusal p level ≡ 0 → Accepted p × (level ≤ p .v)
-  open-zero z =
-      let s = or-none (sheetRefusal p) (9 when ltb (p .v) level) (sym open-eq ∙ z) in
-      (s .0, nltb→le (p .v) level (last 8 (ltb (p .v) level) (s .1)))
-
-  module _ (A : Accepted p) where
-    open-accepted : openRefusal p level ≡ (9 when ltb (p .v) level)
-    open-accepted = open-eq ∙ or-second (sheetRefusal p) (9 when ltb (p .v) level) A
-
-    pub open-above : p .v < level → 9 ≡ openRefusal p level
-    open-above h = sym (open-accepted ∙ simp (lt-ltb (p .v) level h))
-
-    pub open-none : level ≤ p .v → 0 ≡ openRefusal p level
-    open-none h = sym (open-accepted ∙ simp (le-ltb (p .v) level h))
-
 -- ---- the numbers of a feeding
 module _ (p : Parameters) (L a k u : ℕ) where
   abbrev stray-8 : ℕ

@@ -17,7 +17,7 @@ use Rattle.code.specs.Code.{remainder}
 use Rattle.code.specs.Lists.{lastRefusal}
 use Rattle.code.specs.Refusals.{feedRefusal, openRefusal}
 use Rattle.code.specs.Register as Value
-use Rattle.refusal.specs.Feeding.{feed-le, open-le}
+use Rattle.refusal.specs.Feeding.{feed-le}
 use Rattle.register.specs.declared.Fed.{Fed}
 use Rattle.register.specs.declared.Register.{Register}
 

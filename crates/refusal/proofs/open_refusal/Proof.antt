@@ -1,6 +1,6 @@
 use borrow.Author.Needs.{needs}
 use mathlib.Core.Path.{sym, _∙_}
-use Rattle.refusal.specs.Feeding.{open-sheet, open-above, open-none}
+use Rattle.code.specs.Refused.{open-sheet, open-above, open-none}
 use Rattle.refusal.proofs.open_refusal.Statement.{statement}
 use Rattle.refusal.proofs.open_refusal.Tie as tie
 

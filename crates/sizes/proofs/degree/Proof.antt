@@ -1,7 +1,7 @@
 use borrow.Author.Needs.{needs}
 use mathlib.Core.Path.{_≡_, sym, _∙_}
 use Rattle.code.specs.Refusals.{openRefusal}
-use Rattle.refusal.specs.Feeding.{open-le, open-zero}
+use Rattle.code.specs.Refused.{open-le, open-zero}
 use Rattle.sizes.specs.Sized.{sized-refused, sized-is}
 use Rattle.sizes.proofs.degree.Statement.{statement}
 use Rattle.sizes.proofs.degree.Tie as tie
