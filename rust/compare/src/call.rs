@@ -194,14 +194,16 @@ impl Call {
             return None;
         }
         let (sheet, index) = (parameters::Sheet::of(&self.p), self.number as usize);
-        let mut words = sheet.words_of(&self.read);
         let (word, level) = match self.name {
-            Name::Syndromes => (words.swap_remove(index), 0),
-            _ => (sheet.nested_word(&words, index), sheet.v - index),
+            Name::Syndromes => (sheet.word_of(&self.read, index), 0),
+            _ => (sheet.nested_word(&sheet.words_of(&self.read), index), sheet.v - index),
         };
-        let [mut all, mut sums] = [(); 2].map(|()| vec![0xA5; 4 * sheet.levels[level].t]);
+        let mut all = vec![0xA5; 2 * odd.len()];
         let answer = self::sheet(&self.p).all_syndromes(level as u32, odd, &mut all);
-        calls::put_values(&sheet, &word, 1.., &mut sums);
+        // The odd ones are sums, since they agree.
+        let mut even = vec![0; odd.len()];
+        calls::put_values(&sheet, &word, (2..).step_by(2), &mut even);
+        let sums: Vec<u8> = odd.chunks(2).zip(even.chunks(2)).flat_map(|(odd, even)| [odd, even].concat()).collect();
         let alike = (answer, &all) == (Ok(()), &sums);
         (!alike).then(|| format!("lists {odd:02X?}, all from it, {answer:?}, are {all:02X?}, are to be {sums:02X?}"))
     }

@@ -119,7 +119,7 @@ pub fn mend(p: &Parameters, page: &mut [u8], index: u32, places: &mut [u8], flip
         return refused;
     }
     let (sheet, i) = (sheet(), index as usize);
-    let Some(found) = sheet.mending(&sheet.words_of(page)[i]) else { return 15 };
+    let Some(found) = sheet.mending(&sheet.word_of(page, i)) else { return 15 };
     found.iter().for_each(|&k| layout::flip(page, sheet.place(i, k)));
     put_places(&found, places);
     *flips = found.len() as u8;
@@ -184,7 +184,7 @@ pub fn syndromes(p: &Parameters, page: &[u8], index: u32, list: &mut [u8]) -> u3
     if refused != 0 {
         return refused;
     }
-    put_list(&sheet(), &sheet().words_of(page)[index as usize], list);
+    put_list(&sheet(), &sheet().word_of(page, index as usize), list);
     0
 }
 
