@@ -68,7 +68,7 @@ impl Field {
     /// polynomial leaves what is below x^q.
     pub fn square(&self, a: u16) -> u16 {
         let spread = (0..16).filter(|k| a >> k & 1 == 1).fold(0u32, |sum, k| sum | 1 << (2 * k));
-        let divided = |rest: u32, k: usize| rest ^ (rest >> k & 1) * (self.polynomial << (k - self.q));
+        let divided = |rest: u32, k: usize| rest ^ ((rest >> k & 1) * (self.polynomial << (k - self.q)));
         (self.q..32).rev().fold(spread, divided) as u16
     }
 

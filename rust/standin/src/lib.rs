@@ -1124,7 +1124,7 @@ fn all_square(q: usize, number: u16) -> u16 {
         _ if fault("all-reduced-as-elements") => 2 * degree - 1,
         _ => 32,
     };
-    let rest = (degree..top).rev().fold(spread, |rest, k| rest ^ (rest >> k & 1) * (polynomial << (k - degree)));
+    let rest = (degree..top).rev().fold(spread, |rest, k| rest ^ ((rest >> k & 1) * (polynomial << (k - degree))));
     (if fault("all-square-masked") { spread & mask } else { rest }) as u16
 }
 
