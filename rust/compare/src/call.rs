@@ -198,13 +198,14 @@ impl Call {
             Name::Syndromes => (sheet.word_of(&self.read, index), 0),
             _ => (sheet.nested_word(&sheet.words_of(&self.read), index), sheet.v - index),
         };
-        let mut all = vec![0xA5; 2 * odd.len()];
-        let answer = self::sheet(&self.p).all_syndromes(level as u32, odd, &mut all);
+        let mut guarded = Guarded::new(&vec![0xA5; 2 * odd.len()], 0);
+        let answer = self::sheet(&self.p).all_syndromes(level as u32, odd, guarded.inner());
+        let (whole, all) = (guarded.whole(), guarded.inner());
         // The odd ones are sums, since they agree.
         let mut even = vec![0; odd.len()];
         calls::put_values(&sheet, &word, (2..).step_by(2), &mut even);
         let sums: Vec<u8> = odd.chunks(2).zip(even.chunks(2)).flat_map(|(odd, even)| [odd, even].concat()).collect();
-        let alike = (answer, &all) == (Ok(()), &sums);
+        let alike = whole && answer == Ok(()) && all == sums;
         (!alike).then(|| format!("lists {odd:02X?}, all from it, {answer:?}, are {all:02X?}, are to be {sums:02X?}"))
     }
 

@@ -3,7 +3,7 @@
 //! are not, lengths of either list. Lists of pages of every kind are compared in `pages`, there as here also by what the
 //! archive makes of its own list.
 
-use compare::call::{Call, Name, Outcome, sheet};
+use compare::call::{Call, Name, Outcome};
 use compare::draw::{alike, all_drawn, all_from, any_page, count, list_bytes, one_in, say, seed, with_shortened};
 use compare::work::STRONGEST;
 use gii_bch::numbers;
@@ -93,7 +93,7 @@ fn one_coefficient() {
     let mut run = Run::new(60);
     for p in sheets(&mut Random::new(seed() + 60)) {
         run.sheets += 1;
-        let (archive, sheet) = (sheet(&p), Sheet::of(&p));
+        let sheet = Sheet::of(&p);
         let last = sheet.stored() - 1;
         let drawn = run.random.from_to(0, last);
         for (i, k) in [(0, 0), (0, 1), (sheet.m - 1, last), (run.random.from_to(0, sheet.m - 1), drawn)] {
@@ -108,10 +108,9 @@ fn one_coefficient() {
                 let call = run.on_page(name, &p, &page, index as u32);
                 let odd = run.listed(&call);
                 assert!(odd.iter().copied().eq((0..t).map(|place| value(2 * place + 1))), "{p:?}, {name:?} {index}");
-                let given: Vec<u8> = odd.iter().flat_map(|number| number.to_le_bytes()).collect();
-                let mut all = vec![0xA5; archive.all_bytes(level as u32).unwrap()];
-                assert_eq!(archive.all_syndromes(level as u32, &given, &mut all), Ok(()), "{p:?}, level {level}");
-                assert!(numbers(&all).eq((1..=2 * t).map(value)), "{p:?}, {name:?} {index}: {all:02X?}");
+                let call = all_from(&mut run.random, &p, level, &odd);
+                let all = run.listed(&call);
+                assert!(all.iter().copied().eq((1..=2 * t).map(value)), "{p:?}, {name:?} {index}: {all:04X?}");
             }
         }
     }
