@@ -1142,8 +1142,8 @@ fn all_syndromes(p: &Parameters, level: u32, odd: &[u8], list: &mut [u8]) -> u32
         return leave(number, list);
     }
     let (q, t) = (p.q as usize, all_strength(p, level));
-    let step = if fault("all-from-all") { 4 } else { 2 };
-    let mut given: Vec<u16> = odd.chunks_exact(2).step_by(step / 2).map(|x| u16::from_le_bytes([x[0], x[1]])).collect();
+    let step = if fault("all-from-all") { 2 } else { 1 };
+    let mut given: Vec<u16> = odd.chunks_exact(2).step_by(step).map(|x| u16::from_le_bytes([x[0], x[1]])).collect();
     given.resize(t, 0);
     let square = |number: u16| all_square(q, number);
     // S_j, by j, from 1.
