@@ -37,7 +37,7 @@ use Rattle.element.specs.Fields.{fieldAt}
 use Rattle.massey.specs.Entries.{Below}
 use Rattle.locating.specs.Look.{fromList}
 use Rattle.syndrome.specs.Sum.{map-at, map-length}
-use Rattle.oneword.specs.Level.{level-syndrome}
+use Rattle.word.specs.Level.{level-syndrome}
 
 abbrev pub Knows : Parameters → ℕ → ℕ → (ℕ → ℕ) → Type 0
 Knows p a y S = (j : ℕ) → 0 < j → j ≤ 2 * strength p a → S j ≡ syndrome (p .q) y j

@@ -22,13 +22,13 @@ ghost use Rattle.mend.specs.Left.{placeAt};
 use code::Outcome;
 use code::Parameters;
 use element::Field;
-use oneword::work::level_remainder;
 use tables::logs4;
 use tables::logs8;
 use tables::logs12;
 use tables::powers4;
 use tables::powers8;
 use tables::powers12;
+use word::level_remainder;
 
 // ---- the places to flip
 

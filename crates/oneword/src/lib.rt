@@ -1,19 +1,16 @@
 // The calls on one word of a page. Each tests everything: the parameters, the page, the word's number, the length of the lent buffer.
 ghost use Rattle.code.specs.Calls.{RemainderMade, ShortMade, NestedMade, SyndromesMade, NestedSyndromesMade, AllMade};
-use crate::work::all_from;
-use crate::work::level_remainder;
-use crate::work::nested_of;
-use crate::work::odd_from;
-use crate::work::remainder_into;
-use crate::work::short_into;
 use code::Outcome;
 use code::Parameters;
 use layout::sub_word;
 use refusal::all_refusal;
 use refusal::word_refusal;
-
-mod divide; // remainders and quotients by any row
-pub mod work; // the calls' work
+use word::all_from;
+use word::level_remainder;
+use word::nested_of;
+use word::odd_from;
+use word::remainder_into;
+use word::short_into;
 
 // The remainder of sub-word i by g_0, in 96 bytes.
 pub fn remainder(p: Parameters, page: &[u8], i: usize, out: &mut [u8]) -> Outcome

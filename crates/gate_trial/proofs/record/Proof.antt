@@ -4,11 +4,7 @@ use lib.ListN.{length-take}
 use native.Mathlib.Nat as Nat
 use Rattle.gate_trial.proofs.record.Statement.{statement}
 use Rattle.gate_trial.proofs.record.Tie as tie
-use Rattle.gate_trial.proofs.record.Reads as reads
 use Rattle.gate_trial.proofs.record.Lts as lts
-use Rattle.io.proofs.read_full.Reads as read-full-reads
-use Rattle.gate_trial.proofs.pair.Reads as pair-reads
-use Rattle.gate_trial.proofs.rest.Reads as rest-reads
 
 -- src/main.rt:187:32
 slice-aggregate-read-full : tie.Need-slice-aggregate-read-full

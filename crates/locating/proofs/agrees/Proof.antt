@@ -13,7 +13,6 @@ use Rattle.syndrome.specs.Sum.{map-at, map-length}
 use Rattle.locating.specs.Look.{agree-not-odd, agree-odd, one-more}
 use Rattle.locating.proofs.agrees.Statement.{statement}
 use Rattle.locating.proofs.agrees.Tie as tie
-use Rattle.syndrome.proofs.odd_sums.Reads as odd-sums-reads
 
 abbrev Inv-loop : tie.InvT-loop
 Inv-loop powers odd list c t sums k₀ k = (length sums ≡ t) × (k ≤ t) × ((i : ℕ) → i < k → getD sums i 0 ≡ getD odd i 0)

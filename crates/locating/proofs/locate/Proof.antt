@@ -12,8 +12,6 @@ use Rattle.locating.specs.Look.{all-below, all-long, fromList, locate-al
 use Rattle.locating.specs.Whole.{zeroed-take}
 use Rattle.locating.proofs.locate.Statement.{statement}
 use Rattle.locating.proofs.locate.Tie as tie
-use Rattle.locating.proofs.locate_in.Reads as locate-in-reads
-use Rattle.syndrome.proofs.all_into.Reads as all-into-reads
 
 -- all syndromes
 module _ (a : tie.After-all-into) where

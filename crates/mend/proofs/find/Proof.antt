@@ -7,7 +7,7 @@ use lib.Pow.{pow-mono}
 use borrow.Author.Tests.{eqb-true}
 use Rattle.polynomial.specs.Digits.{value}
 use Rattle.code.specs.Accepted.{accepted, degree-high, stored-le}
-use Rattle.oneword.specs.Level.{level-lt, degree-few}
+use Rattle.word.specs.Level.{level-lt, degree-few}
 use Rattle.mend.specs.Nearest.{nearest-remainder, nearest-zero}
 use Rattle.mend.proofs.find.Statement.{statement}
 use Rattle.mend.proofs.find.Tie as tie

@@ -13,8 +13,6 @@ use Rattle.syndrome.specs.Sum.{map-length, table-roots}
 use Rattle.mend.specs.Nearest.{locate-odd, odd-below}
 use Rattle.mend.proofs.locate_by.Statement.{statement}
 use Rattle.mend.proofs.locate_by.Tie as tie
-use Rattle.locating.proofs.locate.Reads as locate-reads
-use Rattle.syndrome.proofs.odd_into.Reads as odd-into-reads
 
 -- the odd syndromes
 module _ (a : tie.After-odd-into) where

@@ -6,8 +6,6 @@ use Rattle.code.specs.Answers.{made-done, made-refused}
 use Rattle.code.specs.Odd.{all-le, all-zero}
 use Rattle.oneword.proofs.all_syndromes.Statement.{statement}
 use Rattle.oneword.proofs.all_syndromes.Tie as tie
-use Rattle.oneword.proofs.work.all_from.Reads as all-from-reads
-use Rattle.refusal.proofs.all_refusal.Reads as all-refusal-reads
 
 all-refusal-requires : tie.Need-all-refusal-requires
 all-refusal-requires c κs = search needs

@@ -8,8 +8,8 @@ use Rattle.code.specs.Accepted.{accepted, degree-high}
 use Rattle.code.specs.Parameters.{strength}
 use Rattle.code.specs.Refusals.{nestedSyndromesRefusal}
 use Rattle.refusal.specs.Indexed.{Unrefused, word-alike, word-zero, word-refused, word-done}
-use Rattle.oneword.specs.Level.{level-lt, level-made, degree-few}
-use Rattle.oneword.specs.WordBytes.{nested-syndromes-made}
+use Rattle.word.specs.Level.{level-lt, level-made, degree-few}
+use Rattle.word.specs.WordBytes.{nested-syndromes-made}
 use Rattle.oneword.proofs.nested_syndromes.Statement.{statement}
 use Rattle.oneword.proofs.nested_syndromes.Tie as tie
 

@@ -7,7 +7,7 @@ use Rattle.code.specs.Parameters.{Accepted, nestedBytes}
 use Rattle.code.specs.Refusals.{nestedRefusal, wordRefusal}
 use Rattle.layout.specs.Sizes.{nested-high}
 use Rattle.refusal.specs.Indexed.{Unrefused, word-sheet, word-zero, word-refused, word-done}
-use Rattle.oneword.specs.WordBytes.{nested-made}
+use Rattle.word.specs.WordBytes.{nested-made}
 use Rattle.oneword.proofs.nested_word.Statement.{statement}
 use Rattle.oneword.proofs.nested_word.Tie as tie
 

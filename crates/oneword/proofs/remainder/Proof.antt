@@ -4,7 +4,7 @@ use Prim.Native.Nat.{zero-le}
 use lib.ListN.{length}
 use Rattle.code.specs.Calls.{subWordOf}
 use Rattle.refusal.specs.Indexed.{Unrefused, word-zero, word-refused, word-done}
-use Rattle.oneword.specs.WordBytes.{WordIs, sub-word-is, remainder-made}
+use Rattle.word.specs.WordBytes.{WordIs, sub-word-is, remainder-made}
 use Rattle.oneword.proofs.remainder.Statement.{statement}
 use Rattle.oneword.proofs.remainder.Tie as tie
 

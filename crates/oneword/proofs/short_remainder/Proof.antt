@@ -2,7 +2,7 @@ use borrow.Author.Needs.{needs}
 use mathlib.Core.Path.{sym, _∙_}
 use lib.ListN.{length}
 use Rattle.refusal.specs.Indexed.{Unrefused, word-zero, word-refused, word-done}
-use Rattle.oneword.specs.WordBytes.{short-made}
+use Rattle.word.specs.WordBytes.{short-made}
 use Rattle.oneword.proofs.short_remainder.Statement.{statement}
 use Rattle.oneword.proofs.short_remainder.Tie as tie
 

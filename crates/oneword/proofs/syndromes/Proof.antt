@@ -9,8 +9,8 @@ use Rattle.code.specs.Accepted.{accepted, degree-high}
 use Rattle.code.specs.Parameters.{strength}
 use Rattle.code.specs.Refusals.{syndromesRefusal}
 use Rattle.refusal.specs.Indexed.{Unrefused, word-alike, word-zero, word-refused, word-done}
-use Rattle.oneword.specs.Level.{level-lt, level-made, degree-few}
-use Rattle.oneword.specs.WordBytes.{WordIs, sub-word-is, syndromes-made}
+use Rattle.word.specs.Level.{level-lt, level-made, degree-few}
+use Rattle.word.specs.WordBytes.{WordIs, sub-word-is, syndromes-made}
 use Rattle.oneword.proofs.syndromes.Statement.{statement}
 use Rattle.oneword.proofs.syndromes.Tie as tie
 

@@ -8,8 +8,6 @@ use Rattle.code.specs.Parameters.{strength}
 use Rattle.code.specs.Refusals.{openRefusal}
 use Rattle.refusal.proofs.all_refusal.Statement.{statement}
 use Rattle.refusal.proofs.all_refusal.Tie as tie
-use Rattle.refusal.proofs.open_refusal.Reads as open-refusal-reads
-use Rattle.sheet.proofs.strength_at.Reads as strength-at-reads
 
 -- nothing is refused before the lengths, and t is the level's strength
 module _ (c : tie.After-strength-at) where

@@ -4,7 +4,6 @@ use Rattle.code.specs.Parameters.{Accepted}
 use Rattle.refusal.specs.Judging.{lengths-sheet, lengths-exact, lengths-other}
 use Rattle.refusal.proofs.judge_lengths.Statement.{statement}
 use Rattle.refusal.proofs.judge_lengths.Tie as tie
-use Rattle.layout.proofs.page_bytes.Reads as page-bytes-reads
 
 -- where the sheet is accepted
 accepts : (c : tie.Else1) → Accepted (c .before .before .args .p)

@@ -3,8 +3,6 @@ use mathlib.Core.Path.{sym, _∙_}
 use Rattle.refusal.specs.Reading.{lengths-blocks, lengths-page, lengths-none}
 use Rattle.refusal.proofs.read_lengths.Statement.{statement}
 use Rattle.refusal.proofs.read_lengths.Tie as tie
-use Rattle.layout.proofs.data_bytes.Reads as data-bytes-reads
-use Rattle.layout.proofs.page_bytes.Reads as page-bytes-reads
 
 data-bytes-requires : tie.Need-data-bytes-requires
 data-bytes-requires c κs = search needs

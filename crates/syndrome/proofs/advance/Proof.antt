@@ -8,7 +8,6 @@ use lib.Seq.{getD-set-other}
 use Rattle.syndrome.specs.Sum.{Filled, filled-first, filled-next, filled-all}
 use Rattle.syndrome.proofs.advance.Statement.{statement}
 use Rattle.syndrome.proofs.advance.Tie as tie
-use Rattle.element.proofs.add_logs.Reads as add-logs-reads
 
 abbrev Inv-loop : tie.InvT-loop
 Inv-loop f e₀ d n i₀ e i =

@@ -9,7 +9,6 @@ use Rattle.syndrome.specs.Sum.{Filled, filled-first, filled-next}
 use Rattle.syndrome.specs.Squares.{all-filled}
 use Rattle.syndrome.proofs.all_into.Statement.{statement}
 use Rattle.syndrome.proofs.all_into.Tie as tie
-use Rattle.syndrome.proofs.next_of.Reads as next-of-reads
 
 abbrev Inv-loop : tie.InvT-loop
 Inv-loop list₀ odd powers logs f n j₀ list j = (length list ≡ length list₀) × (n ≡ length list₀) × (j ≤ n) × Filled (λ j. fromOdd (f .q) (λ i. getD odd i 0) (1 + j)) j list

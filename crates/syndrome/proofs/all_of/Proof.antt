@@ -3,13 +3,6 @@ use Rattle.element.specs.Fields.{known-last}
 use Rattle.element.specs.Lent.{tables-of}
 use Rattle.syndrome.proofs.all_of.Statement.{statement}
 use Rattle.syndrome.proofs.all_of.Tie as tie
-use Rattle.syndrome.proofs.all_into.Reads as all-into-reads
-use Rattle.tables.proofs.logs12.Reads as logs12-reads
-use Rattle.tables.proofs.logs4.Reads as logs4-reads
-use Rattle.tables.proofs.logs8.Reads as logs8-reads
-use Rattle.tables.proofs.powers12.Reads as powers12-reads
-use Rattle.tables.proofs.powers4.Reads as powers4-reads
-use Rattle.tables.proofs.powers8.Reads as powers8-reads
 
 powers4-requires : tie.Need-powers4-requires
 powers4-requires c κs = search needs

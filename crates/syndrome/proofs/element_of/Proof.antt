@@ -7,7 +7,6 @@ use Rattle.polynomial.specs.Division.{rem-small}
 use Rattle.field.specs.Fields.{fieldPolynomial, polynomial-degree}
 use Rattle.syndrome.proofs.element_of.Statement.{statement}
 use Rattle.syndrome.proofs.element_of.Tie as tie
-use Rattle.syndrome.proofs.reduce.Reads as reduce-reads
 
 returns : tie.Need-returns
 returns c =

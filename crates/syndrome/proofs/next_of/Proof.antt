@@ -6,7 +6,6 @@ use Prim.Native.Nat.{ℕ, _+_, _-_, _*_, _/_, _%_, _^_, _≤_, _<_}
 use Rattle.syndrome.specs.Squares.{next-odd, next-even}
 use Rattle.syndrome.proofs.next_of.Statement.{statement}
 use Rattle.syndrome.proofs.next_of.Tie as tie
-use Rattle.syndrome.proofs.square.Reads as square-reads
 
 mul-result : tie.Need-mul-result
 mul-result c = omega arith

@@ -12,8 +12,6 @@ use Rattle.code.specs.Lists.{range}
 use Rattle.syndrome.specs.Places.{places-same, PutDown, put-below, put-flips, put-length}
 use Rattle.syndrome.proofs.odd_into.Statement.{statement}
 use Rattle.syndrome.proofs.odd_into.Tie as tie
-use Rattle.syndrome.proofs.odd_sums.Reads as odd-sums-reads
-use Rattle.syndrome.proofs.places_of.Reads as places-of-reads
 
 -- the places that are put down
 module _ (c : tie.After-places2) where

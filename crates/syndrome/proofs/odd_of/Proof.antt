@@ -3,10 +3,6 @@ use Rattle.element.specs.Fields.{known-last}
 use Rattle.syndrome.specs.Sum.{roots-of}
 use Rattle.syndrome.proofs.odd_of.Statement.{statement}
 use Rattle.syndrome.proofs.odd_of.Tie as tie
-use Rattle.syndrome.proofs.odd_into.Reads as odd-into-reads
-use Rattle.tables.proofs.powers12.Reads as powers12-reads
-use Rattle.tables.proofs.powers4.Reads as powers4-reads
-use Rattle.tables.proofs.powers8.Reads as powers8-reads
 
 powers4-requires : tie.Need-powers4-requires
 powers4-requires c κs = search needs

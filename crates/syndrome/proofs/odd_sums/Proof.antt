@@ -11,8 +11,6 @@ use Rattle.code.specs.Lists.{range}
 use Rattle.syndrome.specs.Places.{places-same, room-length}
 use Rattle.syndrome.proofs.odd_sums.Statement.{statement}
 use Rattle.syndrome.proofs.odd_sums.Tie as tie
-use Rattle.syndrome.proofs.copy.Reads as copy-reads
-use Rattle.syndrome.proofs.sums_into.Reads as sums-into-reads
 
 array-borrow-prefix-room : tie.Need-array-borrow-prefix-room
 array-borrow-prefix-room c = let s = c .before .before .before in s .pre .1

@@ -8,7 +8,6 @@ use Rattle.polynomial.specs.Digits.{value}
 use Rattle.syndrome.specs.Places.{PutDown, put-first, put-next}
 use Rattle.syndrome.proofs.places_of.Statement.{statement}
 use Rattle.syndrome.proofs.places_of.Tie as tie
-use Rattle.syndrome.proofs.coefficient_at.Reads as coefficient-at-reads
 
 abbrev Inv-loop : tie.InvT-loop
 Inv-loop places₀ r w c₀ k₀ places c k = (length places ≡ length places₀) × (k ≤ w) × PutDown (value 64 r) k c places

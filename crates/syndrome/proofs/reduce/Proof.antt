@@ -10,8 +10,6 @@ use lib.Dec.{lit≤}
 use Rattle.code.specs.Accepted.{q-high}
 use Rattle.syndrome.proofs.reduce.Statement.{statement}
 use Rattle.syndrome.proofs.reduce.Tie as tie
-use Rattle.element.proofs.Field.of.Reads as of-reads
-use Rattle.syndrome.proofs.reduce_at.Reads as reduce-at-reads
 
 abbrev Inv-loop : tie.InvT-loop
 Inv-loop q x g y₀ k₀ y k = (q ≤ k) × (k ≤ 16) × (y < 2 ^ k) × (rem (fieldPolynomial q) q y ≡ rem (fieldPolynomial q) q x)

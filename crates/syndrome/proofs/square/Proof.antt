@@ -9,8 +9,6 @@ use Rattle.element.specs.Fields.{size-most}
 use Rattle.syndrome.specs.Squares.{square-reduced}
 use Rattle.syndrome.proofs.square.Statement.{statement}
 use Rattle.syndrome.proofs.square.Tie as tie
-use Rattle.element.proofs.times_lent.Reads as times-lent-reads
-use Rattle.syndrome.proofs.element_of.Reads as element-of-reads
 
 element-of-requires : tie.Need-element-of-requires
 element-of-requires c κs = c .before .before .pre .field

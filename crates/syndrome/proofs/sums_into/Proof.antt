@@ -13,8 +13,6 @@ use Rattle.element.specs.declared.Field.{Field}
 use Rattle.field.specs.Fields.{Known}
 use Rattle.syndrome.proofs.sums_into.Statement.{statement}
 use Rattle.syndrome.proofs.sums_into.Tie as tie
-use Rattle.syndrome.proofs.advance.Reads as advance-reads
-use Rattle.syndrome.proofs.power_sum.Reads as power-sum-reads
 
 abbrev Inv-loop : tie.InvT-loop
 Inv-loop list₀ powers f e₀ d n i₀ list e i =

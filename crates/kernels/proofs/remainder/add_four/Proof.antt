@@ -8,7 +8,6 @@ use Rattle.kernels.specs.Step.{RowFrom}
 use Rattle.kernels.specs.Table.{four-at, row-clear}
 use Rattle.kernels.proofs.remainder.add_four.Statement.{statement}
 use Rattle.kernels.proofs.remainder.add_four.Tie as tie
-use Rattle.kernels.proofs.remainder.add_rows.Reads as add-rows-reads
 
 mul-at : tie.Need-mul-at
 mul-at c = search needs

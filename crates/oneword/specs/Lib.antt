@@ -1,6 +1,0 @@
--- The calls on one word of a page.
-pub mod WordBytes
-pub mod Row
-pub mod Quotient
-pub mod Level
-pub mod Short
