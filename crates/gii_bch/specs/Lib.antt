@@ -2,6 +2,7 @@
 pub mod Number
 pub mod List
 pub mod Syndromes
+pub mod All
 pub mod Mending
 pub mod Sizes
 pub mod Quote

@@ -1,9 +1,10 @@
 -- Lists of 16-bit numbers as bytes.
 --   numbersIn k        how many numbers k bytes hold; 0 where k is odd or more than 256
+--   firstNumbers k b   the first k numbers of the bytes b
 --   Stored xs i l      the first i of the numbers xs stand in the bytes l
 use mathlib.Core.Path.{_≡_, refl, sym, ap, ap₂, _∙_}
 use mathlib.Core.Bool.{Bool, true, false, cond}
-use mathlib.Core.List.{List, [], _∷_, _++_, append-assoc, append-nil}
+use mathlib.Core.List.{List, [], _∷_, _++_, map, append-assoc, append-nil}
 use mathlib.Core.Logic.{_⊎_, inl, inr}
 use Prim.Native.Nat.{ℕ, zero, suc, _+_, _*_, _/_, _%_, _≤_, _<_, zero-le}
 use native.Mathlib.Nat as Nat
@@ -12,10 +13,11 @@ use native.Mathlib.Numerals.{add-one}
 use native.Mathlib.Omega.{arith}
 use lib.Dec.{eqb, leb}
 use lib.ListN.{length, getD, take, drop, set, length-append}
-use lib.Seq.{sets-eq, take-all, take-at, length-take-le}
+use lib.Seq.{drop-cons, sets-eq, take-all, take-at, length-take-le}
 use borrow.Author.Tests.{le-leb, lt-leb, leb-true, eq-eqb, ne-eqb, eqb-true}
-use Rattle.polynomial.specs.Digits.{digits, length-digits}
-use Rattle.code.specs.Calls.{asBytes}
+use Rattle.polynomial.specs.Digits.{digits, length-digits, value}
+use Rattle.code.specs.Calls.{asBytes, asNumbers, numberAt}
+use Rattle.code.specs.Lists.{range}
 
 -- ---- how many there are
 unfoldable pub numbersIn : ℕ → ℕ
@@ -48,6 +50,13 @@ module _ (k : ℕ) where
   numbers-most = go by-cases
     where
       go : (numbersIn k ≡ 0) ⊎ ((k ≤ 256) × (k ≡ 2 * numbersIn k)) → numbersIn k ≤ 128
+      go (inl z) = omega arith
+      go (inr h) = omega arith
+
+  pub numbers-fit : 2 * numbersIn k ≤ k
+  numbers-fit = go by-cases
+    where
+      go : (numbersIn k ≡ 0) ⊎ ((k ≤ 256) × (k ≡ 2 * numbersIn k)) → 2 * numbersIn k ≤ k
       go (inl z) = omega arith
       go (inr h) = omega arith
 
@@ -132,3 +141,16 @@ stored-next xs l l′ i s h k e = record { exact = k ∙ s .exact; high = omega 
 
 pub stored-all : (xs l : List ℕ) (i : ℕ) → Stored xs i l → length xs ≤ i → l ≡ asBytes xs
 stored-all xs l i s h = sym (take-all (2 * i) l (omega (arith, s .exact))) ∙ s .front ∙ ap asBytes (take-all i xs h)
+
+-- ---- read back
+abbrev pub firstNumbers : ℕ → List ℕ → List ℕ
+firstNumbers k bytes = map (numberAt bytes) (range 0 k)
+
+pub number-law : (l : List ℕ) (k : ℕ) → 2 * k + 2 ≤ length l → getD l (2 * k + 1) 0 * 256 + getD l (2 * k) 0 ≡ numberAt l k
+unfolding value
+number-law l k h =
+    rw (drop-cons l (2 * k) 0 (omega arith), drop-cons l (suc (2 * k)) 0 (omega arith), add-one (2 * k)) (omega arith)
+
+pub numbers-all : (b : List ℕ) (e : ℕ) → e ≤ 128 → length b ≡ 2 * e → firstNumbers (numbersIn (length b)) b ≡ asNumbers b
+unfolding asNumbers
+numbers-all b e high f = ap (λ (k : ℕ). firstNumbers k b) (sym (numbers-half (length b) (omega arith) (omega arith)))

@@ -1,7 +1,7 @@
--- The syndromes of a word, as numbers and as bytes: of nested word i where `nested` is true, else of sub-word i.
+-- The odd syndromes of a word, as numbers and as bytes: of nested word i where `nested` is true, else of sub-word i.
 --   wordCount nested p      how many such words there are
 --   levelAt nested p i      the level whose strength counts
---   listOf nested p x i     the syndromes of word i of the page x
+--   listOf nested p x i     the odd syndromes of word i of the page x
 --   ListMade, ListMadeC     the promises of the calls, on a list of numbers and on bytes
 --   Many e                  e is a number of syndromes
 use mathlib.Core.Path.{_≡_, refl, sym, ap, _∙_}
@@ -38,7 +38,7 @@ listOf true p x i = nestedSyndromeList p x i
 listOf false p x i = syndromeList p x i
 
 abbrev listRefusal : ℕ → Bool → Parameters → List ℕ → ℕ → ℕ → ℕ
-listRefusal size nested p x i out = wordRefusal p x i (wordCount nested p) out (size * (2 * strength p (levelAt nested p i)))
+listRefusal size nested p x i out = wordRefusal p x i (wordCount nested p) out (size * strength p (levelAt nested p i))
 
 abbrev pub ListMade : Bool → Parameters → List ℕ → ℕ → List ℕ → List ℕ → Outcome → Type 0
 ListMade nested p x i out after r = Made (listRefusal 1 nested p x i (length out)) (listOf nested p x i) out after r
@@ -51,13 +51,17 @@ pub record Many (e : ℕ) : Type 0 where
   pub low : 0 < e
   pub high : e ≤ 128
 
-level-many : (p : Parameters) → Accepted p → (a : ℕ) → a ≤ p .v → Many (2 * strength p a)
-level-many p A a h =
+-- all syndromes of a word, and the odd ones
+pub double-many : (p : Parameters) → Accepted p → (a : ℕ) → a ≤ p .v → Many (2 * strength p a)
+double-many p A a h =
     let R : Rules p = accepted p A in
     record {
       low = omega (arith, R .t-low, rising p R 0 a zero-le h);
       high = omega (arith, R .high, rising p R a (p .v) h (Nat.le-refl (p .v)));
     }
+
+pub level-many : (p : Parameters) → Accepted p → (a : ℕ) → a ≤ p .v → Many (strength p a)
+level-many p A a h = let d = double-many p A a h in record { low = omega (arith, d .low); high = omega (arith, d .high) }
 
 level-le : (nested : Bool) (p : Parameters) (i : ℕ) → levelAt nested p i ≤ p .v
 level-le true p i = Nat.sub-le (p .v) i
@@ -88,7 +92,7 @@ leaves-alike (suc r) xs ys zs old e = refl
 module _ (nested : Bool) (p : Parameters) (x : List ℕ) (i : ℕ) (old xs ys : List ℕ) (o : Outcome) (n : ℕ)
     (l : length xs ≡ numbersIn (length old)) (m : ListMade nested p x i xs ys o) (f : n ≡ outcomeNumber o) where
   abbrev e : ℕ
-  e = 2 * strength p (levelAt nested p i)
+  e = strength p (levelAt nested p i)
 
   E : Accepted p → Many e
   E A = level-many p A (levelAt nested p i) (level-le nested p i)

@@ -1,8 +1,9 @@
 // The C calls: the numbers of a sheet one by one, buffers as byte slices, the answer as a number. Each tests everything.
-ghost use Rattle.code.specs.Calls.{AlteredC, MendedC, WrittenC, WrittenManyC, JudgedC, ReadOutC, SyndromesMadeC, NestedSyndromesMadeC, QuoteMadeC, SizeC};
+ghost use Rattle.code.specs.Calls.{AlteredC, MendedC, WrittenC, WrittenManyC, JudgedC, ReadOutC, SyndromesMadeC, NestedSyndromesMadeC, AllMadeC, QuoteMadeC, SizeC};
 ghost use Rattle.code.specs.Code.{distance};
 ghost use Rattle.code.specs.Layout.{dataBytes, pageBytes};
 ghost use Rattle.code.specs.Parameters.{sheet};
+use crate::all::all_bytes;
 use crate::answers::outcome_number;
 use crate::answers::size_number;
 use crate::answers::verdict_number;
@@ -11,11 +12,12 @@ use crate::quote::quote_bytes;
 use crate::syndromes::syndrome_bytes;
 use code::Parameters;
 
+mod all; // all syndromes in bytes
 mod answers; // answers as numbers
 mod list; // 16-bit numbers in bytes
 mod mending; // places in bytes
 mod quote; // the quote in bytes
-mod syndromes; // syndromes in bytes
+mod syndromes; // odd syndromes in bytes
 
 // The page of the blocks, `width` coefficients a step.
 #[no_mangle]
@@ -203,7 +205,7 @@ pub extern "C" fn gii_read_out(
     verdict_number(r)
 }
 
-// The syndromes S_1 to S_(2 t_0) of sub-word `index`.
+// The syndromes S_1, S_3, .., t_0 of them, of sub-word `index`.
 #[no_mangle]
 pub extern "C" fn gii_syndromes(
     q: u32,
@@ -233,7 +235,7 @@ pub extern "C" fn gii_syndromes(
     syndrome_bytes(false, p, page, index as usize, list)
 }
 
-// The syndromes S_1 to S_(2 t_(v-l)) of nested word l, l being `index`.
+// The syndromes S_1, S_3, .., t_(v-l) of them, of nested word l, l being `index`.
 #[no_mangle]
 pub extern "C" fn gii_nested_syndromes(
     q: u32,
@@ -261,6 +263,36 @@ pub extern "C" fn gii_nested_syndromes(
         s,
     };
     syndrome_bytes(true, p, page, index as usize, list)
+}
+
+// S_1, S_2, .., 2t of them, of a word of a level, t being its strength, from the list of S_1, S_3, ..
+#[no_mangle]
+pub extern "C" fn gii_all_syndromes(
+    q: u32,
+    m: u32,
+    v: u32,
+    t0: u32,
+    t1: u32,
+    t2: u32,
+    t3: u32,
+    s: u32,
+    level: u32,
+    odd: &[u8],
+    list: &mut [u8],
+) -> u32
+    ensures { λ r. ⌜ AllMadeC (sheet q m v t0 t1 t2 t3 s) level (now (odd .entry)) (now (list .entry)) (now (list .exit)) r ⌝ }
+{
+    let p = Parameters {
+        q,
+        m,
+        v,
+        t0,
+        t1,
+        t2,
+        t3,
+        s,
+    };
+    all_bytes(p, level, odd, list)
 }
 
 // The degrees of levels 0 to v, 0 past v, and the data bits of blocks 0 to m - 1, 0 past m: four numbers and eight.

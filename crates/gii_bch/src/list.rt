@@ -4,8 +4,8 @@ ghost use mathlib.Core.List.{_++_};
 ghost use Prim.Native.Nat.{_+_, _*_, _≤_};
 ghost use lib.ListN.{length, take, drop};
 ghost use Rattle.polynomial.specs.Digits.{digits};
-ghost use Rattle.code.specs.Calls.{asBytes, leaves};
-ghost use Rattle.gii_bch.specs.List.{numbersIn};
+ghost use Rattle.code.specs.Calls.{asBytes, leaves, numberAt};
+ghost use Rattle.gii_bch.specs.List.{firstNumbers, numbersIn};
 
 // How many numbers so many bytes hold; 0, which is no list's length, where they are odd or more than 256.
 pub fn numbers_in(bytes: usize) -> usize
@@ -50,4 +50,24 @@ pub fn store_when(n: u32, list: &mut [u8], numbers: &[u16])
         return;
     }
     store(list, numbers);
+}
+
+// Number k of the bytes.
+fn number_at(bytes: &[u8], k: usize) -> u16
+    requires { ⌜ 2 * k + 2 ≤ length (now bytes) ⌝ }
+    ensures { λ r. ⌜ r ≡ numberAt (now (bytes .entry)) k ⌝ }
+{
+    bytes[2 * k + 1] as u16 * 256 + bytes[2 * k] as u16
+}
+
+// The numbers of the bytes, as many as the list takes.
+pub fn load(numbers: &mut [u16], bytes: &[u8])
+    requires { ⌜ 2 * length (now numbers) ≤ length (now bytes) ⌝ }
+    ensures { λ r. ⌜ now (numbers .exit) ≡ firstNumbers (length (now (numbers .entry))) (now (bytes .entry)) ⌝ }
+{
+    let mut i: usize = 0;
+    while i < numbers.len() {
+        numbers[i] = number_at(bytes, i);
+        i += 1;
+    }
 }

@@ -1,4 +1,4 @@
-// The syndromes of sub-word i, or, where `nested`, of nested word i.
+// The odd syndromes of sub-word i, or, where `nested`, of nested word i.
 ghost use Rattle.gii_bch.specs.Syndromes.{ListMade, ListMadeC};
 use crate::answers::outcome_number;
 use crate::list::numbers_in;
