@@ -37,10 +37,10 @@
  *             degree of the generator of strength t_a, is the number of different values of j * 2^e mod n, for j from 1
  *             to 2 t_a and e from 0 to q - 1. At q = 4, t = 1, 2, 3, 4 it is 4, 8, 10, 14; at most it is q * t_a.
  *             gii_data_bytes gives the size of all blocks, gii_quote the data bits of each.
- *   list      16-bit numbers, two bytes each, low byte first, which gii_number reads: the syndromes S_1, S_2, .., 2 t
- *             numbers on GII_LIST_BYTES(t) bytes; a quote, 12 numbers on GII_QUOTE_BYTES bytes; or the places that
- *             gii_mend flips, t0 numbers on GII_PLACES_BYTES(t0) bytes. The list of gii_write_many alone has one byte a
- *             page.
+ *   list      16-bit numbers, two bytes each, low byte first, which gii_number reads: the syndromes S_1, S_3, .., t numbers
+ *             on GII_LIST_BYTES(t) bytes; all of S_1, S_2, .., 2 t numbers on GII_ALL_BYTES(t) bytes; a quote, 12 numbers
+ *             on GII_QUOTE_BYTES bytes; or the places that gii_mend flips, t0 numbers on GII_PLACES_BYTES(t0) bytes. The
+ *             list of gii_write_many alone has one byte a page.
  *
  *   Examples, where none is named s is 0
  *
@@ -71,9 +71,9 @@
  * refusals whose conditions a call meets the first of these is given, and a refusal leaves every byte of every buffer as it
  * was. In gii_write_many 9 is for the count of pages and comes before 6; 8 and 13 are listed, page by page, and refuse no
  * call. In gii_alter 9 is for the block, the bit and the value, 13 for the page as it would be altered. Only gii_mend gives
- * 15, and it never gives 13: what it leaves may be blank. gii_judge and gii_read_out know a blank page after 7 and before 8,
- * which is for stray bits; no other function answers GII_BLANK. gii_page_bytes, gii_data_bytes and gii_distance give a size,
- * or 0 where the sheet is refused.
+ * 15, and it never gives 13: what it leaves may be blank. In gii_all_syndromes 9 is for the level, 10 for both lists.
+ * gii_judge and gii_read_out know a blank page after 7 and before 8, which is for stray bits; no other function answers
+ * GII_BLANK. gii_page_bytes, gii_data_bytes and gii_distance give a size, or 0 where the sheet is refused.
  */
 #ifndef GII_BCH_H
 #define GII_BCH_H
@@ -82,13 +82,15 @@
 #include <stdint.h>
 
 /* The version. A function or a number that goes or is given a new meaning moves the first number on. */
-#define GII_BCH_VERSION_MAJOR 4
-#define GII_BCH_VERSION_MINOR 3
+#define GII_BCH_VERSION_MAJOR 5
+#define GII_BCH_VERSION_MINOR 0
 #define GII_BCH_VERSION_PATCH 0
-#define GII_BCH_VERSION "4.3.0"
+#define GII_BCH_VERSION "5.0.0"
 
-/* Bytes of a list of 2t syndromes: t is t0 for a sub-word, t_(v-l) for nested word l. */
-#define GII_LIST_BYTES(t) ((size_t)4 * (size_t)(t))
+/* Bytes of a list of the t odd syndromes, S_1, S_3, .., S_(2t-1), and of one of all 2t: t is t0 for a sub-word, t_(v-l) for
+ * nested word l. */
+#define GII_LIST_BYTES(t) ((size_t)2 * (size_t)(t))
+#define GII_ALL_BYTES(t) ((size_t)4 * (size_t)(t))
 
 /* Bytes of a quote; the places in it of the degree w_a, a up to 3, and of the data bits of block i, i up to 7. */
 #define GII_QUOTE_BYTES 24
@@ -99,11 +101,12 @@
 #define GII_PLACES_BYTES(t0) ((size_t)2 * (size_t)(t0))
 #define GII_NO_PLACE 65535
 
-/* The most bytes of a page (q 12, m 8, s 0), of blocks (q 12, m 8, v 1, t 1, 2, s 0), of a list (t 64) and of places (t0 63,
- * since t0 is below t1, which is at most 64). */
+/* The most bytes of a page (q 12, m 8, s 0), of blocks (q 12, m 8, v 1, t 1, 2, s 0), of a list of odd syndromes and of all
+ * (t 64), and of places (t0 63, since t0 is below t1, which is at most 64). */
 #define GII_PAGE_MAX 4096
 #define GII_BLOCKS_MAX 4086
-#define GII_LIST_MAX 256
+#define GII_LIST_MAX 128
+#define GII_ALL_MAX 256
 #define GII_PLACES_MAX 126
 
 /* The most pages that gii_write_many writes in one call. */
@@ -123,8 +126,8 @@ enum gii_answer {
     GII_BLOCKS = 6,        /* the blocks' length is not exact */
     GII_PAGE = 7,          /* the page's length, or that of many pages, is not exact */
     GII_STRAY = 8,         /* a spare bit of a page, or an unused bit of the blocks, that is read is 1 */
-    GII_INDEX = 9,         /* there is no such sub-word, nested word, block or bit; a value is above 1; not 1 to 16 pages */
-    GII_LIST = 10,         /* the list's length, or that of the places, is not exact */
+    GII_INDEX = 9,         /* no such sub-word, nested word, block, bit or level; a value is above 1; not 1 to 16 pages */
+    GII_LIST = 10,         /* a list's length, or that of the places, is not exact */
     GII_FULL = 11,         /* a register would take more than n - s coefficients */
     GII_REGISTER = 12,     /* a register's level or remainder is out of range */
     GII_BLANK_BLOCKS = 13, /* the page of the blocks, where s is 0 and every data bit 1, or the altered page would be blank */
@@ -242,8 +245,9 @@ uint32_t gii_judge(uint32_t q, uint32_t m, uint32_t v, uint32_t t0, uint32_t t1,
                    uint32_t s, const uint8_t *page, size_t page_len);
 
 /*
- * Syndromes of a sub-word: S_j, the value of sub-word `index` at alpha^j, for j from 1 to 2 t0, into `list`, of
- * GII_LIST_BYTES(t0) bytes. An element is a number below 2^q, alpha is 2; the field polynomials are 0x13, 0x11D, 0x1053.
+ * Syndromes of a sub-word: S_j, the value of sub-word `index` at alpha^j, for the odd j from 1 to 2 t0 - 1, into `list`, of
+ * GII_LIST_BYTES(t0) bytes: number i of it, 0 the first, is S_(2i+1). An element is a number below 2^q, alpha is 2; the field
+ * polynomials are 0x13, 0x11D, 0x1053. The others are squares of these, which gii_all_syndromes gives.
  *
  * Returns GII_DONE, or refuses: 1 to 4, 14, 7, 8 (a spare bit anywhere in the page, blank or not), 9 (index >= m), 10.
  */
@@ -251,13 +255,30 @@ uint32_t gii_syndromes(uint32_t q, uint32_t m, uint32_t v, uint32_t t0, uint32_t
                        uint32_t s, const uint8_t *page, size_t page_len, uint32_t index, uint8_t *list, size_t list_len);
 
 /*
- * Syndromes of nested word `index`, likewise, for j from 1 to 2 t_(v-index): GII_LIST_BYTES(t_(v-index)) bytes.
+ * Syndromes of nested word `index`, likewise, for the odd j from 1 to 2 t_(v-index) - 1: GII_LIST_BYTES(t_(v-index)) bytes.
  *
  * Returns GII_DONE, or refuses: 1 to 4, 14, 7, 8 (a spare bit anywhere in the page, blank or not), 9 (index >= v), 10.
  */
 uint32_t gii_nested_syndromes(uint32_t q, uint32_t m, uint32_t v, uint32_t t0, uint32_t t1, uint32_t t2, uint32_t t3,
                               uint32_t s, const uint8_t *page, size_t page_len, uint32_t index, uint8_t *list,
                               size_t list_len);
+
+/*
+ * All syndromes: S_1, S_2, .., S_2t, t being t_level, into `list`, of GII_ALL_BYTES(t) bytes, from `odd`, the list of the odd
+ * ones, S_1, S_3, .., S_(2t-1), of GII_LIST_BYTES(t) bytes. The level is 0 for the list of a sub-word, v - l for that of
+ * nested word l.
+ *
+ * S_2j is the square of S_j, as it is of every word: from the list of gii_syndromes or gii_nested_syndromes all are the values
+ * of that word at alpha^j, for j from 1 to 2 t. The odd ones are copied as they are given, all 16 bits. A number that is no
+ * element, 2^q or above, is squared as a polynomial modulo that of the field.
+ *
+ * At q 4 the odd ones 2, 8 give 2, 4, 8, 3.
+ *
+ * Returns GII_DONE, or refuses: 1 to 4, 14, 9 (level > v), 10 (odd_len is not GII_LIST_BYTES(t_level), or list_len is not
+ * GII_ALL_BYTES(t_level)).
+ */
+uint32_t gii_all_syndromes(uint32_t q, uint32_t m, uint32_t v, uint32_t t0, uint32_t t1, uint32_t t2, uint32_t t3,
+                           uint32_t s, uint32_t level, const uint8_t *odd, size_t odd_len, uint8_t *list, size_t list_len);
 
 /*
  * Quote: what the sheet comes to, 12 numbers into `list`, of GII_QUOTE_BYTES bytes: the degrees w_0 to w_3, 0 past v; then
@@ -351,6 +372,13 @@ static inline uint32_t gii_sheet_nested_syndromes(const struct gii_sheet *sheet,
                                 page, page_len, index, list, list_len);
 }
 
+static inline uint32_t gii_sheet_all_syndromes(const struct gii_sheet *sheet, uint32_t level, const uint8_t *odd,
+                                               size_t odd_len, uint8_t *list, size_t list_len)
+{
+    return gii_all_syndromes(sheet->q, sheet->m, sheet->v, sheet->t[0], sheet->t[1], sheet->t[2], sheet->t[3], sheet->s,
+                             level, odd, odd_len, list, list_len);
+}
+
 static inline uint32_t gii_sheet_quote(const struct gii_sheet *sheet, uint8_t *list, size_t list_len)
 {
     return gii_quote(sheet->q, sheet->m, sheet->v, sheet->t[0], sheet->t[1], sheet->t[2], sheet->t[3], sheet->s,
@@ -391,7 +419,7 @@ static inline const char *gii_answer_text(uint32_t number)
     case GII_BLOCKS: return "blocks: the length is not exact";
     case GII_PAGE: return "page: the length is not exact";
     case GII_STRAY: return "stray: a spare or unused bit is 1";
-    case GII_INDEX: return "index: no such sub-word, nested word, block or bit, a value above 1, or not 1 to 16 pages";
+    case GII_INDEX: return "index: no such sub-word, nested word, block, bit or level, a value above 1, or not 1 to 16 pages";
     case GII_LIST: return "list: the length is not exact";
     case GII_FULL: return "full: a register would take more than n - s coefficients";
     case GII_REGISTER: return "register: level or remainder out of range";

@@ -61,7 +61,7 @@ faults=(data-high zero-page level-0-only write-touches-nothing width-37 one-stre
     mend-page-before-14 mend-index-before-14 mend-full-page mend-stray-missed mend-stray-of-the-sub-word \
     mend-stray-of-the-last mend-erased-taken mend-index-m mend-index-one-fewer mend-index-by-v mend-index-any \
     mend-index-modulo-2-8 mend-index-modulo-2-16 mend-index-before-page mend-index-before-stray \
-    mend-list-as-syndromes mend-list-by-level-v mend-list-longer mend-list-odd mend-list-modulo-2-8 \
+    mend-list-as-all-syndromes mend-list-by-level-v mend-list-longer mend-list-odd mend-list-modulo-2-8 \
     mend-list-before-page mend-list-before-stray mend-list-before-index mend-15-before-list \
     mend-13-before-stray mend-13-of-the-lent mend-13-of-the-mended mend-blank-passed \
     mend-refusal-writes mend-refusal-lists mend-refusal-counts \
@@ -77,7 +77,20 @@ faults=(data-high zero-page level-0-only write-touches-nothing width-37 one-stre
     mend-count-off mend-count-of-the-list mend-count-bytes mend-count-left mend-count-left-at-0 mend-count-overrun \
     mend-answers-flips mend-answers-verdict \
     mend-stray-missed@s mend-into-sub-word-0@s mend-15-half-written@s mend-no-15@s mend-falling@s mend-filler-left@s \
-    mend-list-longer@s mend-one-fewer@s mend-count-left-at-0@s)
+    mend-list-longer@s mend-one-fewer@s mend-count-left-at-0@s \
+    odd-even-listed odd-first-t odd-from-3 odd-list-as-before odd-list-either odd-list-longer odd-list-any \
+    odd-list-before-page odd-list-before-stray odd-list-before-index odd-list-by-level-v odd-nested-by-level-l \
+    odd-nested-by-level-0 odd-nested-past-g-0 odd-one-strength odd-refusal-clears \
+    all-level-before-14 all-without-14 all-level-v-refused all-level-to-3 all-level-any all-level-inverted \
+    all-level-modulo-2-8 all-level-modulo-2-16 all-list-before-level all-odd-any-length all-list-any-length \
+    all-lengths-longer all-lengths-modulo-2-8 all-lengths-twice all-lengths-together all-lengths-swapped all-from-all \
+    all-elements-only all-refusal-clears \
+    all-polynomial-of-q-4 all-polynomial-of-q-8 all-polynomial-of-q-12 all-other-polynomials all-not-reduced \
+    all-reduced-as-elements all-square-masked all-masked all-squares-in-order all-squared-once all-from-before \
+    all-from-next all-odd-masked all-odd-reduced all-odd-first all-one-strength all-last-left all-high-byte-first \
+    all-low-byte-alone all-overrun all-alters-odd all-answers-count \
+    odd-even-listed@s odd-list-either@s odd-nested-past-g-0@s all-level-inverted@s all-masked@s \
+    all-squares-in-order@s all-refusal-clears@s)
 [ $# = 0 ] || faults=("$@")
 tried=0 missed=0
 for fault in "${faults[@]}"; do

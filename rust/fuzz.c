@@ -5,7 +5,8 @@
  * pages are known, read out as ones and never written. Many pages in one call are listed and written as each is alone. A
  * page is altered by the page that is written of the bit alone, and never into a blank one. A sub-word is mended by the flips
  * that are listed, no more than t0 of stored places, into one whose syndromes are 0; where it had been such a one before so
- * few flips, into that.
+ * few flips, into that. Of all syndromes the odd ones are those that are given, the others squares; those of a page are the
+ * sums that define them.
  * Usage: fuzz CALLS SEED. It is built with the sanitizers, and without them for valgrind, which sees every access of the
  * archive.
  */
@@ -413,6 +414,92 @@ static uint32_t alter(const struct gii_sheet *s, struct sizes is, unsigned long 
     return r;
 }
 
+/* The field polynomials, by q. */
+static uint32_t polynomial(uint32_t q)
+{
+    return q == 4 ? 0x13 : q == 8 ? 0x11D : 0x1053;
+}
+
+/* A polynomial of up to 32 coefficients modulo that of the field. */
+static uint32_t reduced(uint32_t q, uint32_t number)
+{
+    for (uint32_t k = 31; k >= q; k--)
+        if (number >> k & 1)
+            number ^= polynomial(q) << (k - q);
+    return number;
+}
+
+/* Whether all syndromes, which were made of t odd ones, are those and squares. */
+static int as_squares(uint32_t q, uint32_t t, const uint8_t *odd, const uint8_t *all)
+{
+    for (uint32_t j = 0; j < 2 * t; j++) {
+        uint32_t root = gii_number(all, j / 2), spread = 0;
+        for (uint32_t k = 0; j % 2 && k < 16; k++)
+            spread |= (root >> k & 1) << 2 * k;
+        if (gii_number(all, j) != (j % 2 ? reduced(q, spread) : gii_number(odd, j / 2)))
+            return 0;
+    }
+    return 1;
+}
+
+/* The value at alpha^j of the sum over the sub-words from `first` to `last` of x^(l i) c_i, place by place. */
+static uint32_t value_at(const struct gii_sheet *s, struct buffer page, uint32_t first, uint32_t last, uint32_t l, uint32_t j)
+{
+    uint32_t n = ((uint32_t)1 << s->q) - 1, step = 1, sum = 0;
+    for (uint32_t k = 0; k < j; k++)
+        step = reduced(s->q, step << 1);
+    for (uint32_t i = first; i <= last; i++) {
+        const uint8_t *word = page.bytes + i * (page.length / s->m);
+        uint32_t power = 1;
+        for (uint32_t k = 0; k < j * l * i % n; k++)
+            power = reduced(s->q, power << 1);
+        for (uint32_t k = 0; k < stored(s); k++) {
+            uint32_t product = 0;
+            if (word[k / 8] >> k % 8 & 1)
+                sum ^= power;
+            for (uint32_t b = 0; b < s->q; b++)
+                product ^= (power >> b & 1) * (step << b);
+            power = reduced(s->q, product);
+        }
+    }
+    return sum;
+}
+
+/* Whether all syndromes from a list of odd ones that a call has given of a page are squares, and one of them, drawn, is the
+ * value of the word: sub-word `index`, or nested word `index`. */
+static int as_summed(const struct gii_sheet *s, struct buffer page, int nested, uint32_t index, const uint8_t *odd)
+{
+    uint32_t level = nested ? s->v - index : 0, t = s->t[level], j = 1 + below(2 * t);
+    uint8_t all[GII_ALL_MAX];
+    if (gii_sheet_all_syndromes(s, level, odd, GII_LIST_BYTES(t), all, GII_ALL_BYTES(t)) != GII_DONE || !as_squares(s->q, t, odd, all))
+        return 0;
+    /* Those of q = 12 take longest. */
+    if (s->q == 12 && !once_in(4))
+        return 1;
+    return gii_number(all, j - 1) == (nested ? value_at(s, page, 0, s->m - 1, index, j) : value_at(s, page, index, index, 0, j));
+}
+
+/* A call of gii_all_syndromes, on sizes that are in range or 0: its answer, and whether all is as it is to be. */
+static uint32_t all_syndromes(const struct gii_sheet *s, struct sizes is, int *good)
+{
+    uint32_t level = is.page && !once_in(9) ? below(s->v + 1) : once_in(3) ? (uint32_t)any() : below(6), r, first;
+    uint32_t t = level < 4 ? s->t[level] % 100 : below(70);
+    struct buffer odd = lend(GII_LIST_BYTES(t)), list = lend(GII_ALL_BYTES(t));
+    note(odd);
+    note(list);
+    /* What is to come, where the sheet is accepted. */
+    if (level > s->v)
+        first = GII_INDEX;
+    else
+        first = odd.length != GII_LIST_BYTES(t) || list.length != GII_ALL_BYTES(t) ? GII_LIST : GII_DONE;
+    r = gii_sheet_all_syndromes(s, level, odd.bytes, odd.length, list.bytes, list.length);
+    *good = kept(odd) && (is.page ? r == first : r >= GII_FIELD && (r <= GII_CLASH || r == GII_SHORTENING));
+    *good = *good && (r == GII_DONE ? as_squares(s->q, t, odd.bytes, list.bytes) : kept(list));
+    give_back(odd);
+    give_back(list);
+    return r;
+}
+
 /* Whether the syndromes of a sub-word of a page, of exact length and without stray bits, are 0. */
 static int without_syndromes(const struct gii_sheet *s, const uint8_t *page, size_t length, uint32_t index)
 {
@@ -522,7 +609,7 @@ int main(int argc, char **argv)
         struct sizes is = {gii_sheet_page_bytes(&s), gii_sheet_data_bytes(&s), gii_sheet_distance(&s)};
         size_t exact = is.page ? is.page : below(5000);
         uint32_t index = below(10), level = s.t[index <= s.v && s.v < 4 ? s.v - index : 0] % 100;
-        int call = (int)below(9), sized = in_range(&s, is), good;
+        int call = (int)below(10), sized = in_range(&s, is), good;
         size_t list = call == 5 ? GII_QUOTE_BYTES : GII_LIST_BYTES(call == 3 ? s.t[0] % 100 : level);
         struct buffer page = lend(exact), other = lend(call < 2 ? is.data : list);
         uint32_t r;
@@ -559,11 +646,11 @@ int main(int argc, char **argv)
             break;
         case 3:
             r = gii_sheet_syndromes(&s, page.bytes, page.length, index, other.bytes, other.length);
-            good = kept(page) && (r == 0 ? !spare : refused(r) && kept(other));
+            good = kept(page) && (r == 0 ? paged && !spare && other.length == list && as_summed(&s, page, 0, index, other.bytes) : refused(r) && kept(other));
             break;
         case 4:
             r = gii_sheet_nested_syndromes(&s, page.bytes, page.length, index, other.bytes, other.length);
-            good = kept(page) && (r == 0 ? !spare : refused(r) && kept(other));
+            good = kept(page) && (r == 0 ? paged && !spare && other.length == list && as_summed(&s, page, 1, index, other.bytes) : refused(r) && kept(other));
             break;
         case 5:
             r = gii_sheet_quote(&s, other.bytes, other.length);
@@ -576,8 +663,11 @@ int main(int argc, char **argv)
         case 7:
             r = alter(&s, is, altered, &good);
             break;
-        default:
+        case 8:
             r = mend(&s, is, mended, &good);
+            break;
+        default:
+            r = all_syndromes(&s, is, &good);
             break;
         }
         /* 14 comes before all but 1 to 4, which the quote of full sub-words has too. */

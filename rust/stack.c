@@ -29,6 +29,7 @@ static const struct gii_sheet sheets[] = {
 };
 static struct gii_sheet sheet;
 static uint8_t blocks[GII_BLOCKS_MAX], page[GII_PAGE_MAX], erased[GII_PAGE_MAX], back[GII_BLOCKS_MAX], list[GII_LIST_MAX];
+static uint8_t all[GII_ALL_MAX];
 static uint8_t quote[GII_QUOTE_BYTES], clear[GII_PAGE_MAX], damaged[GII_PAGE_MAX], places[GII_PLACES_MAX], flips;
 static uint8_t many_blocks[GII_COUNT_MAX * GII_BLOCKS_MAX], pages[GII_COUNT_MAX * GII_PAGE_MAX], listed[GII_COUNT_MAX];
 static size_t blocks_len, page_len;
@@ -64,6 +65,10 @@ static struct {
     {"mend, t0 flips", GII_DONE, MEND_LIMIT, 0},
     /* Mended where another multiple of g_0 is near. */
     {"mend, t0 + 5 flips", GII_UNMENDED, MEND_LIMIT, 0},
+    {"syndromes, a damaged page", GII_DONE, LIMIT, 0},
+    {"nested syndromes, a damaged page", GII_DONE, LIMIT, 0},
+    {"all syndromes from the odd ones", GII_DONE, LIMIT, 0},
+    {"all syndromes, no elements", GII_DONE, LIMIT, 0},
 };
 static size_t call;
 static uint32_t answer;
@@ -119,6 +124,13 @@ static void *run(void *unused)
     case 21: answer = mend(sheet.t[0] / 2); break;
     case 22: answer = mend(sheet.t[0]); break;
     case 23: answer = mend(sheet.t[0] + 5); break;
+    case 24: answer = gii_sheet_syndromes(&sheet, damaged, page_len, sheet.m - 1, list, GII_LIST_BYTES(sheet.t[0])); break;
+    case 25: answer = gii_sheet_nested_syndromes(&sheet, damaged, page_len, 0, list, GII_LIST_BYTES(sheet.t[sheet.v])); break;
+    case 26:
+    case 27:
+        answer = gii_sheet_all_syndromes(&sheet, sheet.v, call == 26 ? list : erased, GII_LIST_BYTES(sheet.t[sheet.v]), all,
+                                         GII_ALL_BYTES(sheet.t[sheet.v]));
+        break;
     }
     return NULL;
 }

@@ -1,7 +1,8 @@
 /*
- * The C functions at work: a sheet is quoted, a page is written, judged, damaged, judged and read out, scratched and judged,
- * an erased page is known as blank, many pages are written in one call, one bit of a stored page is altered, damaged
- * sub-words are mended, all that with full and with shortened sub-words, and every refusal is shown to leave its buffers.
+ * The C functions at work: a sheet is quoted, a page is written, judged, damaged, judged and read out, its odd syndromes are
+ * listed and all made of them, it is scratched and judged, an erased page is known as blank, many pages are written in one
+ * call, one bit of a stored page is altered, damaged sub-words are mended, all that with full and with shortened sub-words,
+ * and every refusal is shown to leave its buffers.
  * Every length comes from the calls. Prints what it does; the first surprise ends it with status 1.
  *
  *   rt staticlib gii_bch
@@ -115,6 +116,33 @@ static void scratched(const struct gii_sheet *s, const uint8_t *quote, const uin
     must(found, "scratched, w_v places in a row: never a member");
 }
 
+/* An element times alpha^e. */
+static uint32_t times_alpha(const struct gii_sheet *s, uint32_t element, uint32_t e)
+{
+    for (; e; e--) {
+        element <<= 1;
+        if (element >> s->q)
+            element ^= s->q == 4 ? 0x13 : s->q == 8 ? 0x11D : 0x1053;
+    }
+    return element;
+}
+
+/* All syndromes of a word of a level whose only fault is at place `at`, from the odd ones: S_j is alpha^(j at). */
+static void all_of_one_fault(const struct gii_sheet *s, uint32_t level, const uint8_t *odd, uint32_t at)
+{
+    uint8_t all[GII_ALL_MAX];
+    uint32_t t = s->t[level], j, power = 1;
+    int equal = 1;
+
+    memset(all, 0xA5, sizeof all);
+    must(gii_sheet_all_syndromes(s, level, odd, GII_LIST_BYTES(t), all, GII_ALL_BYTES(t)) == GII_DONE, "all from the odd ones");
+    for (j = 1; j <= 2 * t; j++) {
+        power = times_alpha(s, power, at);
+        equal = equal && gii_number(all, j - 1) == power && (j % 2 == 0 || gii_number(odd, j / 2) == power);
+    }
+    must(equal, "they are the powers of the one at the fault's place");
+}
+
 /* A page's way: written, judged, read out; damaged, judged, read out. */
 static void round_trip(const struct gii_sheet *s)
 {
@@ -144,9 +172,9 @@ static void round_trip(const struct gii_sheet *s)
         t = i < s->m ? s->t[0] : s->t[s->v];
         memset(list, 0xA5, sizeof list);
         if (i < s->m)
-            must(gii_sheet_syndromes(s, page, page_len, i, list, GII_LIST_BYTES(t)) == GII_DONE, "syndromes");
+            must(gii_sheet_syndromes(s, page, page_len, i, list, GII_LIST_BYTES(t)) == GII_DONE, "odd syndromes");
         else
-            must(gii_sheet_nested_syndromes(s, page, page_len, 0, list, GII_LIST_BYTES(t)) == GII_DONE, "nested syndromes");
+            must(gii_sheet_nested_syndromes(s, page, page_len, 0, list, GII_LIST_BYTES(t)) == GII_DONE, "odd nested syndromes");
         for (k = 0, zero = 1; k < GII_LIST_BYTES(t); k++)
             zero = zero && list[k] == 0;
         must(zero, "they are 0");
@@ -157,8 +185,15 @@ static void round_trip(const struct gii_sheet *s)
         other[i * (page_len / s->m) + 1] ^= 0x01;
         must(gii_sheet_judge(s, other, page_len) == GII_SUB_WORD + i, "one bit flipped: its sub-word fails");
         must(gii_sheet_read_out(s, other, page_len, out, blocks_len) == GII_SUB_WORD + i, "read out says so too");
-        must(gii_sheet_syndromes(s, other, page_len, i, list, GII_LIST_BYTES(s->t[0])) == GII_DONE, "syndromes");
+        must(gii_sheet_syndromes(s, other, page_len, i, list, GII_LIST_BYTES(s->t[0])) == GII_DONE, "odd syndromes");
         must(gii_number(list, 0) != 0, "S_1 is not 0");
+        all_of_one_fault(s, 0, list, 8);
+        /* In nested word l the place is l i higher. */
+        for (k = 0; k < s->v; k++) {
+            t = s->t[s->v - k];
+            must(gii_sheet_nested_syndromes(s, other, page_len, (uint32_t)k, list, GII_LIST_BYTES(t)) == GII_DONE, "odd nested syndromes");
+            all_of_one_fault(s, s->v - (uint32_t)k, list, 8 + (uint32_t)k * i);
+        }
         scratched(s, quote, page, i);
     }
 }
@@ -439,11 +474,12 @@ static void known_pages(void)
     static const uint8_t blocks[3] = {0x01, 0x01, 0x00}, page[4] = {0xC2, 0x01, 0x13, 0x00};
     static const uint8_t mixed[4] = {0xFF, 0x03, 0xFF, 0xA7}, altered[4] = {0x13, 0x00, 0x13, 0x00};
     static const uint8_t one[4] = {0x01}, multiple[4] = {0x13}, second[4] = {0x02}, syndromes[8] = {2, 0, 4, 0, 8, 0, 3, 0};
+    static const uint8_t odd[4] = {2, 0, 8, 0}, no_elements[4] = {0x10, 0x00, 0x00, 0x80}, squares[8] = {0x10, 0, 5, 0, 0, 0x80, 2, 0};
     static const uint8_t erased[4] = {0xFF, 0xFF, 0xFF, 0xFF}, clear[4] = {0xFF, 0x7F, 0xFF, 0x7F}, ones[3] = {0x7F, 0xFF, 0x07};
     static const uint8_t many[12] = {0x01, 0x01, 0x00, 0x81, 0x01, 0x00, 0x7F, 0xFF, 0x07, 0x00, 0x01, 0x00};
     static const uint8_t all[16] = {0xC2, 0x01, 0x13, 0x00, 0xA5, 0xA5, 0xA5, 0xA5, 0xA5, 0xA5, 0xA5, 0xA5, 0x13, 0x00, 0x13, 0x00};
     static const uint8_t damaged[4] = {0xC2, 0x01, 0x33, 0x00}, cut[4] = {0xC0, 0x00, 0x00, 0x00};
-    uint8_t out[4], list[8], pages[16], flips;
+    uint8_t out[4], list[8], few[4], pages[16], flips;
 
     printf("known pages of q 4, m 2, v 1, t 1, 2\n");
     must(gii_sheet_write(&a, 8, blocks, sizeof blocks, out, sizeof out) == GII_DONE, "blocks 01 / 01 00 written");
@@ -466,8 +502,12 @@ static void known_pages(void)
     must(memcmp(out, ones, sizeof ones) == 0, "blocks 7F / FF 07");
     must(gii_sheet_judge(&a, one, sizeof one) == GII_SUB_WORD + 0, "01 00 00 00: sub-word 0 fails");
     must(gii_sheet_judge(&a, multiple, sizeof multiple) == GII_NESTED_WORD + 0, "13 00 00 00: nested word 0 fails");
-    must(gii_sheet_nested_syndromes(&a, second, sizeof second, 0, list, sizeof list) == GII_DONE, "syndromes of 02 00");
+    must(gii_sheet_nested_syndromes(&a, second, sizeof second, 0, few, sizeof few) == GII_DONE, "odd syndromes of 02 00");
+    must(memcmp(few, odd, sizeof odd) == 0, "2, 8");
+    must(gii_sheet_all_syndromes(&a, 1, few, sizeof few, list, sizeof list) == GII_DONE, "all from them");
     must(memcmp(list, syndromes, sizeof list) == 0, "2, 4, 8, 3");
+    must(gii_sheet_all_syndromes(&a, 1, no_elements, sizeof no_elements, list, sizeof list) == GII_DONE, "all from 16 and 32768, no elements");
+    must(memcmp(list, squares, sizeof list) == 0, "16, 5, 32768, 2: x^8 is x^2 + 1, its square x");
 
     printf("the same with s 5: ten coefficients on two bytes\n");
     memset(out, 0xA5, sizeof out);
@@ -478,8 +518,9 @@ static void known_pages(void)
     must(gii_sheet_read_out(&shorter, mixed, sizeof mixed, out, 2) == GII_BLANK, "FF 03 FF A7 read out");
     must(out[0] == 0x03 && out[1] == 0x3F, "blocks 03 / 3F");
     must(gii_sheet_judge(&shorter, clear, sizeof clear) == GII_BLANK, "FF 7F FF 7F is blank");
-    must(gii_sheet_nested_syndromes(&shorter, second, sizeof second, 0, list, sizeof list) == GII_DONE, "syndromes of 02 00");
-    must(memcmp(list, syndromes, sizeof list) == 0, "2, 4, 8, 3");
+    must(gii_sheet_nested_syndromes(&shorter, second, sizeof second, 0, few, sizeof few) == GII_DONE, "odd syndromes of 02 00");
+    must(gii_sheet_all_syndromes(&shorter, 1, few, sizeof few, list, sizeof list) == GII_DONE, "all from them");
+    must(memcmp(few, odd, sizeof odd) == 0 && memcmp(list, syndromes, sizeof list) == 0, "2, 8, and 2, 4, 8, 3");
     memcpy(out, cut, sizeof cut);
     must(gii_sheet_mend(&shorter, out, sizeof out, 0, list, GII_PLACES_BYTES(a.t[0]), &flips) == GII_UNMENDED,
          "C0 00 is near x^6 + x^7 + x^10 alone, and place 10 is not stored: not mended");
@@ -491,7 +532,8 @@ struct lent {
     uint8_t blocks[GII_COUNT_MAX * 8], page[GII_COUNT_MAX * 8], list[2 * GII_QUOTE_BYTES], flips;
 };
 
-enum call { WRITE, READ_OUT, JUDGE, SYNDROMES, NESTED_SYNDROMES, QUOTE, WRITE_MANY, ALTER, MEND };
+/* The odd list of ALL_SYNDROMES is in the place of blocks. */
+enum call { WRITE, READ_OUT, JUDGE, SYNDROMES, NESTED_SYNDROMES, QUOTE, WRITE_MANY, ALTER, MEND, ALL_SYNDROMES };
 
 /* The pages that WRITE_MANY is told, the bit and the value that ALTER is. */
 static uint32_t count = 1, bit = 0, value = 1;
@@ -499,7 +541,8 @@ static uint32_t count = 1, bit = 0, value = 1;
 static void refused(enum call call, const struct gii_sheet *s, uint32_t number, size_t blocks_len, size_t page_len,
                     size_t list_len, const struct lent *holds, uint32_t expected, const char *what)
 {
-    static const char *const names[] = {"write", "read out", "judge", "syndromes", "nested syndromes", "quote", "write many", "alter", "mend"};
+    static const char *const names[] = {"write", "read out", "judge", "syndromes", "nested syndromes", "quote", "write many", "alter", "mend",
+                                        "all syndromes"};
     struct lent lent = *holds;
     char line[240];
     uint32_t answer = 0;
@@ -531,6 +574,9 @@ static void refused(enum call call, const struct gii_sheet *s, uint32_t number, 
         break;
     case MEND:
         answer = gii_sheet_mend(s, lent.page, page_len, number, lent.list, list_len, &lent.flips);
+        break;
+    case ALL_SYNDROMES:
+        answer = gii_sheet_all_syndromes(s, number, lent.blocks, blocks_len, lent.list, list_len);
         break;
     }
     sprintf(line, "%s, %s: refused by %u (%s), every byte stays", names[call], what, (unsigned)expected,
@@ -580,7 +626,7 @@ static void refusals(void)
     cut.page[0] = 0xC0;
 
     printf("refusals\n");
-    for (call = WRITE; call <= MEND; call++) {
+    for (call = WRITE; call <= ALL_SYNDROMES; call++) {
         enum call c = (enum call)call;
         uint32_t number = c == WRITE || c == WRITE_MANY ? 8 : 0;
         size_t list = c == WRITE_MANY ? 1 : c == QUOTE ? GII_QUOTE_BYTES : GII_LIST_BYTES(c == SYNDROMES ? a.t[0] : a.t[1]);
@@ -613,14 +659,14 @@ static void refusals(void)
             refused(c, &a, number, data - 1, page, list, &erased, GII_BLOCKS, "erased, a byte of blocks less");
             refused(c, &shorter, number, data, page, list, &fits, GII_BLOCKS, "s 5, blocks for s 0");
         }
-        if (c != QUOTE) {
+        if (c != QUOTE && c != ALL_SYNDROMES) {
             refused(c, &a, number, data, page - 1, list, &fits, GII_PAGE, "a byte of page less");
             refused(c, &a, number, data, page + 1, list, &fits, GII_PAGE, "a byte of page more");
             refused(c, &a, number, data, 0, list, &fits, GII_PAGE, "no page");
             refused(c, &a, number, data, page - 1, list, &erased, GII_PAGE, "erased, a byte of page less");
             refused(c, &a, number, data, 0, 0, &stray, GII_PAGE, "page, stray and list");
         }
-        if (c != QUOTE && c != WRITE_MANY)
+        if (c != QUOTE && c != WRITE_MANY && c != ALL_SYNDROMES)
             refused(c, &a, number, data, page, list, &stray, GII_STRAY, "a stray bit");
         if (c == SYNDROMES || c == NESTED_SYNDROMES || c == MEND) {
             refused(c, &a, c == NESTED_SYNDROMES ? a.v : a.m, data, page, list, &fits, GII_INDEX, "no such word");
@@ -673,8 +719,25 @@ static void refusals(void)
     refused(ALTER, &a, 1, 0, page, 0, &fits, GII_INDEX, "value 4294967295");
 
     refused(MEND, &shorter, 0, 0, page, GII_PLACES_BYTES(a.t[0]), &cut, GII_UNMENDED, "s 5, a multiple cut short");
-    refused(MEND, &shorter, 0, 0, page, GII_LIST_BYTES(a.t[0]), &cut, GII_LIST, "the same, and a list as long as syndromes");
+    refused(MEND, &shorter, 0, 0, page, GII_ALL_BYTES(a.t[0]), &cut, GII_LIST, "the same, and a list as long as all syndromes");
     refused(MEND, &shorter, UINT32_MAX, 0, page, 0, &cut, GII_INDEX, "the same, list and index 4294967295");
+
+    for (call = 0; call < 2; call++) {
+        size_t odd = GII_LIST_BYTES(a.t[call]), all = GII_ALL_BYTES(a.t[call]);
+        uint32_t level = (uint32_t)call;
+
+        refused(ALL_SYNDROMES, &a, level, odd - 1, 0, all, &fits, GII_LIST, "a byte of the odd ones less");
+        refused(ALL_SYNDROMES, &a, level, odd + 1, 0, all, &fits, GII_LIST, "a byte of the odd ones more");
+        refused(ALL_SYNDROMES, &a, level, all, 0, all, &fits, GII_LIST, "all in place of the odd ones");
+        refused(ALL_SYNDROMES, &a, level, odd, 0, all - 1, &fits, GII_LIST, "a byte of list less");
+        refused(ALL_SYNDROMES, &a, level, odd, 0, all + 1, &fits, GII_LIST, "a byte of list more");
+        refused(ALL_SYNDROMES, &a, level, odd, 0, odd, &fits, GII_LIST, "room for the odd ones alone");
+        refused(ALL_SYNDROMES, &a, level, 0, 0, 0, &fits, GII_LIST, "no lists");
+        refused(ALL_SYNDROMES, &a, 1 - level, odd, 0, all, &fits, GII_LIST, "lists of the other level");
+        refused(ALL_SYNDROMES, &a, a.v + 1, odd, 0, all, &fits, GII_INDEX, "level 2");
+    }
+    refused(ALL_SYNDROMES, &a, 2, 0, 0, 0, &fits, GII_INDEX, "level 2, whose strength is 0, and no lists");
+    refused(ALL_SYNDROMES, &a, UINT32_MAX, 0, 0, 0, &fits, GII_INDEX, "level 4294967295 and no lists");
 
     without_sizes(&field, "q 5");
     without_sizes(&shape, "m 1");
@@ -695,7 +758,7 @@ static void header(void)
     sprintf(version, "%d.%d.%d", GII_BCH_VERSION_MAJOR, GII_BCH_VERSION_MINOR, GII_BCH_VERSION_PATCH);
     must(strcmp(version, GII_BCH_VERSION) == 0, "version " GII_BCH_VERSION);
     must(gii_sheet_page_bytes(&most) == GII_PAGE_MAX && gii_sheet_data_bytes(&most) == GII_BLOCKS_MAX, "the most bytes");
-    must(GII_LIST_BYTES(64) == GII_LIST_MAX, "the longest list");
+    must(GII_LIST_BYTES(64) == GII_LIST_MAX && GII_ALL_BYTES(64) == GII_ALL_MAX, "the longest lists of syndromes");
     must(GII_PLACES_BYTES(63) == GII_PLACES_MAX, "the most places");
     must(GII_COUNT_MAX == 16, "the most pages of one call");
     must(GII_IS_REFUSAL(GII_FIELD) && GII_IS_REFUSAL(GII_SHORTENING) && GII_IS_REFUSAL(GII_UNMENDED), "refusals");

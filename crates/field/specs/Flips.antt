@@ -114,6 +114,19 @@ module _ (P : ℕ → Bool) where
       go (inl w) f g = rw (← w) (at (P k) (passing P (suc k) z) (rw w (a .0)) (f (rw w (r .2)) (a .1)))
       go (inr w) f g = more (P k) k (passing P (suc k) z) (i ∷ R) (g (w, r .1, r .2) a)
 
+-- one place more
+pub passing-last : (P : ℕ → Bool) (j z : ℕ) → passing P j (suc z) ≡ passing P j z ++ cond (P (j + z)) ((j + z) ∷ []) []
+passing-last P j zero =
+    passing-suc P j zero ∙ ap (λ (l : List ℕ). cond (P j) (j ∷ l) l) (passing-zero P (suc j))
+    ∙ sym (ap (λ (l : List ℕ). l ++ cond (P (j + 0)) ((j + 0) ∷ []) []) (passing-zero P j) ∙ ap (λ (i : ℕ). cond (P i) (i ∷ []) []) (Nat.add-zero j))
+passing-last P j (suc z) =
+    passing-suc P j (suc z) ∙ ap (λ (l : List ℕ). cond (P j) (j ∷ l) l) (passing-last P (suc j) z ∙ ap (λ (i : ℕ). passing P (suc j) z ++ cond (P i) (i ∷ []) []) (Nat.suc-add j z ∙ sym (Nat.add-suc j z)))
+    ∙ out (P j) (passing P (suc j) z) (cond (P (j + suc z)) ((j + suc z) ∷ []) []) ∙ sym (ap (λ (l : List ℕ). l ++ cond (P (j + suc z)) ((j + suc z) ∷ []) []) (passing-suc P j z))
+  where
+    out : (b : Bool) (l m : List ℕ) → cond b (j ∷ (l ++ m)) (l ++ m) ≡ cond b (j ∷ l) l ++ m
+    out true l m = refl
+    out false l m = refl
+
 -- ---- a word by its ones
 length-put : (b k : ℕ) (R : List ℕ) → b < 2 → length (put (eqb b 1) k R) ≡ b + length R
 length-put b k R h = bit-ind (λ (b : ℕ). length (put (eqb b 1) k R) ≡ b + length R) (omega arith) (omega arith) b h
@@ -185,6 +198,15 @@ flips-last (i ∷ l) k = flips-cons i (l ++ (k ∷ [])) ∙ rw (flips-last l k, 
 
 pub flips-take : (l : List ℕ) (j : ℕ) → j < length l → flips (take (suc j) l) ≡ xor (flips (take j l)) (2 ^ getD l j 0)
 flips-take l j h = ap flips (take-suc l j 0 h) ∙ flips-last (take j l) (getD l j 0)
+
+pub ones-zero : (e : ℕ) → ones 0 e ≡ []
+ones-zero e = ones-eq 0 e ∙ passing-zero (one e) 0
+
+pub ones-suc : (k e b : ℕ) → b < 2 → b ≡ coefficient e k → ones (suc k) e ≡ ones k e ++ put (eqb b 1) k []
+ones-suc k e b h w =
+    ones-eq (suc k) e ∙ passing-last (one e) 0 k
+    ∙ ap₂ (λ (l : List ℕ) (i : ℕ). l ++ cond (one e i) (i ∷ []) []) (sym (ones-eq k e)) (Nat.zero-add k)
+    ∙ ap (λ (b : ℕ). ones k e ++ put (eqb b 1) k []) (sym w)
 
 -- ---- rising places by the word of their flips
 module _ (n : ℕ) where

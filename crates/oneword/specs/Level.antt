@@ -1,7 +1,7 @@
 -- Remainders and syndromes by a level's generator.
-use mathlib.Core.Path.{_≡_, sym, ap, ap₂, _∙_}
+use mathlib.Core.Path.{_≡_, sym, ap, ap₂, _∙_, refl}
 use mathlib.Core.List.{List, map}
-use Prim.Native.Nat.{ℕ, suc, _-_, _*_, _^_, _≤_, _<_, zero-le, suc-le-suc}
+use Prim.Native.Nat.{ℕ, suc, _-_, _*_, _^_, _≤_, _<_, zero-le, suc-le-suc, _+_}
 use native.Mathlib.Nat as Nat
 use native.Mathlib.Omega.{arith}
 use lib.Seq.{ext-getD}
@@ -14,16 +14,19 @@ use Rattle.field.specs.Fields.{fieldOf}
 use Rattle.generator.specs.Generator.{generator-roots}
 use Rattle.kernels.specs.Row.{D}
 use Rattle.code.specs.declared.Parameters.{Parameters}
-use Rattle.code.specs.Accepted.{Rules, accepted, rising, degree-of, degree-high}
+use Rattle.code.specs.Accepted.{Rules, accepted, rising, degree-of, degree-high, width-below}
 use Rattle.code.specs.Buffers.{length-syndromes, syndromes-at}
-use Rattle.code.specs.Code.{gen, degree, remainder, syndromes}
+use Rattle.code.specs.Code.{gen, degree, remainder, syndromes, oddSyndromes, allSyndromes}
 use Rattle.code.specs.Lists.{range}
-use Rattle.code.specs.Parameters.{Accepted, strength}
+use Rattle.code.specs.Parameters.{Accepted, strength, len}
 use Rattle.code.specs.Steps.{gen-eq}
 use Rattle.element.specs.declared.Field.{Field}
 use Rattle.element.specs.Fields.{fieldAt, size-least}
 use Rattle.levels.specs.Ready.{RowOf}
 use Rattle.oneword.specs.Row.{remainder-room}
+use lib.ListN.{length, getD}
+use Rattle.code.specs.Odd.{length-odd, odd-at}
+use Rattle.field.specs.Odd.{fromOdd}
 
 module _ (p : Parameters) (A : Accepted p) (a : ℕ) (h : a ≤ p .v) where
   R : Rules p
@@ -53,25 +56,27 @@ module _ (p : Parameters) (A : Accepted p) (a : ℕ) (h : a ≤ p .v) where
       sym (syndrome-num (p .q) (R .known) (remainder p a c) j)
       ∙ ap (fieldOf (p .q) .num) (eval-rem F (gen p a) (degree p a) (degree-of p R a h) c x z) ∙ syndrome-num (p .q) (R .known) c j
 
-  abbrev many : ℕ
-  many = 2 * strength p a
-
-  pub level-syndromes : (c : ℕ) → syndromes p many (remainder p a c) ≡ syndromes p many c
-  level-syndromes c =
-      ext-getD 0 (syndromes p many (remainder p a c)) (syndromes p many c)
-      (length-syndromes p many (remainder p a c) ∙ sym (length-syndromes p many c))
-      (λ i l. let k : i < many = rw (length-syndromes p many (remainder p a c)) at l in
-      syndromes-at p many (remainder p a c) i k ∙ level-syndrome c (suc i) (suc-le-suc zero-le) k ∙ sym (syndromes-at p many c i k))
+  level-odd : (c t : ℕ) → t ≡ strength p a → oddSyndromes p t (remainder p a c) ≡ oddSyndromes p t c
+  level-odd c t e =
+      ext-getD 0 (oddSyndromes p t (remainder p a c)) (oddSyndromes p t c) (length-odd p t (remainder p a c) ∙ sym (length-odd p t c))
+      (λ i l. let k : i < t = rw (length-odd p t (remainder p a c)) at l in
+      odd-at p t (remainder p a c) i k ∙ level-syndrome c (2 * i + 1) (omega arith) (omega (arith, e)) ∙ sym (odd-at p t c i k))
 
   -- the list that is made, of as many as level a fixes
-  pub many-few : (k : ℕ) → k ≡ many → k < 2 ^ p .q - 1
-  many-few k e = omega (arith, e, rising p R a (p .v) h (Nat.le-refl (p .v)), R .short, size-least (p .q) (R .known))
+  pub level-made : (c r k : ℕ) (l : List ℕ) → r ≡ remainder p a c → k ≡ strength p a → l ≡ oddSyndromes p k r → l ≡ oddSyndromes p (strength p a) c
+  level-made c r k l e f g = g ∙ ap₂ (oddSyndromes p) f e ∙ level-odd c (strength p a) refl
 
-  pub level-made : (c r k : ℕ) (l : List ℕ) → r ≡ remainder p a c → k ≡ many → l ≡ syndromes p k r → l ≡ syndromes p many c
-  level-made c r k l e f g = g ∙ ap₂ (syndromes p) f e ∙ level-syndromes c
+  -- a remainder's places are places of a word
+  pub degree-few : (w : ℕ) → w ≡ degree p a → (w ≤ 768) × (w ≤ len p)
+  degree-few w e = (rw e (degree-high p R a h), omega (arith, e, width-below p R a h))
 
--- the list by the field's entry
-pub syndromes-are : (p : Parameters) (f : Field) (c k : ℕ) (l : List ℕ) → f ≡ fieldAt (p .q)
-    → l ≡ map (λ j. syndrome (f .q) c j) (range 1 k) → l ≡ syndromes p k c
-unfolding syndromes
-syndromes-are p f c k l e g = g ∙ ap (λ (f : Field). map (λ j. syndrome (f .q) c j) (range 1 k)) e
+-- the lists by the field's entry
+pub odd-are : (p : Parameters) (f : Field) (c k : ℕ) (l : List ℕ) → f ≡ fieldAt (p .q)
+    → l ≡ map (λ i. syndrome (f .q) c (2 * i + 1)) (range 0 k) → l ≡ oddSyndromes p k c
+unfolding oddSyndromes
+odd-are p f c k l e g = g ∙ ap (λ (f : Field). map (λ i. syndrome (f .q) c (2 * i + 1)) (range 0 k)) e
+
+pub all-are : (p : Parameters) (f : Field) (o l : List ℕ) → f ≡ fieldAt (p .q)
+    → l ≡ map (fromOdd (f .q) (λ i. getD o i 0)) (range 1 (2 * length o)) → l ≡ allSyndromes p o
+unfolding allSyndromes
+all-are p f o l e g = g ∙ ap (λ (f : Field). map (fromOdd (f .q) (λ i. getD o i 0)) (range 1 (2 * length o))) e

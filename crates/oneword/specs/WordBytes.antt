@@ -19,7 +19,7 @@ use Rattle.code.specs.declared.Parameters.{Parameters}
 use Rattle.code.specs.Accepted.{accepted, stored-le}
 use Rattle.code.specs.Buffers.{nested-lt}
 use Rattle.code.specs.Calls.{nestedOf, nestedSyndromeList, nestedWordBytes, remainderBytes, shortBytes, subWordOf, syndromeList}
-use Rattle.code.specs.Code.{divisor, remainder, shortRemainder, syndromes}
+use Rattle.code.specs.Code.{divisor, oddSyndromes, remainder, shortRemainder}
 use Rattle.code.specs.Layout.{IsPage, wordsOf}
 use Rattle.code.specs.Pages.{page-words}
 use Rattle.code.specs.Parameters.{Accepted, len, nestedBytes, stored, strength, subWordBytes}
@@ -77,19 +77,19 @@ module _ (p : Parameters) (x : List ℕ) (i : ℕ) (s : List ℕ) (W : WordIs p 
   unfolding remainderBytes
   remainder-made y e = e ∙ ap (λ (c : ℕ). digits 8 96 (remainder p 0 c)) (W .is)
 
-  pub syndromes-made : (y : List ℕ) → y ≡ syndromes p (2 * strength p 0) (value 8 s) → y ≡ syndromeList p x i
+  pub syndromes-made : (y : List ℕ) → y ≡ oddSyndromes p (strength p 0) (value 8 s) → y ≡ syndromeList p x i
   unfolding syndromeList
-  syndromes-made y e = e ∙ ap (syndromes p (2 * strength p 0)) (W .is)
+  syndromes-made y e = e ∙ ap (oddSyndromes p (strength p 0)) (W .is)
 
 module _ (p : Parameters) (x : List ℕ) (l : ℕ) (s : List ℕ) (W : WordIs p (nestedOf p x l) s) where
   pub short-made : (y : List ℕ) → y ≡ digits 8 96 (rem (divisor p l) (deg (divisor p l)) (value 8 s)) → y ≡ shortBytes p x l
   unfolding shortBytes shortRemainder
   short-made y e = e ∙ ap (λ (c : ℕ). digits 8 96 (rem (divisor p l) (deg (divisor p l)) c)) (W .is)
 
-  pub nested-syndromes-made : (a : ℕ) (y : List ℕ) → a ≡ p .v - l → y ≡ syndromes p (2 * strength p a) (value 8 s)
+  pub nested-syndromes-made : (a : ℕ) (y : List ℕ) → a ≡ p .v - l → y ≡ oddSyndromes p (strength p a) (value 8 s)
       → y ≡ nestedSyndromeList p x l
   unfolding nestedSyndromeList
-  nested-syndromes-made a y k e = e ∙ ap₂ (λ (b c : ℕ). syndromes p (2 * strength p b) c) k (W .is)
+  nested-syndromes-made a y k e = e ∙ ap₂ (λ (b c : ℕ). oddSyndromes p (strength p b) c) k (W .is)
 
   -- copied to the bytes of a nested word
   pub nested-made : Accepted p → (y : List ℕ) (k : ℕ) → Bounded 8 y → length y ≡ k → k ≡ nestedBytes p

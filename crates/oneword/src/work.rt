@@ -5,7 +5,7 @@ ghost use lib.ListN.{length};
 ghost use Rattle.polynomial.specs.Digits.{value, digits};
 ghost use Rattle.polynomial.specs.Division.{deg, rem};
 ghost use Rattle.code.specs.Calls.{nestedOf};
-ghost use Rattle.code.specs.Code.{degree, divisor, remainder, syndromes};
+ghost use Rattle.code.specs.Code.{allSyndromes, degree, divisor, oddSyndromes, remainder};
 ghost use Rattle.code.specs.Layout.{IsPage};
 ghost use Rattle.code.specs.Parameters.{Accepted, len};
 ghost use Rattle.oneword.specs.WordBytes.{WordIs};
@@ -60,13 +60,22 @@ pub fn remainder_into(out: &mut [u8], p: Parameters, a: usize, s: &[u8])
     kernels::bytes::store(out, &r);
 }
 
-// The syndromes S_1, S_2, .. of the polynomial in r, which has w coefficients at most, as many as the list has places.
-pub fn syndromes_from(list: &mut [u16], p: Parameters, r: &[u64], w: usize)
-    requires { ⌜ Accepted p × (w ≤ 64 * length (now r)) × (value 64 (now r) < 2 ^ w) × (length (now list) < len p) ⌝ }
-    ensures { λ x. ⌜ now (list .exit) ≡ syndromes p (length (now (list .entry))) (value 64 (now (r .entry))) ⌝ }
+// The syndromes S_1, S_3, .. of the polynomial in r, which has w coefficients at most, as many as the list has places.
+pub fn odd_from(list: &mut [u16], p: Parameters, r: &[u64], w: usize)
+    requires { ⌜ Accepted p × (w ≤ 64 * length (now r)) × (w ≤ 768) × (w ≤ len p) × (value 64 (now r) < 2 ^ w) ⌝ }
+    ensures { λ x. ⌜ now (list .exit) ≡ oddSyndromes p (length (now (list .entry))) (value 64 (now (r .entry))) ⌝ }
 {
     let f = Field::of(p.q);
-    syndrome::syndromes_of(list, f, r, w);
+    syndrome::odd_of(list, f, r, w);
+}
+
+// All syndromes from the odd ones.
+pub fn all_from(list: &mut [u16], p: Parameters, odd: &[u16])
+    requires { ⌜ Accepted p × (length (now list) ≡ 2 * length (now odd)) ⌝ }
+    ensures { λ x. ⌜ now (list .exit) ≡ allSyndromes p (now (odd .entry)) ⌝ }
+{
+    let f = Field::of(p.q);
+    syndrome::all_of(list, odd, f);
 }
 
 // The divisor g_(v-l) / g_0, and its degree.

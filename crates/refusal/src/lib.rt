@@ -7,7 +7,7 @@ ghost use lib.ListN.{length};
 ghost use Rattle.polynomial.specs.Digits.{value};
 ghost use Rattle.code.specs.Layout.{blocksFull, dataBytes};
 ghost use Rattle.code.specs.Parameters.{Accepted, sheetRefusal};
-ghost use Rattle.code.specs.Refusals.{badCount, badWidth, judgeLengths, manyRefusal, noBit, openRefusal, pageRefusal, quoteRefusal, readLengths, wordRefusal, writeRefusal};
+ghost use Rattle.code.specs.Refusals.{badCount, badWidth, judgeLengths, manyRefusal, noBit, openRefusal, pageRefusal, quoteRefusal, readLengths, wordRefusal, writeRefusal, allRefusal};
 ghost use Rattle.layout.specs.Sizes.{Degrees};
 ghost use Rattle.refusal.specs.Altering.{bitRefusal};
 ghost use Rattle.refusal.specs.Feeding.{numbersRefusal};
@@ -265,6 +265,24 @@ pub fn open_refusal(p: Parameters, level: u32) -> u8
     }
     if p.v < level {
         return 9;
+    }
+    0
+}
+
+// For a level, a list of `odd` odd syndromes and one of `out` places for all: 1 to 4, 14, 9, 10, or 0.
+pub fn all_refusal(p: Parameters, level: u32, odd: usize, out: usize) -> u8
+    ensures { λ r. ⌜ r ≡ allRefusal 1 p level odd out ⌝ }
+{
+    let k = open_refusal(p, level);
+    if k != 0 {
+        return k;
+    }
+    let t = sheet::strength_at(p, level) as usize;
+    if odd != t {
+        return 10;
+    }
+    if out != 2 * t {
+        return 10;
     }
     0
 }

@@ -16,7 +16,7 @@ use lib.Dec.{eqb, eqb·suc-zero}
 use lib.ListN.{length, getD, set, length-append, length-set, List·getD-append}
 use lib.Seq.{getD-append-add, getD-set-same, getD-set-other}
 use Rattle.field.specs.Fields.{Known, fieldOf}
-use Rattle.field.specs.Flips.{passing, passing-suc, passing-zero}
+use Rattle.field.specs.Flips.{passing, passing-last, passing-suc, passing-zero}
 use Rattle.massey.specs.Entries.{at, number}
 use Rattle.search.specs.Values.{Values, node, part, term}
 
@@ -24,24 +24,12 @@ abbrev pub zero? : List ℕ → ℕ → Bool
 zero? a k = eqb (getD a k 0) 0
 
 -- ---- one place more
-snoc : (P : ℕ → Bool) (j z : ℕ) → passing P j (suc z) ≡ passing P j z ++ cond (P (j + z)) ((j + z) ∷ []) []
-snoc P j zero =
-    passing-suc P j zero ∙ ap (λ (l : List ℕ). cond (P j) (j ∷ l) l) (passing-zero P (suc j))
-    ∙ sym (ap (λ (l : List ℕ). l ++ cond (P (j + 0)) ((j + 0) ∷ []) []) (passing-zero P j) ∙ ap (λ (i : ℕ). cond (P i) (i ∷ []) []) (Nat.add-zero j))
-snoc P j (suc z) =
-    passing-suc P j (suc z) ∙ ap (λ (l : List ℕ). cond (P j) (j ∷ l) l) (snoc P (suc j) z ∙ ap (λ (i : ℕ). passing P (suc j) z ++ cond (P i) (i ∷ []) []) (Nat.suc-add j z ∙ sym (Nat.add-suc j z)))
-    ∙ out (P j) (passing P (suc j) z) (cond (P (j + suc z)) ((j + suc z) ∷ []) []) ∙ sym (ap (λ (l : List ℕ). l ++ cond (P (j + suc z)) ((j + suc z) ∷ []) []) (passing-suc P j z))
-  where
-    out : (b : Bool) (l m : List ℕ) → cond b (j ∷ (l ++ m)) (l ++ m) ≡ cond b (j ∷ l) l ++ m
-    out true l m = refl
-    out false l m = refl
-
 not-zero : (x : ℕ) → (x ≡ 0 → ⊥) → eqb x 0 ≡ false
 not-zero zero h = absurd (h refl)
 not-zero (suc x) h = eqb·suc-zero x
 
 last-is : (P : ℕ → Bool) (k : ℕ) (b : Bool) → P k ≡ b → passing P 0 (k + 1) ≡ passing P 0 k ++ cond b (k ∷ []) []
-last-is P k b e = rw (add-one k) (snoc P 0 k ∙ rw (Nat.zero-add k, e) refl)
+last-is P k b e = rw (add-one k) (passing-last P 0 k ∙ rw (Nat.zero-add k, e) refl)
 
 -- ---- collected
 pub record Collected (a : List ℕ) (k c : ℕ) (o b : List ℕ) : Type 0 where

@@ -1,7 +1,7 @@
 //! One call, made to the archive and to the reference: the numbers and every byte must agree.
 
 use gii_bch::{Refusal, Sheet, Verdict};
-use reference::{Parameters, calls};
+use reference::{Parameters, calls, parameters};
 
 #[derive(Clone, Copy, Debug, PartialEq, Eq, PartialOrd, Ord)]
 pub enum Name {
@@ -13,13 +13,14 @@ pub enum Name {
     Judge,
     Syndromes,
     NestedSyndromes,
+    AllSyndromes,
     Quote,
     PageBytes,
     DataBytes,
     Distance,
 }
 
-pub const NAMES: [Name; 12] = [
+pub const NAMES: [Name; 13] = [
     Name::Write,
     Name::WriteMany,
     Name::Alter,
@@ -28,6 +29,7 @@ pub const NAMES: [Name; 12] = [
     Name::Judge,
     Name::Syndromes,
     Name::NestedSyndromes,
+    Name::AllSyndromes,
     Name::Quote,
     Name::PageBytes,
     Name::DataBytes,
@@ -40,9 +42,9 @@ impl Name {
         matches!(self, Name::PageBytes | Name::DataBytes | Name::Distance)
     }
 
-    /// Whether the call is given or lent a page, or pages: all but the quote and the sizes.
+    /// Whether the call is given or lent a page, or pages: all but all syndromes, the quote and the sizes.
     pub fn has_page(self) -> bool {
-        self != Name::Quote && !self.is_size()
+        !matches!(self, Name::AllSyndromes | Name::Quote) && !self.is_size()
     }
 
     /// Whether the call reads the page that it is lent, and gives it back changed: alter and mend.
@@ -52,7 +54,7 @@ impl Name {
 
     /// Whether the call is given bytes that are only read: all but alter, mend, the quote and the sizes.
     pub fn reads(self) -> bool {
-        self.has_page() && !self.changes_page()
+        self.has_page() && !self.changes_page() || self == Name::AllSyndromes
     }
 
     /// Whether the call is lent bytes to write: all but judge and the sizes.
@@ -80,16 +82,16 @@ impl Name {
 pub struct Call {
     pub name: Name,
     pub p: Parameters,
-    /// The width of write and of write many, the block of alter, the index of mend and of syndromes; of no meaning to the
-    /// others.
+    /// The width of write and of write many, the block of alter, the index of mend and of syndromes, the level of all
+    /// syndromes; of no meaning to the others.
     pub number: u32,
     /// The pages of write many; of no meaning to the others.
     pub count: u32,
     /// The bit and the value of alter; of no meaning to the others.
     pub bit: u32,
     pub value: u32,
-    /// The bytes that are only read: the blocks of write and of write many, else the page; none for alter, mend, the quote
-    /// and the sizes.
+    /// The bytes that are only read: the blocks of write and of write many, the odd list of all syndromes, else the page; none
+    /// for alter, mend, the quote and the sizes.
     pub read: Vec<u8>,
     /// The bytes lent to be written: page or pages, blocks or list; none for judge and the sizes. Alter and mend read their
     /// page first.
@@ -154,6 +156,7 @@ impl Call {
             Name::Judge => calls::judge(p, read),
             Name::Syndromes => calls::syndromes(p, read, *number, lent),
             Name::NestedSyndromes => calls::nested_syndromes(p, read, *number, lent),
+            Name::AllSyndromes => calls::all_syndromes(p, *number, read, lent),
             Name::Quote => calls::quote(p, lent),
             Name::PageBytes => calls::page_bytes(p),
             Name::DataBytes => calls::data_bytes(p),
@@ -177,6 +180,7 @@ impl Call {
             Name::Judge => answer(sheet.judge(read)),
             Name::Syndromes => answer(sheet.syndromes(read, *number, lent).map(done)),
             Name::NestedSyndromes => answer(sheet.nested_syndromes(read, *number, lent).map(done)),
+            Name::AllSyndromes => answer(sheet.all_syndromes(*number, read, lent).map(done)),
             Name::Quote => answer(sheet.quote_into(lent).map(done)),
             Name::PageBytes => size(sheet.page_bytes()),
             Name::DataBytes => size(sheet.data_bytes()),
@@ -184,7 +188,29 @@ impl Call {
         }
     }
 
-    /// The outcome on which both sides agree, or how they part. `shift` moves the buffers in memory.
+    /// Of a call that has listed odd syndromes: how all that the archive makes of them part from the sums of the word.
+    fn all_part(&self, odd: &[u8]) -> Option<String> {
+        if !matches!(self.name, Name::Syndromes | Name::NestedSyndromes) {
+            return None;
+        }
+        let (sheet, index) = (parameters::Sheet::of(&self.p), self.number as usize);
+        let (word, level) = match self.name {
+            Name::Syndromes => (sheet.word_of(&self.read, index), 0),
+            _ => (sheet.nested_word(&sheet.words_of(&self.read), index), sheet.v - index),
+        };
+        let mut guarded = Guarded::new(&vec![0xA5; 2 * odd.len()], 0);
+        let answer = self::sheet(&self.p).all_syndromes(level as u32, odd, guarded.inner());
+        let (whole, all) = (guarded.whole(), guarded.inner());
+        // The odd ones are sums, since they agree.
+        let mut even = vec![0; odd.len()];
+        calls::put_values(&sheet, &word, (2..).step_by(2), &mut even);
+        let sums: Vec<u8> = odd.chunks(2).zip(even.chunks(2)).flat_map(|(odd, even)| [odd, even].concat()).collect();
+        let alike = whole && answer == Ok(()) && all == sums;
+        (!alike).then(|| format!("lists {odd:02X?}, all from it, {answer:?}, are {all:02X?}, are to be {sums:02X?}"))
+    }
+
+    /// The outcome on which both sides agree, or how they part. `shift` moves the buffers in memory. Odd syndromes that agree
+    /// are given back to the archive, and all that it makes of them must be sums of the word.
     pub fn compare(&self, shift: usize) -> Result<Outcome, String> {
         let expected = self.outcome(Call::by_reference);
         let mut read = Guarded::new(&self.read, shift % 16);
@@ -208,12 +234,14 @@ impl Call {
         } else if flips.inner() != [expected.flips] {
             let (is, was, to_be) = (flips.inner()[0], self.flips, expected.flips);
             format!("answers {answer}, flips are {is}, were {was}, are to be {to_be}")
+        } else if let Some(part) = Some(lent.inner()).filter(|_| answer == 0).and_then(|odd| self.all_part(odd)) {
+            part
         } else {
             return Ok(expected);
         };
         let Call { name, p, number, count, bit, value, .. } = self;
         let (read, lent, list) = (shown(&self.read), shown(&self.lent), shown(&self.list));
-        let numbers = format!("width, block or index {number}, {count} pages, bit {bit}, value {value}");
+        let numbers = format!("width, block, index or level {number}, {count} pages, bit {bit}, value {value}");
         Err(format!("{name:?} {found}\n{p:?}, {numbers}\nread {read}\nlent {lent}\nlist {list}"))
     }
 }

@@ -2,6 +2,7 @@
 
 use crate::call::{Call, NAMES, Name, Outcome};
 use reference::calls::{BLANK, MOST_PAGES, QUOTE_BYTES};
+use reference::generator::odd;
 use reference::layout::{add, bit, flip, set};
 use reference::parameters::Sheet;
 use reference::sample::Random;
@@ -47,13 +48,38 @@ pub fn with_shortened(p: &Parameters) -> [Parameters; 3] {
     [*p, p.shortened(p.most().div_ceil(2)), p.shortened(p.most())]
 }
 
-/// The length of the lent list of syndromes.
+/// The length of the lent list of odd syndromes.
 pub fn list_bytes(p: &Parameters, name: Name, index: u32) -> usize {
     let t = match name {
         Name::NestedSyndromes => p.t[(p.v - index) as usize],
         _ => p.t[0],
     };
-    4 * t as usize
+    2 * t as usize
+}
+
+/// A call of all syndromes on these odd ones, lent drawn bytes.
+pub fn all_from(random: &mut Random, p: &Parameters, level: usize, odd: &[u16]) -> Call {
+    let read: Vec<u8> = odd.iter().flat_map(|number| number.to_le_bytes()).collect();
+    let lent = random.bytes(4 * p.t[level] as usize);
+    Call::new(Name::AllSyndromes, p, level as u32, read, lent)
+}
+
+/// The same on drawn ones: the odd syndromes of a word, elements, numbers that are none, any, or few of them not 0.
+pub fn all_drawn(random: &mut Random, p: &Parameters, level: usize) -> Call {
+    let (sheet, t) = (Sheet::of(p), p.t[level] as usize);
+    let n = sheet.field.n;
+    let kind = random.from_to(0, 5);
+    let word: Vec<u64> = (0..n.div_ceil(64)).map(|_| random.number()).collect();
+    let mut number = |j: usize| match kind {
+        0 | 1 => sheet.field.value(&word, j),
+        2 => random.from_to(0, n) as u16,
+        3 => random.from_to(n + 1, 0xFFFF) as u16,
+        4 => random.number() as u16,
+        _ if random.once_in(t) => random.number() as u16,
+        _ => 0,
+    };
+    let odd: Vec<u16> = odd(t).map(&mut number).collect();
+    all_from(random, p, level, &odd)
 }
 
 /// A page of the sheet, spare bits clear: a member, or a blank page, or one damaged in some way.
@@ -266,6 +292,10 @@ pub fn exact(random: &mut Random, name: Name, p: &Parameters) -> Call {
         Name::Judge => (0, page(random, p), 0),
         Name::Syndromes => (random.from_to(0, sheet.m - 1), page(random, p), 0),
         Name::NestedSyndromes => (random.from_to(0, sheet.v - 1), page(random, p), 0),
+        Name::AllSyndromes => {
+            let level = random.from_to(0, sheet.v);
+            return all_drawn(random, p, level);
+        }
         Name::Quote => (0, Vec::new(), QUOTE_BYTES),
         Name::PageBytes | Name::DataBytes | Name::Distance => (0, Vec::new(), 0),
     };
@@ -287,6 +317,7 @@ pub fn conditions(name: Name) -> &'static [u32] {
         Name::ReadOut => &[1, 2, 3, 4, 14, 6, 7, BLANK, 8],
         Name::Judge => &[1, 2, 3, 4, 14, 7, BLANK, 8],
         Name::Syndromes | Name::NestedSyndromes => &[1, 2, 3, 4, 14, 7, 8, 9, 10],
+        Name::AllSyndromes => &[1, 2, 3, 4, 14, 9, 10],
         Name::Quote => &[1, 2, 3, 4, 14, 10],
         Name::PageBytes | Name::DataBytes | Name::Distance => &[1, 2, 3, 4, 14],
     }
@@ -366,11 +397,25 @@ pub fn spoil(random: &mut Random, call: &mut Call, condition: u32) -> bool {
             }
         }
         9 => {
-            let end = if call.name == Name::NestedSyndromes { p.v } else { p.m };
+            let end = match call.name {
+                Name::NestedSyndromes => p.v,
+                Name::AllSyndromes => p.v + 1,
+                _ => p.m,
+            };
             let turn = any_of(random, &[1 << 8, 1 << 16, 1 << 31]);
             call.number = any_of(random, &[end, end + 1, end.max(8), 255, 256, call.number + turn, GREATEST]);
         }
         10 if call.name.lists() => cut(random, &mut call.list, call.count),
+        // Either list, or both.
+        10 if call.name == Name::AllSyndromes => {
+            let wrong = random.from_to(1, 3);
+            if wrong & 1 == 1 {
+                cut(random, &mut call.read, 1);
+            }
+            if wrong & 2 == 2 {
+                cut(random, &mut call.lent, 1);
+            }
+        }
         10 => cut(random, &mut call.lent, 1),
         13 => {
             let sheet = sheet.unwrap();

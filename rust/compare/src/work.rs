@@ -1,9 +1,9 @@
 //! The time that shortened sub-words save: write's on a shortened sheet, in times of write's on the full one. The time that
 //! many pages in one call save: that of the call, in times of as many single ones. The time of an alteration of one bit, in
-//! times of a write. And that of a mended sub-word, in times of a CRC-32.
+//! times of a write. And those of a mended sub-word and of odd syndromes, in times of a CRC-32.
 
 use crate::call::{Call, Name};
-use crate::draw::{exact, flip_some, many, member, mending};
+use crate::draw::{any_page, exact, flip_some, list_bytes, many, member, mending};
 use reference::Parameters;
 use reference::calls::MOST_PAGES;
 use reference::layout::bit;
@@ -37,12 +37,16 @@ pub const ALTER_WIDTH: u32 = 64;
 pub const ALTER_LIMITS: [f64; 2] = [0.7, 0.35];
 pub const ALTER_GATE_LIMITS: [f64; 2] = [0.8, 0.45];
 
-/// So many bytes are gone through by a CRC-32, a byte at a time, beside the sub-word that is mended.
+/// So many bytes are gone through by a CRC-32, a byte at a time, beside the sub-word that is mended or the odd syndromes.
 pub const CRC_BYTES: usize = 4096;
 
 /// Mending may take so much of the time of that CRC-32: without a flip, with t_0 / 2 and with t_0.
 pub const MEND_LIMITS: [f64; 3] = [0.5, 8.0, 12.0];
 pub const MEND_GATE_LIMITS: [f64; 3] = [0.65, 9.0, 14.0];
+
+/// The odd syndromes of a sub-word may take so much of it, and those of nested word 0.
+pub const ODD_LIMITS: [f64; 2] = [0.8, 1.5];
+pub const ODD_GATE_LIMITS: [f64; 2] = [1.0, 1.9];
 
 /// Mending takes most time on this sheet, of the greatest t_0.
 pub const STRONGEST: Parameters = Parameters::full(12, 2, 1, [63, 64, 0, 0]);
@@ -192,6 +196,39 @@ pub fn mend_to_crc(p: &Parameters) -> [f64; 4] {
     times.map(|time| time / crc)
 }
 
+/// The calls of syndromes that are timed, in words, on a page: the odd ones of a sub-word and of nested word 0, and all from
+/// those of nested word 0.
+pub fn listings(p: &Parameters, page: &[u8]) -> [(&'static str, Call); 3] {
+    let of_page = |name| Call::new(name, p, 0, page.to_vec(), vec![0; list_bytes(p, name, 0)]);
+    let nested = of_page(Name::NestedSyndromes);
+    let (odd, level) = (nested.outcome(Call::by_reference).lent, p.v);
+    let all = Call::new(Name::AllSyndromes, p, level, odd, vec![0; 2 * nested.lent.len()]);
+    [
+        ("odd syndromes of a sub-word", of_page(Name::Syndromes)),
+        ("odd syndromes of a nested word", nested),
+        ("all syndromes from the odd ones", all),
+    ]
+}
+
+/// The archive's lists of syndromes of any page of full sub-words, in times of a CRC-32 of CRC_BYTES bytes.
+pub fn odd_to_crc() -> [f64; 3] {
+    let mut random = Random::new(1);
+    let (table, bytes) = (crc_table(), random.bytes(CRC_BYTES));
+    let mut works = listings(&FULL, &any_page(&mut random, &Sheet::of(&FULL))).map(|(name, call)| {
+        let mut list = call.lent.clone();
+        move || {
+            let number = call.by_archive(black_box(&call.read), black_box(&mut list), &mut [], &mut 0);
+            assert_eq!(number, 0, "{name}");
+        }
+    });
+    let [sub_word, nested, all] = &mut works;
+    let mut sum = || {
+        black_box(crc(black_box(&table), black_box(&bytes)));
+    };
+    let [crc, times @ ..] = least_times([&mut sum, sub_word, nested, all]);
+    times.map(|time| time / crc)
+}
+
 /// A sheet in words.
 pub fn title(p: &Parameters) -> String {
     let t: Vec<String> = p.t[..=p.v as usize].iter().map(u32::to_string).collect();
@@ -252,6 +289,21 @@ pub fn mend_stated() -> (String, [f64; 3]) {
         STRONGEST.t[0]
     );
     (line, [none, half, all])
+}
+
+/// The ratios of odd syndromes in words, and those of a sub-word and of nested word 0.
+pub fn odd_stated() -> (String, [f64; 2]) {
+    let [sub_word, nested, all] = odd_to_crc();
+    let ([limit, limit_nested], t) = (ODD_LIMITS, FULL.t[FULL.v as usize]);
+    let line = format!(
+        "Odd syndromes of any page of {}, in times of a CRC-32 of {CRC_BYTES} bytes, by turns, least times: {sub_word:.3} for \
+         the {} of a sub-word; at most {limit}; {nested:.3} for the {t} of a nested word; at most {limit_nested}; {all:.4} for \
+         all {} from the {t}",
+        title(&FULL),
+        FULL.t[0],
+        2 * t
+    );
+    (line, [sub_word, nested])
 }
 
 /// Whether no ratio is above its limit.

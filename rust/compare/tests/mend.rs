@@ -363,7 +363,7 @@ fn sheets_for_refusals(random: &mut Random) -> Vec<Parameters> {
 }
 
 /// Sub-words that there are not: the next ones, the greatest, and ones that there are with 2^8, 2^16, 2^24 or 2^31 added. And
-/// lengths of the places: those of a syndromes' list, of other strengths, of a place or a byte more or less, exact ones with
+/// lengths of the places: those of all syndromes, of other strengths, of a place or a byte more or less, exact ones with
 /// 2^8 or 2^16 added. Each alone, and both, on sub-words that are mended and any: 9, 10; with a stray bit 8, of another length
 /// of the page 7.
 #[test]

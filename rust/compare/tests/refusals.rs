@@ -159,7 +159,7 @@ fn every_length_near_the_exact_one() {
     let full = [4, 8, 12].map(|q| random.parameters(q));
     let shortened = [A, full[1], full[2]].map(|p| random.shortened(&p));
     for p in full.into_iter().chain(shortened) {
-        for name in NAMES.into_iter().filter(|name| name.has_page()) {
+        for name in NAMES.into_iter().filter(|name| name.has_page() || *name == Name::AllSyndromes) {
             let call = exact(&mut random, name, &p);
             // None, one less, the length, one more; only none where the call has no such buffer.
             let near = |exact: usize| BTreeSet::from([0, exact.saturating_sub(1), exact, exact + 1]);

@@ -13,12 +13,15 @@ fn compare(p: &Parameters) {
     assert_eq!(made.data_bytes(), Ok(expected.blocks_bytes()), "{p:?}");
     assert_eq!(made.distance(), Ok(expected.distance()), "{p:?}");
     (0..p.m).for_each(|i| assert_eq!(made.block_bits(i), Ok(expected.block_bits(i as usize)), "{p:?}, block {i}"));
-    assert_eq!(made.list_bytes(), Ok(4 * expected.levels[0].t), "{p:?}");
+    assert_eq!(made.list_bytes(), Ok(2 * expected.levels[0].t), "{p:?}");
     (0..p.v).for_each(|l| {
-        assert_eq!(made.nested_list_bytes(l), Ok(4 * expected.nested_level(l as usize).t), "{p:?}, nested word {l}")
+        assert_eq!(made.nested_list_bytes(l), Ok(2 * expected.nested_level(l as usize).t), "{p:?}, nested word {l}")
     });
+    (0..=p.v).for_each(|a| assert_eq!(made.all_bytes(a), Ok(4 * expected.levels[a as usize].t), "{p:?}, level {a}"));
+    assert_eq!(made.places_bytes(), Ok(2 * expected.levels[0].t), "{p:?}");
     assert_eq!(made.block_bits(p.m), Err(Refusal::Index));
     assert_eq!(made.nested_list_bytes(p.v), Err(Refusal::Index));
+    assert_eq!(made.all_bytes(p.v + 1), Err(Refusal::Index));
 
     let quote = made.quote().unwrap();
     for (a, degree) in quote.degrees.into_iter().enumerate() {
@@ -37,6 +40,7 @@ fn refused(made: &Made, refusal: Refusal) {
     }
     assert_eq!(made.block_bits(0), Err(refusal), "{made:?}");
     assert_eq!(made.nested_list_bytes(0), Err(refusal), "{made:?}");
+    assert_eq!(made.all_bytes(0), Err(refusal), "{made:?}");
 }
 
 /// A sheet at every s that is accepted, and the first and some others that are not.
@@ -58,7 +62,7 @@ fn sizes_of_sheets() {
         (0..count(200)).for_each(|_| compare(&random.parameters(q)));
         (0..6).for_each(|_| compare_shortened(&random.parameters(q)));
     }
-    let (mut page, mut data, mut list) = (0, 0, 0);
+    let [mut page, mut data, mut list, mut all] = [0; 4];
     // The least, the greatest and, but where lists are thinned out, all between.
     let strengths = |least: u32, greatest: u32| {
         (least..=greatest).filter(move |&t| t == least || (greatest - t) % one_in() as u32 == 0)
@@ -79,8 +83,9 @@ fn sizes_of_sheets() {
                 page = page.max(made.page_bytes().unwrap());
                 data = data.max(made.data_bytes().unwrap());
                 list = list.max(made.nested_list_bytes(0).unwrap());
+                all = all.max(made.all_bytes(1).unwrap());
             }
         }
     }
-    assert_eq!((page, data, list), (4096, 4086, 256));
+    assert_eq!((page, data, list, all), (4096, 4086, 128, 256));
 }

@@ -1,10 +1,11 @@
-//! Shortened sub-words are less work, and so are many pages in one call; one bit altered is less than a write, and one
-//! sub-word mended is a few CRC-32 sums. The stand-in, which is not made for speed, is not asked.
+//! Shortened sub-words are less work, and so are many pages in one call; one bit altered is less than a write, one sub-word
+//! mended is a few CRC-32 sums, and the odd syndromes of a word are about one. The stand-in, which is not made for speed, is
+//! not asked.
 
 use compare::draw::say;
 use compare::work::{
-    ALTER_GATE_LIMITS, GATE_LIMIT, MANY_GATE_LIMIT, MEND_GATE_LIMITS, alter_stated, many_stated, mend_stated, stated,
-    within,
+    ALTER_GATE_LIMITS, GATE_LIMIT, MANY_GATE_LIMIT, MEND_GATE_LIMITS, ODD_GATE_LIMITS, alter_stated, many_stated,
+    mend_stated, odd_stated, stated, within,
 };
 use std::sync::Mutex;
 
@@ -41,4 +42,9 @@ fn an_altered_bit_takes_less_time_than_a_write() {
 #[test]
 fn a_mended_sub_word_takes_a_few_sums() {
     ask(mend_stated, MEND_GATE_LIMITS);
+}
+
+#[test]
+fn odd_syndromes_take_about_a_sum() {
+    ask(odd_stated, ODD_GATE_LIMITS);
 }

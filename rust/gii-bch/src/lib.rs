@@ -76,6 +76,7 @@ c_functions! {
     fn gii_judge(page: *const u8, page_len: usize);
     fn gii_syndromes(page: *const u8, page_len: usize, index: u32, list: *mut u8, list_len: usize);
     fn gii_nested_syndromes(page: *const u8, page_len: usize, index: u32, list: *mut u8, list_len: usize);
+    fn gii_all_syndromes(level: u32, odd: *const u8, odd_len: usize, list: *mut u8, list_len: usize);
     fn gii_quote(list: *mut u8, list_len: usize);
     fn gii_page_bytes();
     fn gii_data_bytes();
@@ -161,9 +162,10 @@ pub enum Refusal {
     Page = 7,
     /// A spare bit of the page, or an unused bit of the blocks, that is read is 1.
     Stray = 8,
-    /// There is no such sub-word, nested word, block or bit; the value is above 1; or the count of pages is not 1 to 16.
+    /// There is no such sub-word, nested word, block, bit or level; the value is above 1; or the count of pages is not 1 to
+    /// 16.
     Index = 9,
-    /// The list's length, or that of the places, is not exact.
+    /// A list's length, or that of the places, is not exact.
     List = 10,
     /// The page would be blank: that of the blocks, where s is 0 and every data bit is 1, or the altered one.
     Blank = 13,
@@ -253,7 +255,9 @@ impl fmt::Display for Refusal {
             Refusal::Blocks => "the blocks' length is not exact",
             Refusal::Page => "the page's length is not exact",
             Refusal::Stray => "a spare or unused bit is 1",
-            Refusal::Index => "no such sub-word, nested word, block or bit, a value above 1, or not 1 to 16 pages",
+            Refusal::Index => {
+                "no such sub-word, nested word, block, bit or level, a value above 1, or not 1 to 16 pages"
+            }
             Refusal::List => "the list's length is not exact",
             Refusal::Blank => "the page would be blank",
             Refusal::Shortening => "s leaves a block without data",
@@ -397,19 +401,29 @@ impl Sheet {
         Ok(quote.data_bits[i as usize].into())
     }
 
-    /// Bytes of the list of a sub-word's syndromes: 2 t_0 numbers of two bytes.
+    /// Bytes of the list of a sub-word's odd syndromes: t_0 numbers of two bytes.
     pub fn list_bytes(&self) -> Result<usize, Refusal> {
         self.test()?;
-        Ok(4 * self.t[0] as usize)
+        Ok(2 * self.t[0] as usize)
     }
 
-    /// Bytes of the list of nested word l's syndromes: 2 t_(v−l) numbers of two bytes.
+    /// Bytes of the list of nested word l's odd syndromes: t_(v−l) numbers of two bytes.
     pub fn nested_list_bytes(&self, l: u32) -> Result<usize, Refusal> {
         self.test()?;
         if l >= self.v {
             return Err(Refusal::Index);
         }
-        Ok(4 * self.t[(self.v - l) as usize] as usize)
+        Ok(2 * self.t[(self.v - l) as usize] as usize)
+    }
+
+    /// Bytes of the list of all syndromes of a level, 0 for a sub-word, v − l for nested word l: 2 t_level numbers of two
+    /// bytes.
+    pub fn all_bytes(&self, level: u32) -> Result<usize, Refusal> {
+        self.test()?;
+        if level > self.v {
+            return Err(Refusal::Index);
+        }
+        Ok(4 * self.t[level as usize] as usize)
     }
 
     /// Bytes of the list of the places that [`Sheet::mend`] flips: t_0 numbers of two bytes.
@@ -598,15 +612,57 @@ impl Sheet {
         answer(call!(gii_judge, self, page.as_ptr(), page.len()))
     }
 
-    /// S_1 to S_(2 t_0) of sub-word `index`, two bytes a number, low byte first; [`numbers`] reads them. Refuses the
-    /// parameters, the page's length, a spare bit anywhere in the page, blank or not, the index, the list's length.
+    /// S_1, S_3, .., S_(2 t_0 − 1) of sub-word `index`, the odd ones alone, two bytes a number, low byte first; [`numbers`]
+    /// reads them. The others are squares of these, which [`Sheet::all_syndromes`] gives. Refuses the parameters, the page's
+    /// length, a spare bit anywhere in the page, blank or not, the index, the list's length, which is [`Sheet::list_bytes`].
+    ///
+    /// ```
+    /// # use gii_bch::{Refusal, Sheet, numbers};
+    /// let sheet = Sheet::new(4, 2, 1, [2, 3, 0, 0]);
+    /// let mut list = vec![0; sheet.list_bytes()?];
+    /// // The coefficient of x: α and α^3.
+    /// sheet.syndromes(&[0x02, 0, 0, 0], 0, &mut list)?;
+    /// assert!(numbers(&list).eq([2, 8]));
+    ///
+    /// // No longer list, as for all four.
+    /// assert_eq!(sheet.syndromes(&[0x02, 0, 0, 0], 0, &mut [0; 8]), Err(Refusal::List));
+    /// # Ok::<(), gii_bch::Refusal>(())
+    /// ```
     pub fn syndromes(&self, page: &[u8], index: u32, list: &mut [u8]) -> Result<(), Refusal> {
         done(call!(gii_syndromes, self, page.as_ptr(), page.len(), index, list.as_mut_ptr(), list.len()))
     }
 
-    /// S_1 to S_(2 t_(v−l)) of nested word l, l being `index`; else as [`Sheet::syndromes`].
+    /// S_1, S_3, .., S_(2 t_(v−l) − 1) of nested word l, l being `index`; else as [`Sheet::syndromes`].
     pub fn nested_syndromes(&self, page: &[u8], index: u32, list: &mut [u8]) -> Result<(), Refusal> {
         done(call!(gii_nested_syndromes, self, page.as_ptr(), page.len(), index, list.as_mut_ptr(), list.len()))
+    }
+
+    /// S_1, S_2, .., S_2t, t being t_level, from the list of the odd ones, S_1, S_3, ..: the level is 0 for the list of
+    /// [`Sheet::syndromes`], v − l for that of [`Sheet::nested_syndromes`] of nested word l. S_2j is the square of S_j, as it is
+    /// of every word. The odd ones are copied as they are given, all 16 bits; a number that is no element, 2^q or above, is
+    /// squared as a polynomial modulo that of the field.
+    ///
+    /// Refuses the parameters, a level above v (by [`Refusal::Index`]), the lengths: 2 t bytes of `odd`, 4 t of `list`, which is
+    /// [`Sheet::all_bytes`].
+    ///
+    /// ```
+    /// # use gii_bch::{Refusal, Sheet, numbers};
+    /// let sheet = Sheet::new(4, 2, 1, [1, 2, 0, 0]);
+    /// let mut odd = vec![0; sheet.nested_list_bytes(0)?];
+    /// sheet.nested_syndromes(&[0x02, 0, 0, 0], 0, &mut odd)?;
+    /// assert!(numbers(&odd).eq([2, 8]));
+    ///
+    /// let mut list = vec![0; sheet.all_bytes(1)?];
+    /// sheet.all_syndromes(1, &odd, &mut list)?;
+    /// assert!(numbers(&list).eq([2, 4, 8, 3]));
+    ///
+    /// // Level 0 has one odd syndrome and two in all; there are levels 0 and 1.
+    /// assert_eq!(sheet.all_syndromes(0, &odd, &mut list), Err(Refusal::List));
+    /// assert_eq!(sheet.all_syndromes(2, &odd, &mut list), Err(Refusal::Index));
+    /// # Ok::<(), gii_bch::Refusal>(())
+    /// ```
+    pub fn all_syndromes(&self, level: u32, odd: &[u8], list: &mut [u8]) -> Result<(), Refusal> {
+        done(call!(gii_all_syndromes, self, level, odd.as_ptr(), odd.len(), list.as_mut_ptr(), list.len()))
     }
 }
 
@@ -617,7 +673,7 @@ impl Sheet {
 /// let sheet = Sheet::new(4, 2, 1, [1, 2, 0, 0]);
 /// let mut list = vec![0; sheet.nested_list_bytes(0)?];
 /// sheet.nested_syndromes(&[0x02, 0, 0, 0], 0, &mut list)?;
-/// assert!(numbers(&list).eq([2, 4, 8, 3]));
+/// assert!(numbers(&list).eq([2, 8]));
 /// # Ok::<(), gii_bch::Refusal>(())
 /// ```
 pub fn numbers(list: &[u8]) -> impl Iterator<Item = u16> + '_ {

@@ -1,4 +1,4 @@
-//! The twelve C calls, on slices. Each gives the requirement's number; a refusal leaves every byte.
+//! The thirteen C calls, on slices. Each gives the requirement's number; a refusal leaves every byte.
 
 use crate::layout;
 use crate::parameters::{Condition, Parameters, Sheet, first};
@@ -119,7 +119,7 @@ pub fn mend(p: &Parameters, page: &mut [u8], index: u32, places: &mut [u8], flip
         return refused;
     }
     let (sheet, i) = (sheet(), index as usize);
-    let Some(found) = sheet.mending(&sheet.words_of(page)[i]) else { return 15 };
+    let Some(found) = sheet.mending(&sheet.word_of(page, i)) else { return 15 };
     found.iter().for_each(|&k| layout::flip(page, sheet.place(i, k)));
     put_places(&found, places);
     *flips = found.len() as u8;
@@ -178,13 +178,13 @@ pub fn syndromes(p: &Parameters, page: &[u8], index: u32, list: &mut [u8]) -> u3
             (7, &|| page.len() != sheet().page_bytes()),
             (8, &|| sheet().page_stray(page)),
             (9, &|| index >= p.m),
-            (10, &|| list.len() != 4 * sheet().levels[0].t),
+            (10, &|| list.len() != 2 * sheet().levels[0].t),
         ],
     );
     if refused != 0 {
         return refused;
     }
-    put_list(&sheet(), &sheet().words_of(page)[index as usize], list);
+    put_list(&sheet(), &sheet().word_of(page, index as usize), list);
     0
 }
 
@@ -196,13 +196,38 @@ pub fn nested_syndromes(p: &Parameters, page: &[u8], index: u32, list: &mut [u8]
             (7, &|| page.len() != sheet().page_bytes()),
             (8, &|| sheet().page_stray(page)),
             (9, &|| index >= p.v),
-            (10, &|| list.len() != 4 * sheet().nested_level(index as usize).t),
+            (10, &|| list.len() != 2 * sheet().nested_level(index as usize).t),
         ],
     );
     if refused != 0 {
         return refused;
     }
     put_list(&sheet(), &sheet().nested_word(&sheet().words_of(page), index as usize), list);
+    0
+}
+
+/// S_1, S_2, .. from S_1, S_3, ..: with j = 2^e o, o odd, S_j is S_o, as it is given, squared e times over.
+pub fn all_syndromes(p: &Parameters, level: u32, odd: &[u8], list: &mut [u8]) -> u32 {
+    let sheet = || Sheet::of(p);
+    let refused = refusal(
+        p,
+        &[
+            (9, &|| level > p.v),
+            (10, &|| odd.len() != 2 * sheet().levels[level as usize].t),
+            (10, &|| list.len() != 4 * sheet().levels[level as usize].t),
+        ],
+    );
+    if refused != 0 {
+        return refused;
+    }
+    let field = sheet().field;
+    for (j, bytes) in (1..).zip(list.chunks_mut(2)) {
+        let e = usize::trailing_zeros(j);
+        // S_o is number (o − 1) / 2.
+        let given = &odd[(j >> e) - 1..][..2];
+        let number = (0..e).fold(u16::from_le_bytes([given[0], given[1]]), |number, _| field.square(number));
+        bytes.copy_from_slice(&number.to_le_bytes());
+    }
     0
 }
 
@@ -241,9 +266,14 @@ fn size(p: &Parameters, of: fn(&Sheet) -> usize) -> u32 {
     if p.accepted() { of(&Sheet::of(p)) as u32 } else { 0 }
 }
 
-/// S_1, S_2, .. as many as the list has room for, two bytes each, low byte first.
+/// S_1, S_3, .. as many as the list has room for, two bytes each, low byte first.
 pub fn put_list(sheet: &Sheet, word: &[u64], list: &mut [u8]) {
-    for (place, bytes) in list.chunks_mut(2).enumerate() {
-        bytes.copy_from_slice(&sheet.field.value(word, place + 1).to_le_bytes());
+    put_values(sheet, word, (1..).step_by(2), list);
+}
+
+/// The values of a word at α^j for these j, each by its own sum, as many as the list has room for.
+pub fn put_values(sheet: &Sheet, word: &[u64], powers: impl Iterator<Item = usize>, list: &mut [u8]) {
+    for (j, bytes) in powers.zip(list.chunks_mut(2)) {
+        bytes.copy_from_slice(&sheet.field.value(word, j).to_le_bytes());
     }
 }

@@ -64,6 +64,14 @@ impl Field {
         product as u16
     }
 
+    /// The square of a polynomial of degree up to 15, an element or not: bit k goes to 2k, and long division by the field's
+    /// polynomial leaves what is below x^q.
+    pub fn square(&self, a: u16) -> u16 {
+        let spread = (0..16).filter(|k| a >> k & 1 == 1).fold(0u32, |sum, k| sum | 1 << (2 * k));
+        let divided = |rest: u32, k: usize| rest ^ ((rest >> k & 1) * (self.polynomial << (k - self.q)));
+        (self.q..32).rev().fold(spread, divided) as u16
+    }
+
     /// The inverse of a ≠ 0, which is a^(2^q − 2).
     pub fn inverse(&self, a: u16) -> u16 {
         (1..self.q).fold((a, 1), |(s, r), _| (self.multiply(s, s), self.multiply(r, self.multiply(s, s)))).1

@@ -90,13 +90,18 @@ impl Sheet {
 
     /// The sub-words, n coefficients each, of which a page has the lower ones.
     pub fn words_of(&self, page: &[u8]) -> Vec<Vec<u64>> {
-        let mut words = self.empty_words();
-        for (i, word) in words.iter_mut().enumerate() {
-            for k in (0..self.stored()).filter(|&k| bit(page, self.place(i, k))) {
-                linear::flip(word, k);
-            }
+        (0..self.m).map(|i| self.word_of(page, i)).collect()
+    }
+
+    /// Sub-word i. Its bytes hold its coefficients in their order, and then spare bits, which are left out.
+    pub fn word_of(&self, page: &[u8], i: usize) -> Vec<u64> {
+        let mut word = vec![0; self.field.n.div_ceil(64)];
+        let bytes = &page[i * self.sub_word_bytes()..][..self.sub_word_bytes()];
+        for (k, &byte) in bytes.iter().enumerate() {
+            word[k / 8] |= u64::from(byte) << (8 * (k % 8));
         }
-        words
+        (self.stored()..8 * bytes.len()).for_each(|k| linear::put(&mut word, k, false));
+        word
     }
 
     /// The page of some words, whose top s coefficients must be 0.
@@ -136,7 +141,7 @@ impl Sheet {
     pub fn nested_word(&self, words: &[Vec<u64>], l: usize) -> Vec<u64> {
         let mut sum = vec![0; self.field.n.div_ceil(64)];
         for (i, word) in words.iter().enumerate() {
-            for k in (0..self.field.n).filter(|&k| linear::get(word, k)) {
+            for k in linear::ones(word) {
                 linear::flip(&mut sum, (k + l * i) % self.field.n);
             }
         }

@@ -12,9 +12,11 @@
 //! - that blocks are refused because their page would be blank is seen from the page, which is made first, and so it is of
 //!   an altered page, which is the lent one with the page of one data bit added;
 //! - a sub-word is mended by Peterson's decoder: a linear system over GF(2^q) gives the locator, every place is tried in it,
-//!   and what comes of it is divided by g_0; at q = 4 all flips of all multiples are tried beside it (`decode`).
+//!   and what comes of it is divided by g_0; at q = 4 all flips of all multiples are tried beside it (`decode`);
+//! - a syndrome is the sum of the α^(jk), odd or even j; all from the odd ones are squares, the bits moved apart and divided
+//!   by the field's polynomial.
 //!
-//! `calls` has the twelve C calls by these means; a degree is a generator's length less one. `sample` draws inputs from a seed.
+//! `calls` has the thirteen C calls by these means; a degree is a generator's length less one. `sample` draws inputs from a seed.
 
 pub mod calls;
 pub mod decode;

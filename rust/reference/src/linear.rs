@@ -9,6 +9,15 @@ pub fn get(row: &[u64], place: usize) -> bool {
     row[place / 64] >> (place % 64) & 1 == 1
 }
 
+/// The places of a row that are 1, rising.
+pub fn ones(row: &[u64]) -> impl Iterator<Item = usize> + '_ {
+    row.iter().enumerate().flat_map(|(k, &number)| {
+        // Each number is the one before it without its lowest 1.
+        let numbers = std::iter::successors(Some(number), |&number| Some(number & number.wrapping_sub(1)));
+        numbers.take_while(|&number| number != 0).map(move |number| 64 * k + number.trailing_zeros() as usize)
+    })
+}
+
 pub fn flip(row: &mut [u64], place: usize) {
     row[place / 64] ^= 1 << (place % 64);
 }

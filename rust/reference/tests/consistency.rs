@@ -1,5 +1,5 @@
 //! The reference against itself: two encoders, read-back, sums, distance, blank pages, altered bits, mended sub-words,
-//! shortened sub-words.
+//! odd syndromes and all, shortened sub-words.
 
 use reference::calls::{BLANK, judge, read_out, write};
 use reference::field::Field;
@@ -172,6 +172,62 @@ fn field_laws() {
             assert_eq!(square(field.power(a) ^ field.power(b)), square(field.power(a)) ^ square(field.power(b)));
         }
     }
+}
+
+/// Squares: of every element its product with itself, of every number of 16 bits the sum of the α^2k over its bits k.
+#[test]
+fn squares() {
+    for q in [4, 8, 12] {
+        let field = Field::of(q);
+        for a in 0..=u16::MAX {
+            let sum = (0..16).filter(|k| a >> k & 1 == 1).fold(0, |sum, k| sum ^ field.power(2 * k));
+            assert_eq!(field.square(a), sum, "q = {q}, {a:04X}");
+            assert!(usize::from(a) > field.n || field.square(a) == field.multiply(a, a), "q = {q}, {a:04X}");
+        }
+    }
+}
+
+/// The sums of a word at α^j: value's are the sums of α^(jk) place by place, that of 2j is the square of that of j, and all
+/// syndromes from the odd ones are the sums, of sub-words and of nested words.
+#[test]
+fn odd_and_even_sums() {
+    let mut random = Random::new(11);
+    let mut sheets: Vec<Parameters> = all_of_q_4().collect();
+    for (q, count) in [(8, 100), (12, 12)] {
+        sheets.extend((0..count).map(|_| drawn(&mut random, q)));
+    }
+    sheets.push(Parameters::full(12, 8, 3, [28, 32, 39, 58]));
+    sheets.push(Parameters::full(12, 2, 1, [63, 64, 0, 0]).shortened(1900));
+    let mut sums = 0;
+    for p in sheets {
+        let sheet = Sheet::of(&p);
+        let mut page = sheet.erased(0);
+        page.iter_mut().for_each(|byte| *byte &= random.number() as u8);
+        let words = sheet.words_of(&page);
+        let i = random.from_to(0, sheet.m - 1);
+        let nested = (0..sheet.v).map(|l| (sheet.v - l, Some(l), sheet.nested_word(&words, l)));
+        for (level, l, word) in [(0, None, words[i].clone())].into_iter().chain(nested) {
+            let t = sheet.levels[level].t;
+            let ones: Vec<usize> = (0..sheet.field.n).filter(|&k| linear::get(&word, k)).collect();
+            let by_places = |j: usize| ones.iter().fold(0, |sum, &k| sum ^ sheet.field.power(j * k));
+            let expected: Vec<u16> = (1..=2 * t).map(by_places).collect();
+            for j in 1..=2 * t {
+                assert_eq!(sheet.field.value(&word, j), expected[j - 1], "{p:?}, level {level}, S_{j}");
+                assert!(j % 2 == 1 || expected[j - 1] == sheet.field.square(expected[j / 2 - 1]), "{p:?}, S_{j}");
+            }
+            let (mut odd, mut all) = (vec![0xA5; 2 * t], vec![0xA5; 4 * t]);
+            let number = match l {
+                None => calls::syndromes(&p, &page, i as u32, &mut odd),
+                Some(l) => calls::nested_syndromes(&p, &page, l as u32, &mut odd),
+            };
+            assert_eq!((number, calls::all_syndromes(&p, level as u32, &odd, &mut all)), (0, 0), "{p:?}");
+            let numbers = |list: &[u8]| list.chunks(2).map(|x| u16::from_le_bytes([x[0], x[1]])).collect::<Vec<u16>>();
+            assert_eq!(numbers(&all), expected, "{p:?}, level {level}");
+            assert!(expected.iter().step_by(2).eq(&numbers(&odd)), "{p:?}, level {level}");
+            sums += expected.len();
+        }
+    }
+    assert!(sums > 10_000, "{sums} sums");
 }
 
 /// Where all sub-words are multiples of g_0, a page is a member exactly when it is what write makes of its blocks. At s = 0

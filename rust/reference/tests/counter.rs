@@ -2,8 +2,8 @@
 //! cases of shortened sub-words.
 
 use reference::calls::{
-    BLANK, QUOTE_BYTES, alter, data_bytes, distance, judge, mend, nested_syndromes, page_bytes, quote, read_out,
-    syndromes, write, write_many,
+    BLANK, QUOTE_BYTES, all_syndromes, alter, data_bytes, distance, judge, mend, nested_syndromes, page_bytes, quote,
+    read_out, syndromes, write, write_many,
 };
 use reference::field::Field;
 use reference::generator::Level;
@@ -70,8 +70,8 @@ fn blank_pages() {
         assert_eq!(read_out(&A, &page, &mut blocks), BLANK);
         assert_eq!(blocks, ONES);
         // The syndromes' calls know no blank page.
-        let expected = if (first, second) == (0x7F, 0x7F) { (0, [0; 4]) } else { (8, [0xA5; 4]) };
-        let mut list = [0xA5; 4];
+        let expected = if (first, second) == (0x7F, 0x7F) { (0, [0; 2]) } else { (8, [0xA5; 2]) };
+        let mut list = [0xA5; 2];
         assert_eq!((syndromes(&A, &page, 0, &mut list), list), expected);
     }
     let mut page = [0xA5; 4];
@@ -108,16 +108,94 @@ fn blank_pages_shortened() {
 
 #[test]
 fn syndromes_of_a_word() {
-    let p = Parameters { t: [2, 3, 0, 0], ..A };
-    let mut list = [0xA5; 8];
-    assert_eq!(syndromes(&p, &[0x02, 0x00, 0x00, 0x00], 0, &mut list), 0);
-    assert_eq!(list, [2, 0, 4, 0, 8, 0, 3, 0]);
-    let mut list = [0xA5; 8];
+    let mut list = [0xA5; 4];
+    assert_eq!(syndromes(&C, &[0x02, 0x00, 0x00, 0x00], 0, &mut list), 0);
+    assert_eq!(list, [2, 0, 8, 0]);
+    let mut list = [0xA5; 4];
     assert_eq!(nested_syndromes(&A, &[0x02, 0x00, 0x00, 0x00], 0, &mut list), 0);
-    assert_eq!(list, [2, 0, 4, 0, 8, 0, 3, 0]);
+    assert_eq!(list, [2, 0, 8, 0]);
+    let mut all = [0xA5; 8];
+    assert_eq!(all_syndromes(&A, 1, &list, &mut all), 0);
+    assert_eq!(all, [2, 0, 4, 0, 8, 0, 3, 0]);
     // x^10, the highest of eleven coefficients stored, of sub-word 2 is x^12 in nested word 1: α^12, α^9, α^6, α^3.
     assert_eq!(nested_syndromes(&B.shortened(4), &[0x00, 0x00, 0x00, 0x00, 0x00, 0x04], 1, &mut list), 0);
-    assert_eq!(list, [15, 0, 10, 0, 12, 0, 8, 0]);
+    assert_eq!(list, [15, 0, 12, 0]);
+    assert_eq!(all_syndromes(&B.shortened(4), 1, &list, &mut all), 0);
+    assert_eq!(all, [15, 0, 10, 0, 12, 0, 8, 0]);
+    // A list is measured by the odd ones alone.
+    for (length, expected) in [(0, 10), (2, 10), (3, 10), (4, 0), (5, 10), (8, 10)] {
+        assert_eq!(syndromes(&C, &[0x02, 0x00, 0x00, 0x00], 0, &mut vec![0; length]), expected, "{length} bytes");
+        assert_eq!(nested_syndromes(&A, &[0x02, 0x00, 0x00, 0x00], 0, &mut vec![0; length]), expected);
+    }
+}
+
+/// From the odd ones all: those are copied, the others are squares, at 4t of a square. A number that is no element is taken
+/// for a polynomial: of degree 4 at q = 4, x^8 is x^2 + 1; of degree 15, x^30 is 1 at q = 4, α^30 at q = 8 and 12.
+#[test]
+fn all_from_the_odd_ones() {
+    let [middle, large] = [8, 12].map(|q| Parameters::full(q, 2, 1, [1, 2, 0, 0]));
+    for (p, level, odd, expected) in [
+        (A, 0, &[0][..], &[0, 0][..]),
+        (A, 0, &[1], &[1, 1]),
+        (A, 0, &[2], &[2, 4]),
+        (A, 1, &[2, 8], &[2, 4, 8, 3]),
+        (A, 1, &[0, 1], &[0, 0, 1, 0]),
+        (B, 2, &[2, 8, 6], &[2, 4, 8, 3, 6, 12]),
+        (A, 0, &[0x10], &[0x10, 5]),
+        (A, 0, &[0x8000], &[0x8000, 1]),
+        (A, 1, &[0x8000, 0x13], &[0x8000, 1, 0x13, 1]),
+        (middle, 0, &[0x10], &[0x10, 0x1D]),
+        (middle, 0, &[0x11D], &[0x11D, 0]),
+        (middle, 0, &[0x8000], &[0x8000, 0x60]),
+        (large, 0, &[0x40], &[0x40, 0x53]),
+        (large, 0, &[0x1053], &[0x1053, 0]),
+        (large, 0, &[0x8000], &[0x8000, 0x49F]),
+    ] {
+        let bytes = |numbers: &[u16]| numbers.iter().flat_map(|number| number.to_le_bytes()).collect::<Vec<u8>>();
+        let mut list = vec![0xA5; 2 * expected.len()];
+        for p in [p, p.shortened(3)] {
+            assert_eq!(all_syndromes(&p, level, &bytes(odd), &mut list), 0, "{p:?}, {odd:X?}");
+            assert_eq!(list, bytes(expected), "{p:?}, {odd:X?}");
+        }
+    }
+}
+
+/// What refuses all syndromes, and in which order; every byte stays.
+#[test]
+fn all_syndromes_refused() {
+    const MOST: u32 = u32::MAX;
+    for (p, level, odd, length, expected) in [
+        (Parameters { q: 5, ..A }, MOST, 0, 0, 1),
+        (Parameters { m: 1, ..A }, MOST, 0, 0, 2),
+        (Parameters { t: [2, 2, 0, 0], ..A }, MOST, 0, 0, 3),
+        (Parameters::full(4, 4, 2, [1, 2, 3, 0]).shortened(MOST), MOST, 0, 0, 4),
+        (A.shortened(7), MOST, 0, 0, 14),
+        (A.shortened(7), 0, 2, 4, 14),
+        // Levels 0 and 1; t_2 and t_3 are 0, as the lengths are.
+        (A, 2, 0, 0, 9),
+        (A, 3, 0, 0, 9),
+        (A, 2, 4, 8, 9),
+        (A, MOST, 1, 1, 9),
+        (B, 3, 6, 12, 9),
+        (A, 0, 0, 4, 10),
+        (A, 0, 1, 4, 10),
+        (A, 0, 3, 4, 10),
+        (A, 0, 4, 4, 10),
+        (A, 0, 2, 0, 10),
+        (A, 0, 2, 2, 10),
+        (A, 0, 2, 3, 10),
+        (A, 0, 2, 5, 10),
+        (A, 0, 2, 8, 10),
+        (A, 0, 4, 2, 10),
+        // Those of the other level.
+        (A, 0, 4, 8, 10),
+        (A, 1, 2, 4, 10),
+    ] {
+        let odd = vec![0x5A; odd];
+        let mut list = vec![0xA5; length];
+        assert_eq!(all_syndromes(&p, level, &odd, &mut list), expected, "{p:?}, level {level}, {odd:?}, {length}");
+        assert_eq!(list, vec![0xA5; length], "{p:?}, level {level}");
+    }
 }
 
 #[test]

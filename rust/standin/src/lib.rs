@@ -129,13 +129,10 @@ fn nested_word(sheet: &Sheet, words: &[Vec<u64>], l: usize) -> Vec<u64> {
     sum
 }
 
-fn nested(p: &Parameters, page: &[u8], index: u32, list: &mut [u8]) -> u32 {
-    let number = calls::nested_syndromes(p, page, index, list);
-    if number == 0 {
-        let sheet = Sheet::of(p);
-        calls::put_list(&sheet, &nested_word(&sheet, &sheet.words_of(page), index as usize), list);
-    }
-    number
+/// Whether nested word l fails judge, held to 2t syndromes.
+fn nested_fails(sheet: &Sheet, page: &[u8], l: usize, t: usize) -> bool {
+    let word = nested_word(sheet, &sheet.words_of(page), l);
+    (1..=2 * t).any(|j| sheet.field.value(&word, j) != 0)
 }
 
 fn judge(p: &Parameters, page: &[u8]) -> u32 {
@@ -161,12 +158,9 @@ fn judge(p: &Parameters, page: &[u8]) -> u32 {
         return 63 + p.v;
     }
     let fails = |l: &u32| {
-        let mut list = vec![0; 4 * p.t[(p.v - l) as usize] as usize];
-        nested(p, page, *l, &mut list);
-        // To 2 t_(v-1), at two bytes a syndrome.
         let lower = fault("nested-0-one-level-lower") && *l == 0 && p.v > 1;
-        let looked_at = if lower { 4 * p.t[p.v as usize - 1] as usize } else { list.len() };
-        list[..looked_at].iter().any(|&byte| byte != 0)
+        let level = p.v - l - u32::from(lower);
+        nested_fails(&sheet, page, *l as usize, p.t[level as usize] as usize)
     };
     (0..p.v).find(fails).map_or(0, |l| 64 + l)
 }
@@ -654,7 +648,7 @@ fn mend_refusal(p: &Parameters, page: &[u8], index: u32, length: usize) -> u32 {
         _ => p.m,
     };
     let bytes = match () {
-        _ if fault("mend-list-as-syndromes") => 4 * p.t[0] as usize,
+        _ if fault("mend-list-as-all-syndromes") => 4 * p.t[0] as usize,
         _ if fault("mend-list-by-level-v") => 2 * p.t[p.v as usize] as usize,
         _ => 2 * p.t[0] as usize,
     };
@@ -948,34 +942,264 @@ fn page_for_syndromes(p: &Parameters, page: &[u8]) -> Option<Vec<u8>> {
     }
 }
 
+/// The refusal of a syndromes' call, of a word below `end` and its level, by its tests in the order that the fault gives them.
+fn odd_refusal(p: &Parameters, page: &[u8], index: u32, end: u32, level: &dyn Fn(u32) -> u32, length: usize) -> u32 {
+    match p.refusal() {
+        0 => {}
+        number => return number,
+    }
+    let sheet = Sheet::of(p);
+    let exact = page.len() == sheet.page_bytes();
+    // Of a word that there is not, as of word 0.
+    let t = p.t[level(if index < end { index } else { 0 }) as usize] as usize;
+    let fits = match () {
+        _ if fault("odd-list-as-before") => length == 4 * t,
+        _ if fault("odd-list-either") => length == 2 * t || length == 4 * t,
+        _ if fault("odd-list-longer") => length >= 2 * t,
+        _ if fault("odd-list-any") => true,
+        _ => length == 2 * t,
+    };
+    let met = |condition: &u32| match condition {
+        7 => !exact,
+        8 => exact && sheet.page_stray(page),
+        9 => index >= end,
+        _ => !fits,
+    };
+    let order: &[u32] = match () {
+        _ if fault("index-before-stray") => &[7, 9, 8, 10],
+        _ if fault("odd-list-before-page") => &[10, 7, 8, 9],
+        _ if fault("odd-list-before-stray") => &[7, 10, 8, 9],
+        _ if fault("odd-list-before-index") => &[7, 8, 10, 9],
+        _ => &[7, 8, 9, 10],
+    };
+    order.iter().copied().find(met).unwrap_or(0)
+}
+
+/// Lists the odd syndromes of a word that is held to strength t.
+fn odd_list(sheet: &Sheet, word: &[u64], t: usize, list: &mut [u8]) {
+    let field = sheet.field;
+    let longer = list.len() >= 4 * t && (fault("odd-list-as-before") || fault("odd-list-either"));
+    let count = if longer { 2 * t } else { t };
+    // What g_0 leaves of the word.
+    let mut rest = vec![0; word.len()];
+    if fault("odd-nested-past-g-0") {
+        let remainder = sheet.levels[0].remainder(field, word);
+        remainder.iter().enumerate().for_each(|(k, &bit)| linear::put(&mut rest, k, bit));
+    }
+    let value = |j: usize| match () {
+        _ if fault("odd-nested-past-g-0") => field.value(&rest, j),
+        _ => field.value(word, j),
+    };
+    let number = |i: usize| match () {
+        _ if longer || fault("odd-first-t") => value(i + 1),
+        _ if fault("odd-even-listed") => value(2 * i + 2),
+        _ if fault("odd-from-3") => value((2 * i + 3).min(2 * t)),
+        _ if fault("odd-one-strength") && t == 64 && i == 63 => value(1),
+        _ => value(2 * i + 1),
+    };
+    let bytes = if fault("high-byte-first") { u16::to_be_bytes } else { u16::to_le_bytes };
+    let kept = usize::from(fault("last-syndrome-left"));
+    for (i, pair) in list.chunks_exact_mut(2).enumerate().take(count - kept) {
+        pair.copy_from_slice(&bytes(number(i)));
+    }
+}
+
 fn syndromes(p: &Parameters, page: &[u8], index: u32, list: &mut [u8]) -> u32 {
-    if fault("index-before-stray") && sheet_of(p, page).is_some() && index >= p.m {
-        return 9;
-    }
     let Some(page) = &page_for_syndromes(p, page) else { return BLANK };
-    let old = list.to_vec();
-    let number = calls::syndromes(p, page, index, list);
-    if number == 0 && fault("syndromes-from-the-top") {
-        // The stored coefficients are taken for the top ones.
-        let sheet = Sheet::of(p);
-        let mut moved = vec![0; sheet.field.n.div_ceil(64)];
-        let ones = (0..sheet.stored()).filter(|&k| bit(page, sheet.place(index as usize, k)));
-        ones.for_each(|k| linear::flip(&mut moved, k + sheet.s));
-        calls::put_list(&sheet, &moved, list);
+    let level = |_: u32| if fault("odd-list-by-level-v") { p.v } else { 0 };
+    let number = odd_refusal(p, page, index, p.m, &level, list.len());
+    if number != 0 {
+        return odd_leave(number, list);
     }
-    if number == 0 && fault("high-byte-first") {
-        list.chunks_mut(2).for_each(|pair| pair.swap(0, 1));
-    }
-    if number == 0 && fault("last-syndrome-left") {
-        let kept = list.len() - 2;
-        list[kept..].copy_from_slice(&old[kept..]);
-    }
-    leave(number, list)
+    let (sheet, i) = (Sheet::of(p), index as usize);
+    // Where the stored coefficients are taken for the top ones.
+    let from = if fault("syndromes-from-the-top") { sheet.s } else { 0 };
+    let mut word = vec![0; sheet.field.n.div_ceil(64)];
+    let ones = (0..sheet.stored()).filter(|&k| bit(page, sheet.place(i, k)));
+    ones.for_each(|k| linear::flip(&mut word, k + from));
+    odd_list(&sheet, &word, p.t[level(index) as usize] as usize, list);
+    0
 }
 
 fn nested_syndromes(p: &Parameters, page: &[u8], index: u32, list: &mut [u8]) -> u32 {
     let Some(page) = &page_for_syndromes(p, page) else { return BLANK };
-    leave(nested(p, page, index, list), list)
+    let level = |l: u32| match () {
+        _ if fault("odd-nested-by-level-l") => l + 1,
+        _ if fault("odd-nested-by-level-0") => 0,
+        _ => p.v - l,
+    };
+    let number = odd_refusal(p, page, index, p.v, &level, list.len());
+    if number != 0 {
+        return odd_leave(number, list);
+    }
+    let sheet = Sheet::of(p);
+    let word = nested_word(&sheet, &sheet.words_of(page), index as usize);
+    odd_list(&sheet, &word, p.t[level(index) as usize] as usize, list);
+    0
+}
+
+/// What a syndromes' call does with its list when its number is a refusal.
+fn odd_leave(number: u32, list: &mut [u8]) -> u32 {
+    if fault("odd-refusal-clears") && number >= 7 && number != 14 {
+        list.fill(0);
+    }
+    leave(number, list)
+}
+
+/// The refusal of all syndromes, by its tests in the order that the fault gives them.
+fn all_refusal(p: &Parameters, level: u32, odd: &[u8], length: usize) -> u32 {
+    match p.refusal() {
+        14 if fault("all-level-before-14") && level > p.v => return 9,
+        14 if fault("all-without-14") => return all_refusal(&p.shortened(0), level, odd, length),
+        0 => {}
+        number => return number,
+    }
+    let end = match () {
+        _ if fault("all-level-v-refused") => p.v - 1,
+        _ if fault("all-level-to-3") => 3,
+        _ if fault("all-level-any") => u32::MAX,
+        _ => p.v,
+    };
+    let (t, odd_length) = (all_strength(p, level), odd.len());
+    let exact = |length: usize, bytes: usize| match () {
+        _ if fault("all-lengths-longer") => length >= bytes,
+        _ if fault("all-lengths-modulo-2-8") => length >= bytes && (length - bytes) % (1 << 8) == 0,
+        _ => length == bytes,
+    };
+    let fits = match () {
+        _ if fault("all-odd-any-length") => exact(length, 4 * t),
+        _ if fault("all-list-any-length") => exact(odd_length, 2 * t),
+        _ if fault("all-lengths-twice") => exact(length, 2 * odd_length),
+        _ if fault("all-lengths-together") => exact(odd_length + length, 6 * t),
+        _ if fault("all-lengths-swapped") => exact(odd_length, 4 * t) && exact(length, 2 * t),
+        _ if fault("all-from-all") => exact(odd_length, 4 * t) && exact(length, 4 * t),
+        _ => exact(odd_length, 2 * t) && exact(length, 4 * t),
+    };
+    // Elements alone.
+    let element = |pair: &[u8]| usize::from(u16::from_le_bytes([pair[0], pair[1]])) <= Sheet::of(p).field.n;
+    let met = |condition: &u32| match condition {
+        9 => level > end,
+        10 => !fits,
+        _ => !odd.chunks_exact(2).all(element),
+    };
+    let order: &[u32] = match () {
+        _ if fault("all-list-before-level") => &[10, 9],
+        _ if fault("all-elements-only") => &[9, 10, 8],
+        _ => &[9, 10],
+    };
+    order.iter().copied().find(met).unwrap_or(0)
+}
+
+/// The strength that all syndromes takes a level for; of a level that there is not, that of the last.
+fn all_strength(p: &Parameters, level: u32) -> usize {
+    let level = match () {
+        _ if fault("all-level-to-3") => level.min(3),
+        _ if fault("all-level-inverted") => p.v - level.min(p.v),
+        _ => level.min(p.v),
+    };
+    p.t[level as usize] as usize
+}
+
+/// The square that all syndromes makes of a number.
+fn all_square(q: usize, number: u16) -> u16 {
+    let polynomial: u32 = match q {
+        _ if fault("all-polynomial-of-q-4") => 0x13,
+        _ if fault("all-polynomial-of-q-8") => 0x11D,
+        _ if fault("all-polynomial-of-q-12") => 0x1053,
+        _ if fault("all-other-polynomials") => [0x19, 0x12B, 0x1069][q / 4 - 1],
+        4 => 0x13,
+        8 => 0x11D,
+        _ => 0x1053,
+    };
+    let degree = polynomial.ilog2() as usize;
+    let mask = (1u32 << q) - 1;
+    let taken = match () {
+        _ if fault("all-masked") => u32::from(number) & mask,
+        _ => u32::from(number),
+    };
+    let spread = (0..16).filter(|k| taken >> k & 1 == 1).map(|k| 1u32 << (2 * k)).sum::<u32>();
+    let top = match () {
+        _ if fault("all-not-reduced") => degree,
+        // As is enough for elements.
+        _ if fault("all-reduced-as-elements") => 2 * degree - 1,
+        _ => 32,
+    };
+    let rest = (degree..top).rev().fold(spread, |rest, k| rest ^ ((rest >> k & 1) * (polynomial << (k - degree))));
+    (if fault("all-square-masked") { spread & mask } else { rest }) as u16
+}
+
+fn all_syndromes(p: &Parameters, level: u32, odd: &[u8], list: &mut [u8]) -> u32 {
+    let level = match () {
+        _ if fault("all-level-modulo-2-8") => level % (1 << 8),
+        _ if fault("all-level-modulo-2-16") => level % (1 << 16),
+        _ => level,
+    };
+    let number = all_refusal(p, level, odd, list.len());
+    if number != 0 {
+        if fault("all-refusal-clears") {
+            list.fill(0);
+        }
+        return leave(number, list);
+    }
+    let (q, t) = (p.q as usize, all_strength(p, level));
+    let step = if fault("all-from-all") { 2 } else { 1 };
+    let mut given: Vec<u16> = odd.chunks_exact(2).step_by(step).map(|x| u16::from_le_bytes([x[0], x[1]])).collect();
+    given.resize(t, 0);
+    let square = |number: u16| all_square(q, number);
+    // S_j, by j, from 1.
+    let mut all = vec![0; 2 * t + 1];
+    for j in 1..=2 * t {
+        all[j] = match j {
+            _ if j % 2 == 1 => given[j / 2],
+            _ if fault("all-squares-in-order") => square(given[j / 2 - 1]),
+            _ if fault("all-squared-once") => square(given[(j >> j.trailing_zeros()) / 2]),
+            _ => square(all[j / 2]),
+        };
+    }
+    let right = all.clone();
+    for j in (2..=2 * t).step_by(2) {
+        all[j] = match j / 2 {
+            half if fault("all-from-before") => square(right[half.max(2) - 1]),
+            half if fault("all-from-next") => square(right[half + 1]),
+            _ => right[j],
+        };
+    }
+    for j in (1..=2 * t).step_by(2) {
+        all[j] = match () {
+            _ if fault("all-odd-masked") => all[j] & ((1u32 << q) - 1) as u16,
+            // x^q and above by the field's polynomial.
+            _ if fault("all-odd-reduced") => (0..16)
+                .filter(|k| right[j] >> k & 1 == 1)
+                .fold(0, |sum, k| sum ^ Sheet::of(&p.shortened(0)).field.power(k)),
+            _ => all[j],
+        };
+    }
+    let mut numbers = all[1..].to_vec();
+    if fault("all-odd-first") {
+        numbers = (1..=2 * t).step_by(2).chain((2..=2 * t).step_by(2)).map(|j| all[j]).collect();
+    }
+    if fault("all-one-strength") && t == 64 {
+        numbers[2 * t - 1] ^= 1;
+    }
+    let written = numbers.len() - usize::from(fault("all-last-left"));
+    for (j, (pair, number)) in (1..).zip(list.chunks_exact_mut(2).zip(numbers)).take(written) {
+        let [low, high] = number.to_le_bytes();
+        pair.copy_from_slice(&match () {
+            _ if fault("all-high-byte-first") => [high, low],
+            _ if fault("all-low-byte-alone") && j % 2 == 0 => [low, 0],
+            _ => [low, high],
+        });
+    }
+    if fault("all-overrun") {
+        unsafe { *black_box(list.as_mut_ptr()).add(list.len()) = 0 };
+    }
+    if fault("all-alters-odd") {
+        let squares = given.iter().flat_map(|&number| square(number).to_le_bytes());
+        for (k, byte) in squares.enumerate().take(odd.len()) {
+            unsafe { *black_box(odd.as_ptr().cast_mut()).add(k) = byte };
+        }
+    }
+    if fault("all-answers-count") { 2 * t as u32 } else { 0 }
 }
 
 /// The degree of a level's generator, wrong where the fault is about it.
@@ -1091,6 +1315,8 @@ exported! {
         = syndromes(from_raw_parts(page, page_len), index, from_raw_parts_mut(list, list_len));
     gii_nested_syndromes(page: *const u8, page_len: usize, index: u32, list: *mut u8, list_len: usize)
         = nested_syndromes(from_raw_parts(page, page_len), index, from_raw_parts_mut(list, list_len));
+    gii_all_syndromes(level: u32, odd: *const u8, odd_len: usize, list: *mut u8, list_len: usize)
+        = all_syndromes(level, from_raw_parts(odd, odd_len), from_raw_parts_mut(list, list_len));
     gii_quote(list: *mut u8, list_len: usize) = quote(from_raw_parts_mut(list, list_len));
     gii_page_bytes() = page_bytes();
     gii_data_bytes() = data_bytes();

@@ -8,7 +8,7 @@ use Rattle.code.specs.Accepted.{accepted, degree-high}
 use Rattle.code.specs.Parameters.{strength}
 use Rattle.code.specs.Refusals.{nestedSyndromesRefusal}
 use Rattle.refusal.specs.Indexed.{Unrefused, word-alike, word-zero, word-refused, word-done}
-use Rattle.oneword.specs.Level.{level-lt, level-made, many-few}
+use Rattle.oneword.specs.Level.{level-lt, level-made, degree-few}
 use Rattle.oneword.specs.WordBytes.{nested-syndromes-made}
 use Rattle.oneword.proofs.nested_syndromes.Statement.{statement}
 use Rattle.oneword.proofs.nested_syndromes.Tie as tie
@@ -28,9 +28,6 @@ cast-t c = search needs
 cast-word-refusal : tie.Need-cast-word-refusal
 cast-word-refusal c = search needs
 
-mul-word-refusal : tie.Need-mul-word-refusal
-mul-word-refusal c = search needs
-
 word-refusal-requires : tie.Need-word-refusal-requires
 word-refusal-requires c κs = search needs
 
@@ -44,7 +41,7 @@ chain c =
 returns : tie.Need-returns
 returns c = word-refused _ _ _ _ _ _ _ _ _ (chain (c .before)) (c .if1 .taken)
 
-free : (c : tie.Else1) → let a = c .before .before .before .before .before .before .before .args in Unrefused (a .p) (a .page .now) (a .l) (a .p .v) (length (a .list .now)) (1 * (2 * strength (a .p) (a .p .v - a .l)))
+free : (c : tie.Else1) → let a = c .before .before .before .before .before .before .before .args in Unrefused (a .p) (a .page .now) (a .l) (a .p .v) (length (a .list .now)) (1 * strength (a .p) (a .p .v - a .l))
 free c = let w = c .before in word-zero _ _ _ _ _ _ (λ k. w .before .before .before .before .before .shared-slice-known .given k .fits) (sym (chain w) ∙ c .if1 .left)
 
 nested-of-requires : tie.Need-nested-of-requires
@@ -64,8 +61,8 @@ module _ (c : tie.Else1) where
   low : level ≤ a .args .p .v
   low = omega (arith, level-is)
 
-  many : length (a .args .list .now) ≡ 2 * strength (a .args .p) level
-  many = free c .list ∙ Nat.one-mul _ ∙ ap (λ (b : ℕ). 2 * strength (a .args .p) b) (sym level-is)
+  many : length (a .args .list .now) ≡ strength (a .args .p) level
+  many = free c .list ∙ Nat.one-mul _ ∙ ap (strength (a .args .p)) (sym level-is)
 
 slice-aggregate-level-remainder : tie.Need-slice-aggregate-level-remainder
 slice-aggregate-level-remainder c = search needs
@@ -79,19 +76,20 @@ level-remainder-requires c κs =
     let i = s .before in
     (free i .accepted, low i, search needs, rw (s .nested-of .ensures .is) (s .nested-of .ensures .below))
 
-slice-aggregate-syndromes-from : tie.Need-slice-aggregate-syndromes-from
-slice-aggregate-syndromes-from c = search needs
+slice-aggregate-odd-from : tie.Need-slice-aggregate-odd-from
+slice-aggregate-odd-from c = search needs
 
-syndromes-from-requires : tie.Need-syndromes-from-requires
-syndromes-from-requires c κs =
+odd-from-requires : tie.Need-odd-from-requires
+odd-from-requires c κs =
     let k = c .before .before .before in
     let i = k .before .before .before .before in
     let A = free i .accepted in
     let w = k .level-remainder .ensures .0 in (
       A,
       omega (arith, w, degree-high _ (accepted _ A) (level i) (low i)),
+      degree-few _ A (level i) (low i) _ w .0,
+      degree-few _ A (level i) (low i) _ w .1,
       level-lt _ A (level i) (low i) _ _ _ w (k .level-remainder .ensures .1),
-      many-few _ A (level i) (low i) _ (many i),
     )
 
 same-length : tie.Need-same-length
@@ -105,7 +103,7 @@ returns-2 c =
     let i = s .before in
     word-done _ _ _ _ _ _ _ _ _ _ (chain (i .before)) (i .if1 .left)
     (nested-syndromes-made _ _ _ _ (s .nested-of .ensures) (level i) _ (level-is i)
-    (level-made _ (free i .accepted) (level i) (low i) _ _ _ _ (k .level-remainder .ensures .1) (many i) (r .syndromes-from .ensures)))
+    (level-made _ (free i .accepted) (level i) (low i) _ _ _ _ (k .level-remainder .ensures .1) (many i) (r .odd-from .ensures)))
 
 pub nested-syndromes-spec : {M : Type 1} → statement M
 nested-syndromes-spec =
@@ -116,14 +114,13 @@ nested-syndromes-spec =
     strength-at-requires
     cast-t
     cast-word-refusal
-    mul-word-refusal
     word-refusal-requires
     returns
     nested-of-requires
     slice-aggregate-level-remainder
     slice-aggregate-level-remainder-2
     level-remainder-requires
-    slice-aggregate-syndromes-from
-    syndromes-from-requires
+    slice-aggregate-odd-from
+    odd-from-requires
     same-length
     returns-2)

@@ -9,7 +9,7 @@ use Rattle.code.specs.Accepted.{accepted, degree-high}
 use Rattle.code.specs.Parameters.{strength}
 use Rattle.code.specs.Refusals.{syndromesRefusal}
 use Rattle.refusal.specs.Indexed.{Unrefused, word-alike, word-zero, word-refused, word-done}
-use Rattle.oneword.specs.Level.{level-lt, level-made, many-few}
+use Rattle.oneword.specs.Level.{level-lt, level-made, degree-few}
 use Rattle.oneword.specs.WordBytes.{WordIs, sub-word-is, syndromes-made}
 use Rattle.oneword.proofs.syndromes.Statement.{statement}
 use Rattle.oneword.proofs.syndromes.Tie as tie
@@ -23,9 +23,6 @@ cast-t c = search needs
 cast-word-refusal : tie.Need-cast-word-refusal
 cast-word-refusal c = search needs
 
-mul-word-refusal : tie.Need-mul-word-refusal
-mul-word-refusal c = search needs
-
 word-refusal-requires : tie.Need-word-refusal-requires
 word-refusal-requires c κs = search needs
 
@@ -36,7 +33,7 @@ chain c = c .word-refusal .ensures ∙ word-alike _ _ _ _ _ _ _ (λ _. omega (ar
 returns : tie.Need-returns
 returns c = word-refused _ _ _ _ _ _ _ _ _ (chain (c .before)) (c .if1 .taken)
 
-free : (c : tie.Else1) → let a = c .before .before .before .before .before .before .args in Unrefused (a .p) (a .page .now) (a .i) (a .p .m) (length (a .list .now)) (1 * (2 * strength (a .p) 0))
+free : (c : tie.Else1) → let a = c .before .before .before .before .before .before .args in Unrefused (a .p) (a .page .now) (a .i) (a .p .m) (length (a .list .now)) (1 * strength (a .p) 0)
 free c = let w = c .before in word-zero _ _ _ _ _ _ (λ k. w .before .before .before .before .shared-slice-known .given k .fits) (sym (chain w) ∙ c .if1 .left)
 
 sub-word-requires : tie.Need-sub-word-requires
@@ -51,18 +48,19 @@ slice-aggregate-level-remainder c = search needs
 level-remainder-requires : tie.Need-level-remainder-requires
 level-remainder-requires c κs = let s = c .before in let u = free (s .before) in (u .accepted, zero-le, search needs, rw (word s .is) (word s .below))
 
-slice-aggregate-syndromes-from : tie.Need-slice-aggregate-syndromes-from
-slice-aggregate-syndromes-from c = search needs
+slice-aggregate-odd-from : tie.Need-slice-aggregate-odd-from
+slice-aggregate-odd-from c = search needs
 
-syndromes-from-requires : tie.Need-syndromes-from-requires
-syndromes-from-requires c κs =
+odd-from-requires : tie.Need-odd-from-requires
+odd-from-requires c κs =
     let k = c .before .before .before in
     let u = free (k .before .before .before) in
     let w = k .level-remainder .ensures .0 in (
       u .accepted,
       omega (arith, w, degree-high _ (accepted _ (u .accepted)) 0 zero-le),
+      degree-few _ (u .accepted) 0 zero-le _ w .0,
+      degree-few _ (u .accepted) 0 zero-le _ w .1,
       level-lt _ (u .accepted) 0 zero-le _ _ _ w (k .level-remainder .ensures .1),
-      many-few _ (u .accepted) 0 zero-le _ (u .list ∙ Nat.one-mul _),
     )
 
 same-length : tie.Need-same-length
@@ -76,7 +74,7 @@ returns-2 c =
     let i = s .before in
     let u = free i in
     word-done _ _ _ _ _ _ _ _ _ _ (chain (i .before)) (i .if1 .left)
-    (syndromes-made _ _ _ _ (word s) _ (level-made _ (u .accepted) 0 zero-le _ _ _ _ (k .level-remainder .ensures .1) (u .list ∙ Nat.one-mul _) (r .syndromes-from .ensures)))
+    (syndromes-made _ _ _ _ (word s) _ (level-made _ (u .accepted) 0 zero-le _ _ _ _ (k .level-remainder .ensures .1) (u .list ∙ Nat.one-mul _) (r .odd-from .ensures)))
 
 pub syndromes-spec : {M : Type 1} → statement M
 syndromes-spec =
@@ -85,13 +83,12 @@ syndromes-spec =
     strength-at-requires
     cast-t
     cast-word-refusal
-    mul-word-refusal
     word-refusal-requires
     returns
     sub-word-requires
     slice-aggregate-level-remainder
     level-remainder-requires
-    slice-aggregate-syndromes-from
-    syndromes-from-requires
+    slice-aggregate-odd-from
+    odd-from-requires
     same-length
     returns-2)

@@ -9,14 +9,15 @@
 //! The time of a write of 16 pages is that of each: a sixteenth of the call's. A bit is altered to and fro, so that each call
 //! changes the page. A sub-word is damaged anew before each call that mends it, by a copy of the page, which is timed with it.
 //! Last, write on shortened sub-words in times of write on full ones, 16 pages in one call in times of single calls, an
-//! altered bit in times of a write, and a mended sub-word in times of a CRC-32; ends with status 1 where one is above its
-//! limit.
+//! altered bit in times of a write, and a mended sub-word and odd syndromes in times of a CRC-32; ends with status 1 where one
+//! is above its limit.
 
 use compare::call::{Call, Name, Side};
 use compare::draw::many;
 use compare::work::{
-    ALTER_LIMITS, CRC_BYTES, LIMIT, MANY_LIMIT, MEND_LIMITS, PAGES, STRONGEST, WIDTHS, alter_stated, alterations,
-    altering, crc, crc_table, many_stated, mend_stated, mendings, stated, title, within,
+    ALTER_LIMITS, CRC_BYTES, LIMIT, MANY_LIMIT, MEND_LIMITS, ODD_LIMITS, PAGES, STRONGEST, WIDTHS, alter_stated,
+    alterations, altering, crc, crc_table, listings, many_stated, mend_stated, mendings, odd_stated, stated, title,
+    within,
 };
 use reference::Parameters;
 use reference::calls::QUOTE_BYTES;
@@ -162,8 +163,7 @@ fn sheet_rows(random: &mut Random, p: Parameters) -> Vec<Row> {
     rows.extend(mend_rows(p));
     rows.push(plain("read out", read(Name::ReadOut, blocks.len())));
     rows.push(plain("judge", read(Name::Judge, 0)));
-    rows.push(plain("syndromes", read(Name::Syndromes, 4 * p.t[0] as usize)));
-    rows.push(plain("nested syndromes", read(Name::NestedSyndromes, 4 * p.t[p.v as usize] as usize)));
+    rows.extend(listings(&p, &page).map(|(name, call)| plain(name, call)));
     rows.push(plain("quote", without_page(Name::Quote, QUOTE_BYTES)));
     let sizes = [("page bytes", Name::PageBytes), ("data bytes", Name::DataBytes), ("distance", Name::Distance)];
     rows.extend(sizes.map(|(name, call)| plain(name, without_page(call, 0))));
@@ -255,8 +255,9 @@ fn main() {
 
     let ((line, ratios), (many_line, many)) = (stated(), many_stated());
     let ((alter_line, alter), (mend_line, mend)) = (alter_stated(), mend_stated());
-    println!("\n{line}.\n\n{many_line}.\n\n{alter_line}.\n\n{mend_line}.");
-    let kept = within(ratios, [LIMIT]) && within(many, [MANY_LIMIT]);
+    let (odd_line, odd) = odd_stated();
+    println!("\n{line}.\n\n{many_line}.\n\n{alter_line}.\n\n{mend_line}.\n\n{odd_line}.");
+    let kept = within(ratios, [LIMIT]) && within(many, [MANY_LIMIT]) && within(odd, ODD_LIMITS);
     if !(kept && within(alter, ALTER_LIMITS) && within(mend, MEND_LIMITS)) {
         std::process::exit(1);
     }
