@@ -18,12 +18,13 @@ use Rattle.locator.specs.Follow.{too-many}
 use Rattle.locator.specs.Kept as M
 use Rattle.locator.specs.Locate.{agree, candidate, candidate-eq, isRoot, kept, locate, locate-eq, locatorOf-eq, rootPlaces-eq}
 use Rattle.locator.specs.Massey.{massey}
-use Rattle.field.specs.Flips.{Rising, passing, passing-rising, passing-suc, passing-zero}
+use Rattle.field.specs.Flips.{passing, passing-rising, passing-suc, passing-zero}
 use Rattle.massey.specs.Entries.{F, K, at, mul2, plus2}
 use Rattle.massey.specs.Steps.{After, Done, Zeroed}
 use Rattle.search.specs.Values.{node, node-is, part, value-part}
 use Rattle.search.specs.Zeros.{Rooted, root?}
-use Rattle.locating.specs.Look.{Places, listed}
+use Rattle.syndrome.specs.Places.{Places, rising-at}
+use Rattle.locating.specs.Look.{listed}
 
 -- ---- the same tests give the same places
 passing-same : (P Q : ℕ → Bool) (k z : ℕ) → ((i : ℕ) → P i ≡ Q i) → passing P k z ≡ passing Q k z
@@ -36,11 +37,6 @@ part-same q s u y (suc i) e =
     total-suc (F q) i (λ h. mul2 q (s h) (pow (F q) y h))
     ∙ ap₂ (plus2 q) (part-same q s u y i (λ h l. e h (Nat.le-step l))) (ap (λ (x : K q). mul2 q x (pow (F q) y i)) (e i (Nat.le-refl (suc i))))
     ∙ sym (total-suc (F q) i (λ h. mul2 q (u h) (pow (F q) y h)))
-
-pub rising-at : (k n : ℕ) (R : List ℕ) → Rising k n R → (i : ℕ) → i < length R → getD R i 0 < n
-rising-at k n [] r i h = absurd (Nat.not-suc-le-zero h)
-rising-at k n (j ∷ R) r zero h = r .1
-rising-at k n (j ∷ R) r (suc i) h = rising-at (suc j) n R (r .2) i (Nat.le-of-suc-le-suc h)
 
 -- c places, which stand first in l where o has room for them, are the candidates
 pub record Candidates (q : ℕ) (s : List ℕ) (t z c : ℕ) (o l : List ℕ) : Type 0 where

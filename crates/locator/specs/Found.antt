@@ -138,7 +138,7 @@ module _ (q : ℕ) (S : ℕ → ℕ) (R : List ℕ) where
   and true false s t = t
   and false b s t = absurd s
 
-  is-agree : (k : ℕ) → ((j : ℕ) → 0 < j → j ≤ k → syndrome q (flips R) j ≡ S j) → T (agree q S R k)
+  pub is-agree : (k : ℕ) → ((j : ℕ) → 0 < j → j ≤ k → syndrome q (flips R) j ≡ S j) → T (agree q S R k)
   is-agree zero h = rw (agree-zero q S R) tt
   is-agree (suc k) h =
       rw (agree-suc q S R k) (and (eqb (syndrome q (flips R) (suc k)) (S (suc k))) (agree q S R k)

@@ -32,8 +32,7 @@ use Rattle.code.specs.Refusals.{mendRefusal, nowhere, wordRefusal}
 use Rattle.layout.specs.Parts.{page-parts, word-room}
 use Rattle.layout.specs.Written.{written, written-here, written-length, written-there}
 use Rattle.refusal.specs.Indexed.{Unrefused}
-use Rattle.locating.specs.Look.{Places}
-use Rattle.locating.specs.Whole.{rising-at}
+use Rattle.syndrome.specs.Places.{Places, rising-at}
 
 -- ---- the page
 module _ (p : Parameters) (A : Accepted p) (x : List ℕ) (h : IsPage p x) (i : ℕ) (li : i < p .m) (Q : List ℕ) (r : Rising 0 (stored p) Q) where

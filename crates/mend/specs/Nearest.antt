@@ -4,7 +4,7 @@ use mathlib.Core.Path.{_≡_, refl, sym, ap, _∙_}
 use mathlib.Core.Logic.{_↔_}
 use mathlib.Core.List.{List, map}
 use mathlib.Core.Option.{Option, none, some}
-use Prim.Native.Nat.{ℕ, zero, suc, _-_, _*_, _^_, _≤_, _<_, zero-le}
+use Prim.Native.Nat.{ℕ, zero, suc, _-_, _*_, _^_, _≤_, _<_, zero-le, _+_}
 use native.Mathlib.Nat as Nat
 use native.Mathlib.Decide.{decLe}
 use native.Mathlib.Numerals.{add-one}
@@ -18,6 +18,7 @@ use Rattle.polynomial.specs.Xor.{xor, xor-eq-zero, xor-self}
 use Rattle.field.specs.Elements.{syndrome, syndrome-lt, syndrome-xor}
 use Rattle.field.specs.Fields.{Known}
 use Rattle.field.specs.Flips.{flips}
+use Rattle.field.specs.Odd.{word-odd}
 use Rattle.locator.specs.Found.{complete, locate-agree, sound}
 use Rattle.locator.specs.Locate.{Located, kept, locate}
 use Rattle.code.specs.declared.Parameters.{Parameters}
@@ -34,7 +35,8 @@ use Rattle.code.specs.Theorems.{demand2}
 use Rattle.element.specs.declared.Field.{Field}
 use Rattle.element.specs.Fields.{fieldAt}
 use Rattle.massey.specs.Entries.{Below}
-use Rattle.locating.specs.Look.{listed}
+use Rattle.locating.specs.Look.{fromList}
+use Rattle.syndrome.specs.Sum.{map-at, map-length}
 use Rattle.oneword.specs.Level.{level-syndrome}
 
 abbrev pub Knows : Parameters → ℕ → ℕ → (ℕ → ℕ) → Type 0
@@ -79,27 +81,19 @@ module _ (p : Parameters) (A : Accepted p) (a : ℕ) (av : a ≤ p .v) (y : ℕ)
       (λ Q e. complete (p .q) (R .known) S (strength p a) (stored p) (stored-le p R) Q (flips-located Q (nearest-iff p R a av y low Q .0 e)))
       (λ Q e. nearest-iff p R a av y low Q .1 (located-flips Q (sound (p .q) (R .known) S (strength p a) (stored p) Q e)))
 
--- ---- syndromes in a list
-module _ (q : ℕ) (known : Known q) (c k : ℕ) (s : List ℕ) (e : s ≡ map (λ j. syndrome q c j) (range 1 k)) where
-  pub listed-long : length s ≡ k
-  listed-long = ap length e ∙ length-map (range 1 k) (λ (j : ℕ). syndrome q c j) ∙ length-range 1 k
-
-  at-place : (j : ℕ) → j < k → getD s j 0 ≡ syndrome q c (suc j)
-  at-place j h = ap (λ (l : List ℕ). getD l j 0) e ∙ getD-map-range (λ j. syndrome q c j) 1 k j h ∙ ap (syndrome q c) (Nat.add-comm 1 j ∙ add-one j)
-
-  pub listed-below : Below q s
-  listed-below = record { lt = λ i. go i (decLe (suc i) k) }
+-- ---- odd syndromes in a list
+module _ (q : ℕ) (known : Known q) (c t : ℕ) (o : List ℕ) (e : o ≡ map (λ i. syndrome q c (2 * i + 1)) (range 0 t)) where
+  pub odd-below : Below q o
+  odd-below = record { lt = λ i. go i (decLe (suc i) t) }
     where
-      go : (i : ℕ) → Dec (suc i ≤ k) → getD s i 0 < 2 ^ q
-      go i (yes h) = rw (at-place i h) (syndrome-lt q known c (suc i))
-      go i (no h) = rw (List·getD-eq-default s 0 {n = i} (omega (arith, listed-long))) (pow-pos q)
+      go : (i : ℕ) → Dec (suc i ≤ t) → getD o i 0 < 2 ^ q
+      go i (yes h) = rw (map-at (λ i. syndrome q c (2 * i + 1)) t o e i h) (syndrome-lt q known c (2 * i + 1))
+      go i (no h) = rw (List·getD-eq-default o 0 {n = i} (omega (arith, map-length (λ i. syndrome q c (2 * i + 1)) t o e))) (pow-pos q)
 
-  listed-is : (j : ℕ) → 0 < j → j ≤ k → listed s j ≡ syndrome q c j
-  listed-is zero p h = absurd (Nat.not-suc-le-zero p)
-  listed-is (suc j) p h = at-place j h
-
-  pub locate-listed : (t z : ℕ) → k ≡ 2 * t → z ≤ 2 ^ q - 1 → locate q (listed s) t z ≡ locate q (syndrome q c) t z
-  locate-listed t z w h = locate-agree q known (listed s) (syndrome q c) t z h (λ j p l. listed-is j p (omega arith))
+  pub locate-odd : (z : ℕ) → z ≤ 2 ^ q - 1 → locate q (fromList q o) t z ≡ locate q (syndrome q c) t z
+  locate-odd z h =
+      locate-agree q known (fromList q o) (syndrome q c) t z h
+      (word-odd q known c t (λ i. getD o i 0) (λ i l. map-at (λ i. syndrome q c (2 * i + 1)) t o e i l))
 
 -- ---- a sheet's field, strength and places, as they are lent
 module _ (p : Parameters) (A : Accepted p) (f : Field) (e : f ≡ fieldAt (p .q)) (z : ℕ) (w : z ≡ stored p) where

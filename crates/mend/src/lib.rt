@@ -1,5 +1,5 @@
 // One sub-word of a page mended: the multiple of g_0 that is 0 in its top s places and within t_0 flips of it is put in its stead. The places to
-// flip are found by the syndromes of the sub-word, those of its remainder by g_0; where that is 0 there are none.
+// flip are found by the odd syndromes of the sub-word, those of its remainder by g_0; where that is 0 there are none.
 ghost use mathlib.Core.Path.{_≡_};
 ghost use Prim.Native.Nat.{_-_, _*_, _^_, _≤_, _<_};
 ghost use lib.Dec.{leb};
@@ -13,11 +13,11 @@ ghost use Rattle.locator.specs.Locate.{kept};
 ghost use Rattle.code.specs.Calls.{Mended};
 ghost use Rattle.code.specs.Code.{nearest};
 ghost use Rattle.code.specs.Layout.{pageBytes, placeList, wordsOf};
-ghost use Rattle.code.specs.Parameters.{Accepted, stored, strength};
+ghost use Rattle.code.specs.Parameters.{Accepted, len, stored, strength};
 ghost use Rattle.element.specs.Lent.{Tables};
 ghost use Rattle.layout.specs.Written.{written};
+ghost use Rattle.syndrome.specs.Places.{Places};
 ghost use Rattle.refusal.specs.Indexed.{Unrefused};
-ghost use Rattle.locating.specs.Look.{Places};
 ghost use Rattle.mend.specs.Left.{placeAt};
 use code::Outcome;
 use code::Parameters;
@@ -44,20 +44,19 @@ fn locate_by(
     z: usize,
     list: &mut [u16],
 ) -> usize
-    requires { ⌜ Tables f (now powers) (now logs) × (w ≤ 64 * length (now r)) × (value 64 (now r) < 2 ^ w) × (t ≤ 64) × (2 * t < 2 ^ f .q - 1)
-        × (z ≤ 2 ^ f .q - 1) × (t ≤ length (now list)) ⌝ }
+    requires { ⌜ Tables f (now powers) (now logs) × (w ≤ 64 * length (now r)) × (w ≤ 768) × (w ≤ 2 ^ f .q - 1) × (value 64 (now r) < 2 ^ w) × (t ≤ 64)
+        × (2 * t < 2 ^ f .q - 1) × (z ≤ 2 ^ f .q - 1) × (t ≤ length (now list)) ⌝ }
     ensures { λ c. ⌜ L.locate (f .q) (syndrome (f .q) (value 64 (now (r .entry)))) t z ≡ kept (leb c t) (take c (now (list .exit))) ⌝ }
 {
-    let mut room = [0u16; 128];
-    let k = 2 * t;
-    let s = &mut room[..k];
-    syndrome::syndromes_into(s, powers, logs, f, r, w);
-    locating::locate(powers, logs, f, s, t, z, list)
+    let mut room = [0u16; 64];
+    let odd = &mut room[..t];
+    syndrome::odd_into(odd, powers, f, r, w);
+    locating::locate(powers, logs, f, odd, t, z, list)
 }
 
 // The same for a sheet's stored places, by the tables of its field.
 fn locate_in(p: Parameters, r: &[u64], w: usize, t: usize, list: &mut [u16]) -> usize
-    requires { ⌜ Accepted p × (w ≤ 64 * length (now r)) × (value 64 (now r) < 2 ^ w) × (t ≡ strength p 0) × (t ≤ length (now list)) ⌝ }
+    requires { ⌜ Accepted p × (w ≤ 64 * length (now r)) × (w ≤ 768) × (w ≤ len p) × (value 64 (now r) < 2 ^ w) × (t ≡ strength p 0) × (t ≤ length (now list)) ⌝ }
     ensures { λ c. ⌜ L.locate (p .q) (syndrome (p .q) (value 64 (now (r .entry)))) t (stored p) ≡ kept (leb c t) (take c (now (list .exit))) ⌝ }
 {
     let f = Field::of(p.q);

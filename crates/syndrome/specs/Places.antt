@@ -10,7 +10,7 @@ use native.Mathlib.Numerals.{add-one}
 use native.Mathlib.Omega.{arith}
 use lib.Dec.{eqb}
 use lib.ListN.{length, getD, set, take, length-set, replicate, length-replicate, length-take}
-use lib.Seq.{getD-set-same, length-take-le, take-set-le, take-suc}
+use lib.Seq.{getD-set-same, length-take-le, take-set-le, take-suc, getD-take}
 use Rattle.polynomial.specs.Bits.{coefficient}
 use Rattle.polynomial.specs.Digits.{value, value-coefficient}
 use Rattle.polynomial.specs.Sums.{at-all}
@@ -22,6 +22,11 @@ pub record Places (n c : ℕ) (l : List ℕ) : Type 0 where
 
 pub places-same : {n : ℕ} {l m : List ℕ} → l ≡ m → Places n (length l) l → Places n (length m) m
 places-same {n} e P = rw e at P
+
+pub places-take : {n c : ℕ} {l : List ℕ} → Places n c l → c ≤ length l → Places n (length (take c l)) (take c l)
+places-take {n} {c} {l} P h = record {
+  below = λ i b. let k : i < c = rw (length-take-le c l h) at b in rw (getD-take c l i 0 k) (P .below i k);
+}
 
 -- a part of a room
 pub room-length : (k n : ℕ) → k ≤ n → length {A = ℕ} (take k (replicate n 0)) ≡ k

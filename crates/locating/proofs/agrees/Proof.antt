@@ -1,74 +1,80 @@
 use borrow.Author.Needs.{needs}
-use mathlib.Core.Path.{_≡_, refl}
-use mathlib.Core.Bool.{true}
+use mathlib.Core.Path.{_≡_, sym, ap, _∙_}
 use mathlib.Core.List.{List}
-use Prim.Native.Nat.{ℕ, _-_, _≤_}
-use native.Mathlib.Numerals.{add-one}
+use Prim.Native.Nat.{ℕ, _+_, _-_, _*_, _≤_, _<_}
+use native.Mathlib.Nat as Nat
 use native.Mathlib.Omega.{arith}
-use lib.ListN.{length, replicate, take, getD-replicate}
-use Rattle.field.specs.Fields.{Known}
-use Rattle.locator.specs.Locate.{agree}
-use Rattle.locating.specs.Look.{Runs, agree-first, agree-last, agree-not, agree-step, listed, runs-first, runs-places}
+use lib.ListN.{length, getD, take}
+use lib.Seq.{length-take-le}
+use Rattle.field.specs.Elements.{syndrome}
+use Rattle.field.specs.Flips.{flips}
+use Rattle.syndrome.specs.Places.{places-take, room-length}
+use Rattle.syndrome.specs.Sum.{map-at, map-length}
+use Rattle.locating.specs.Look.{agree-not-odd, agree-odd, one-more}
 use Rattle.locating.proofs.agrees.Statement.{statement}
 use Rattle.locating.proofs.agrees.Tie as tie
+use Rattle.syndrome.proofs.odd_sums.Reads as odd-sums-reads
 
 abbrev Inv-loop : tie.InvT-loop
-Inv-loop powers logs f s list c m exponents₀ k₀ exponents k = (agree (f .q) (listed s) (take c list) k ≡ true) × (k ≤ m) × Runs (f .q) k c list exponents × (length exponents ≡ 64)
+Inv-loop powers odd list c t sums k₀ k = (length sums ≡ t) × (k ≤ t) × ((i : ℕ) → i < k → getD sums i 0 ≡ getD odd i 0)
 
 abbrev μ-loop : tie.MeasureT-loop
-μ-loop powers logs f s list c m exponents₀ k₀ exponents k = m - k
+μ-loop powers odd list c t sums k₀ k = t - k
 
--- what is lent
-module _ (b : tie.After-shared-slice-known4 Inv-loop μ-loop) where
+array-borrow-prefix-room : tie.Need-array-borrow-prefix-room Inv-loop μ-loop
+array-borrow-prefix-room c = search needs
+
+slice-aggregate-sums : tie.Need-slice-aggregate-sums Inv-loop μ-loop
+slice-aggregate-sums c = let s = c .before .before .before .before in sym (room-length (s .args .t) 64 (s .pre .5))
+
+slice-aggregate-odd-sums : tie.Need-slice-aggregate-odd-sums Inv-loop μ-loop
+slice-aggregate-odd-sums c = let s = c .before .before .before .before .before .before in sym (length-take-le (s .args .c) (s .args .list .now) (s .pre .1))
+
+odd-sums-requires : tie.Need-odd-sums-requires Inv-loop μ-loop
+odd-sums-requires c κs =
+    let s = c .before .before .before .before .before .before in
+    (s .pre .0, omega (arith, length-take-le (s .args .c) (s .args .list .now) (s .pre .1), s .pre .2), places-take (s .pre .3) (s .pre .1))
+
+-- the sums
+module _ (o : tie.After-odd-sums Inv-loop μ-loop) where
   abbrev s : tie.Start Inv-loop μ-loop
-  s = b .before .before .before .before
+  s = o .before .before .before .before .before .before .before
 
   abbrev q : ℕ
   q = s .args .f .q
-
-  abbrev S : List ℕ
-  S = s .args .s .now
 
   -- the places
   abbrev R : List ℕ
   R = take (s .args .c) (s .args .list .now)
 
-  known : Known q
-  known = s .pre .0 .field .known
+  size : length (o .odd-sums .last .0) ≡ s .args .t
+  size = map-length _ _ (o .odd-sums .last .0) (o .odd-sums .ensures) ∙ room-length (s .args .t) 64 (s .pre .5)
+
+  summed : (i : ℕ) → i < s .args .t → getD (o .odd-sums .last .0) i 0 ≡ syndrome q (flips R) (2 * i + 1)
+  summed i h = map-at _ _ (o .odd-sums .last .0) (o .odd-sums .ensures) i (rw (room-length (s .args .t) 64 (s .pre .5)) h)
 
 loop-holds : tie.Need-loop-holds Inv-loop μ-loop
-loop-holds c = (
-  agree-first (q c) (S c) (R c),
-  omega arith,
-  runs-first (q c) (known c) (s c .args .c) (s c .args .list .now) (replicate 64 0) (λ i h. getD-replicate 64 i 0 0 (omega (arith, s c .pre .2))),
-  refl,
-)
-
-slice-aggregate-next-sum : tie.Need-slice-aggregate-next-sum Inv-loop μ-loop
-slice-aggregate-next-sum c = search needs
-
-next-sum-requires : tie.Need-next-sum-requires Inv-loop μ-loop
-next-sum-requires c κs =
-    let l = c .before .before in
-    let b = l .before in
-    let s = s b in
-    (s .pre .0, s .pre .1, omega (arith, s .pre .2, l .loop .inv .3), s .pre .3, runs-places (q b) (known b) (l .loop .inv .2))
+loop-holds c = (size (c .before .before), omega arith, (λ i h. absurd (Nat.not-suc-le-zero h)))
 
 mul-if1 : tie.Need-mul-if1 Inv-loop μ-loop
 mul-if1 c = search needs
 
+slice-read-if1 : tie.Need-slice-read-if1 Inv-loop μ-loop
+slice-read-if1 c = search needs
+
+mul-if1-2 : tie.Need-mul-if1-2 Inv-loop μ-loop
+mul-if1-2 c = search needs
+
 shared-slice-read-if1 : tie.Need-shared-slice-read-if1 Inv-loop μ-loop
 shared-slice-read-if1 c = search needs
 
-cast-if1 : tie.Need-cast-if1 Inv-loop μ-loop
-cast-if1 c = omega (arith, c .shared-slice-known5 .given (c .before .before .before .before .before .loop .k))
-
 returns : tie.Need-returns Inv-loop μ-loop
 returns c =
-    let n = c .before .before .before in
-    let l = n .before .before .before in
-    let b = l .before in
-    agree-not (q b) (S b) (R b) (l .loop .k) (s b .args .m) (n .next-sum .result) (n .before .before .loop-test .taken) (n .next-sum .ensures .sum (l .loop .k) (l .loop .inv .2)) (c .if1 .taken)
+    let l = c .before .before .before .before .before in
+    let o = l .before .before .before in
+    let k = l .loop .k in
+    let b = c .before .before .before .before .loop-test .taken in
+    agree-not-odd (q o) (s o .args .odd .now) (R o) k (s o .args .t) (getD (o .odd-sums .last .0) k 0) b (summed o k b) (c .before .if1 .taken)
 
 add-k : tie.Need-add-k Inv-loop μ-loop
 add-k c = search needs
@@ -78,17 +84,16 @@ loop-less c = search needs
 
 loop-again : tie.Need-loop-again Inv-loop μ-loop
 loop-again c =
-    let n = c .before .before .before in
-    let l = n .before .before .before in
-    let b = l .before in (
-      agree-step (q b) (S b) (R b) (l .loop .k) (n .next-sum .result) (l .loop .inv .0) (n .next-sum .ensures .sum (l .loop .k) (l .loop .inv .2)) (c .if1 .left),
-      omega arith,
-      rw (add-one (l .loop .k)) (n .next-sum .ensures .runs (l .loop .k) (l .loop .inv .2)),
-      search needs,
-    )
+    let l = c .before .before .before .before in
+    let o = l .before .before .before in
+    (l .loop .inv .0, omega arith, one-more (o .odd-sums .last .0) (s o .args .odd .now) (l .loop .k) (l .loop .inv .2) (c .if1 .left))
 
 returns-2 : tie.Need-returns-2 Inv-loop μ-loop
-returns-2 c = let l = c .before in let b = l .before in agree-last (q b) (S b) (R b) (l .loop .k) (s b .args .m) (omega arith) (l .loop .inv .0)
+returns-2 c =
+    let l = c .before .before in
+    let o = l .before .before .before in
+    agree-odd (q o) (s o .pre .0 .field .known) (s o .args .odd .now) (R o) (s o .args .t)
+    (λ i h. sym (l .loop .inv .2 i (omega (arith, h, c .before .loop-test .left))) ∙ summed o i h)
 
 pub agrees-spec : {M : Type 1} → statement M
 agrees-spec =
@@ -96,12 +101,15 @@ agrees-spec =
     (tie.spec
     Inv-loop
     μ-loop
+    array-borrow-prefix-room
+    slice-aggregate-sums
+    slice-aggregate-odd-sums
+    odd-sums-requires
     loop-holds
-    slice-aggregate-next-sum
-    next-sum-requires
     mul-if1
+    slice-read-if1
+    mul-if1-2
     shared-slice-read-if1
-    cast-if1
     returns
     add-k
     loop-less

@@ -2,18 +2,20 @@ use borrow.Author.Needs.{needs}
 use mathlib.Core.Path.{_≡_, sym, _∙_}
 use mathlib.Core.List.{List}
 use Prim.Native.Nat.{ℕ, _*_}
+use native.Mathlib.Nat as Nat
 use native.Mathlib.Omega.{arith}
 use lib.ListN.{take}
 use Rattle.locator.specs.Locate.{agree}
-use Rattle.locating.specs.Look.{listed}
+use Rattle.locating.specs.Look.{listed, agree-same, fromList, listed-is}
 use Rattle.locating.specs.Whole.{Candidates, candidates, places, whole-far, whole-found, whole-many, whole-none}
 use Rattle.locating.proofs.locate_in.Statement.{statement}
 use Rattle.locating.proofs.locate_in.Tie as tie
+use Rattle.syndrome.specs.Sum.{table-roots}
 
 -- what is lent
 module _ (m : tie.After-massey) where
   abbrev s : tie.Start
-  s = m .before .before .before .before .before .before .before .before .before
+  s = m .before .before .before .before .before .before .before .before .before .before
 
   abbrev q : ℕ
   q = s .args .f .q
@@ -73,24 +75,27 @@ returns-2 c =
     let s = s (m r) in
     whole-many (s .args .f .q) (s .args .s .now) (s .args .t) (s .args .z) (given r) (c .if2 .taken)
 
-mul-agrees : tie.Need-mul-agrees
-mul-agrees c = search needs
-
 agrees-requires : tie.Need-agrees-requires
 agrees-requires c κs =
     let r = c .before .before .before .before in
     let s = s (m r) in (
-      s .pre .0,
+      table-roots (s .pre .0),
       omega (arith, s .pre .6),
       omega (arith, s .pre .2),
       places (s .args .f .q) (s .args .s .now) (s .args .t) (s .args .z) (given r) (c .before .if2 .left) (s .pre .6) (s .pre .5),
-      omega (arith, s .pre .3),
+      Nat.le-of-eq (sym (s .pre .11)),
+      s .pre .2,
     )
 
--- the last look, at all 2 t syndromes
+-- the last look, by which all 2 t syndromes agree
 looked : (a : tie.After-agrees) → (let r = a .before .before .before .before .before in
     a .agrees .result ≡ agree (q (m r)) (listed (S (m r))) (take (r .roots .result) (r .roots .last .1 .1 .1 .1 .1 .1 .0)) (2 * s (m r) .args .t))
-looked a = a .agrees .ensures
+looked a =
+    let r = a .before .before .before .before .before in
+    let u = s (m r) in
+    let o = u .args .odd .now in
+    let e = listed-is (q (m r)) (u .pre .0 .field .known) o (S (m r)) (u .args .t) (u .pre .12) in
+    a .agrees .ensures ∙ sym (agree-same (q (m r)) (listed (S (m r))) _ (fromList (q (m r)) o) (2 * u .args .t) e)
 
 same-length-6 : tie.Need-same-length-6
 same-length-6 c = search needs
@@ -140,7 +145,6 @@ locate-in-spec =
     same-length-4
     same-length-5
     returns-2
-    mul-agrees
     agrees-requires
     same-length-6
     same-length-7

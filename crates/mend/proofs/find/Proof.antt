@@ -7,7 +7,7 @@ use lib.Pow.{pow-mono}
 use borrow.Author.Tests.{eqb-true}
 use Rattle.polynomial.specs.Digits.{value}
 use Rattle.code.specs.Accepted.{accepted, degree-high, stored-le}
-use Rattle.oneword.specs.Level.{level-lt}
+use Rattle.oneword.specs.Level.{level-lt, degree-few}
 use Rattle.mend.specs.Nearest.{nearest-remainder, nearest-zero}
 use Rattle.mend.proofs.find.Statement.{statement}
 use Rattle.mend.proofs.find.Tie as tie
@@ -42,7 +42,8 @@ locate-in-requires c κs =
     let k = c .before .before .before .before .before .before in
     let s = start k in
     let w = k .level-remainder .ensures .0 in
-    (s .pre .0, omega (arith, w, degree-high (s .args .p) (accepted (s .args .p) (s .pre .0)) 0 zero-le), level-lt (s .args .p) (s .pre .0) 0 zero-le (value 8 (s .args .s .now)) _ _ w (k .level-remainder .ensures .1), s .pre .2, s .pre .3)
+    let d = degree-few (s .args .p) (s .pre .0) 0 zero-le _ w in
+    (s .pre .0, omega (arith, w, degree-high (s .args .p) (accepted (s .args .p) (s .pre .0)) 0 zero-le), d .0, d .1, level-lt (s .args .p) (s .pre .0) 0 zero-le (value 8 (s .args .s .now)) _ _ w (k .level-remainder .ensures .1), s .pre .2, s .pre .3)
 
 same-length : tie.Need-same-length
 same-length c = search needs

@@ -37,8 +37,8 @@ locate-by-requires c κs =
     let i = l .before .before in
     let k = i .before .before in
     let s = start k in
-    let b = sheet-bounds (s .args .p) (s .pre .0) (k .before .of .result) (k .before .of .ensures) (k .stored-of .result) (k .stored-of .ensures) (s .args .t) (s .pre .3) in
-    (tables-of _ 4 _ _ (sized k) (i .if1 .taken) (l .before .powers4 .ensures) (l .logs4 .ensures), s .pre .1, s .pre .2, b .0, b .1, b .2, s .pre .4)
+    let b = sheet-bounds (s .args .p) (s .pre .0) (k .before .of .result) (k .before .of .ensures) (k .stored-of .result) (k .stored-of .ensures) (s .args .t) (s .pre .5) in
+    (tables-of _ 4 _ _ (sized k) (i .if1 .taken) (l .before .powers4 .ensures) (l .logs4 .ensures), s .pre .1, s .pre .2, rw (k .before .of .ensures) (s .pre .3), s .pre .4, b .0, b .1, b .2, s .pre .6)
 
 same-length : tie.Need-same-length
 same-length c = search needs
@@ -68,8 +68,8 @@ locate-by-requires-2 c κs =
     let i = l .before .before in
     let k = i .before .before .before .before in
     let s = start k in
-    let b = sheet-bounds (s .args .p) (s .pre .0) (k .before .of .result) (k .before .of .ensures) (k .stored-of .result) (k .stored-of .ensures) (s .args .t) (s .pre .3) in
-    (tables-of _ 8 _ _ (sized k) (i .if2 .taken) (l .before .powers8 .ensures) (l .logs8 .ensures), s .pre .1, s .pre .2, b .0, b .1, b .2, s .pre .4)
+    let b = sheet-bounds (s .args .p) (s .pre .0) (k .before .of .result) (k .before .of .ensures) (k .stored-of .result) (k .stored-of .ensures) (s .args .t) (s .pre .5) in
+    (tables-of _ 8 _ _ (sized k) (i .if2 .taken) (l .before .powers8 .ensures) (l .logs8 .ensures), s .pre .1, s .pre .2, rw (k .before .of .ensures) (s .pre .3), s .pre .4, b .0, b .1, b .2, s .pre .6)
 
 same-length-2 : tie.Need-same-length-2
 same-length-2 c = search needs
@@ -99,8 +99,8 @@ locate-by-requires-3 c κs =
     let i = l .before .before in
     let k = i .before .before .before .before in
     let s = start k in
-    let b = sheet-bounds (s .args .p) (s .pre .0) (k .before .of .result) (k .before .of .ensures) (k .stored-of .result) (k .stored-of .ensures) (s .args .t) (s .pre .3) in
-    (tables-of _ 12 _ _ (sized k) (known-last _ (sized k .known) (i .before .before .if1 .left) (i .if2 .left)) (l .before .powers12 .ensures) (l .logs12 .ensures), s .pre .1, s .pre .2, b .0, b .1, b .2, s .pre .4)
+    let b = sheet-bounds (s .args .p) (s .pre .0) (k .before .of .result) (k .before .of .ensures) (k .stored-of .result) (k .stored-of .ensures) (s .args .t) (s .pre .5) in
+    (tables-of _ 12 _ _ (sized k) (known-last _ (sized k .known) (i .before .before .if1 .left) (i .if2 .left)) (l .before .powers12 .ensures) (l .logs12 .ensures), s .pre .1, s .pre .2, rw (k .before .of .ensures) (s .pre .3), s .pre .4, b .0, b .1, b .2, s .pre .6)
 
 same-length-3 : tie.Need-same-length-3
 same-length-3 c = search needs
