@@ -8,12 +8,12 @@
 The first writes the tables of Own.antt, in rt fmt's layout; the second says nothing where they stand there already, else
 it names the file and ends with 1. A row has what a definition gives, as a term, and what this program works out, as
 numbers; the rows are of definitions that no compiled call gives back, and of the calls on erased pages, on shortened
-sheets, on many pages, on one bit of a page and on a sub-word to mend. What the calls give is compared by programs: tools/trial.py,
+sheets, on many pages, on one bit of a page, on a sub-word to mend and on odd syndromes. What the calls give is compared by programs: tools/trial.py,
 tools/counter.py and tools/writer.py take their answers from here.
 
 It shares no method with the definitions: generators by trying every polynomial, pages by elimination on the code's
 linear conditions, membership by evaluation at the roots, nested words by turning lists of bits, remainders by long
-division, near multiples of g_0 by looking at every multiple. Degrees are counted as the requirement says, and tested against those generators. Nothing is drawn at random but from the fixed sequence of `below`.
+division, near multiples of g_0 by looking at every multiple, even syndromes by logarithms. Degrees are counted as the requirement says, and tested against those generators. Nothing is drawn at random but from the fixed sequence of `below`.
 """
 import sys
 from functools import lru_cache
@@ -91,6 +91,32 @@ def syndrome(q, word, j):
     for k, b in enumerate(word):
         if b:
             out ^= alpha[j * k % len(alpha)]
+    return out
+
+
+def syndromes(q, word, count):
+    """S_1 to S_count."""
+    return [syndrome(q, word, j) for j in range(1, count + 1)]
+
+
+def odd_syndromes(q, word, t):
+    """S_1, S_3, .., t of them."""
+    return syndromes(q, word, 2 * t)[::2]
+
+
+def all_syndromes(q, odd):
+    """S_1, S_2, .. from S_1, S_3, ..: where j is o 2^k with o odd, S_j is S_o to the power 2^k, by its logarithm. A number that is no
+    element is taken as it is, and its powers as those of its remainder by the field polynomial."""
+    alpha, out = powers(q), []
+    for j in range(1, 2 * len(odd) + 1):
+        o, times = j, 1
+        while o % 2 == 0:
+            o, times = o // 2, 2 * times
+        x = odd[o // 2]
+        if times > 1:
+            x = number(divided(bits(x), bits(FIELD[q]))[1])
+            x = x and alpha[alpha.index(x) * times % len(alpha)]
+        out.append(x)
     return out
 
 
@@ -383,16 +409,26 @@ def nested_bytes(sheet, page, l):
 
 
 def syndrome_list(sheet, page, i):
-    return [syndrome(sheet[0], words(sheet, page)[i], j) for j in range(1, 2 * strength(sheet, 0) + 1)]
+    return odd_syndromes(sheet[0], words(sheet, page)[i], strength(sheet, 0))
 
 
 def nested_syndrome_list(sheet, page, l):
-    word = nested(sheet, words(sheet, page), l)
-    return [syndrome(sheet[0], word, j) for j in range(1, 2 * strength(sheet, sheet[2] - l) + 1)]
+    return odd_syndromes(sheet[0], nested(sheet, words(sheet, page), l), strength(sheet, sheet[2] - l))
 
 
 def low_byte_first(numbers):
     return [byte for x in numbers for byte in (x % 256, x // 256)]
+
+
+def all_refusal(sheet, level, odd, out, unit=1):
+    """Of the lengths of both lists; a number takes so many units."""
+    return refusal(sheet, opening=level, room=((odd, out), lambda: (unit * strength(sheet, level), unit * 2 * strength(sheet, level))))
+
+
+def all_from(sheet, level, odd, old):
+    """The call's number, and the list of all syndromes."""
+    code = all_refusal(sheet, level, len(odd), len(old))
+    return [code] + (old if code else all_syndromes(sheet[0], odd))
 
 
 def differences(sheet, x, y):
@@ -721,6 +757,7 @@ SMALL = (4, 3, 2, 6, 7, 7, 0, 0)           # all blocks of one bit, g_0 = g_1 = 
 CLASH = (4, 4, 2, 1, 2, 3, 0, 0)
 EIGHT = (8, 8, 3, 1, 2, 2, 2, 0)
 PAIR = (8, 2, 1, 1, 2, 0, 0, 0)
+BYTE = (8, 4, 2, 3, 5, 9, 0, 0)
 TWELVE = (12, 3, 2, 1, 2, 3, 0, 0)
 LARGE = (12, 8, 3, 28, 32, 39, 58, 0)
 CHOSEN = [A, B, ALIKE, WIDE, DEEP, TIGHT, SMALL, (4, 4, 1, 1, 2, 0, 0, 0), (4, 5, 1, 1, 2, 0, 0, 0), TWO, THREE,
@@ -728,6 +765,7 @@ CHOSEN = [A, B, ALIKE, WIDE, DEEP, TIGHT, SMALL, (4, 4, 1, 1, 2, 0, 0, 0), (4, 5
 A3, A6, B4, DEEP4, TWO4 = shortened(A, 3), shortened(A, 6), shortened(B, 4), shortened(DEEP, 4), shortened(TWO, 4)
 PAIR24, PAIR25 = shortened(PAIR, 231), shortened(PAIR, 230)     # 24 coefficients stored, with no spare bit, and 25, with seven
 SHORTENED = [A3, A6, B4, DEEP4, PAIR24, PAIR25]
+BYTE_SHORT, TWELVE_SHORT = shortened(BYTE, 180), shortened(TWELVE, 4050)
 U32, U64 = 2 ** 32 - 1, 2 ** 64 - 1
 
 
@@ -770,7 +808,7 @@ def self_test():
     assert judged(A, [0x01, 0x00, 0x00, 0x00]) == [32, 0] and judged(A, [0x13, 0x00, 0x00, 0x00]) == [64, 0]
     assert read_out(A, [0xFF, 0xFF, 0xFF, 0xFF], [0x00] * 3) == [96, 0x7F, 0xFF, 0x07]
     assert write(A, 8, [0x7F, 0xFF, 0x07], [0x00] * 4) == [13] + [0x00] * 4
-    assert [syndrome(4, bits(2), j) for j in (1, 2, 3, 4)] == [2, 4, 8, 3]
+    assert syndromes(4, bits(2), 4) == all_syndromes(4, [2, 8]) == [2, 4, 8, 3] and odd_syndromes(4, bits(2), 2) == [2, 8]
     assert refusal(CLASH) == 4 and refusal((4, 4, 2, 1, 2, 2, 0, 0)) == 0
     assert refusal((8, 4, 1, 1, 42, 0, 0, 0)) == 0 and refusal((8, 4, 1, 1, 43, 0, 0, 0)) == 4
     assert distance(LARGE) == 117 and page_bytes(LARGE) == 4096
@@ -866,9 +904,12 @@ def field_sums():
 
 
 def bytes_for_c():
-    table('bytePairs', 'Numbers as C takes them, two bytes each, low byte first.', 'asBytes')
+    table('bytePairs', 'Numbers as C takes them, two bytes each, low byte first, and read back.', 'asBytes asNumbers')
     xs = [0, 255, 256, 4095, 65535]
     row('asBytes %s' % as_list(xs), listed(hexed(low_byte_first(xs))))
+    numbers('asNumbers (asBytes %s)' % as_list(xs), xs)
+    for xs in ([], [0x12], [0x34, 0x12], [0x34, 0x12, 0x56], [0xFF, 0xFF, 0x00, 0x01, 0x01, 0x00]):
+        numbers('asNumbers %s' % data(xs), [a + 256 * b for a, b in zip(xs[::2], xs[1::2])])
 
 
 def writings():
@@ -955,7 +996,7 @@ def erased_pages():
 
     table('erasedWords', 'One word of an erased page, as of any other: 8 with a spare bit set, else worked out.',
           'wordRefusal remainderBytes nestedWordBytes syndromeList nestedSyndromeList pow')
-    for name, part, size in [('remainderRefusal', 'sub_word', 96), ('nestedRefusal', 'nested_word', 2), ('syndromesRefusal 1', 'sub_word', 2)]:
+    for name, part, size in [('remainderRefusal', 'sub_word', 96), ('nestedRefusal', 'nested_word', 2), ('syndromesRefusal 1', 'sub_word', 1)]:
         each('λ x. %s A x 0 %d' % (name, size), patterns, lambda x: refusal(A, page=x, room=(size, lambda: size), **{part: 0}))
     row(call('remainderBytes', A, clear, 1), listed(hexed(remainder_bytes(A, clear, 1))))
     for s in (A, B):
@@ -1027,8 +1068,8 @@ def short_words():
     table('shortWords', 'One word of a page: each spare bit; a nested word, where x^(l i) takes a coefficient past the stored ones and past n.',
           'wordRefusal remainderBytes shortBytes nestedWordBytes syndromeList nestedSyndromeList pow')
     x = some_page(A6)
-    each('λ x. %s' % call('syndromesRefusal', 1, A6, 'x', 0, 2), [x] + [flipped(A6, x, (0, k)) for k in range(9, 16)],
-         lambda x: refusal(A6, page=x, sub_word=0, room=(2, lambda: 2)))
+    each('λ x. %s' % call('syndromesRefusal', 1, A6, 'x', 0, 1), [x] + [flipped(A6, x, (0, k)) for k in range(9, 16)],
+         lambda x: refusal(A6, page=x, sub_word=0, room=(1, lambda: 1)))
     page = some_page(PAIR24)
     in_turn([call('nestedRefusal', PAIR24, page, 0, size) for size in (3, 32)], [refusal(PAIR24, page=page, nested_word=0, room=(size, lambda: nested_size(PAIR24))) for size in (3, 32)])
     x = flipped(DEEP4, [0x00] * 10, (4, 10))
@@ -1311,31 +1352,139 @@ def mend_made():
         numbers('placeList %d %s' % (k, as_list(R)), R + [NO_PLACE] * (k - len(R)))
 
 
+def some_word(count):
+    return [below(2) for _ in range(count)]
+
+
+def hex_number(word):
+    return '0x%X' % number(word)
+
+
+# a word for each: sheet, t, and the word's length
+WORDS = [(A, 2, 15), (B, 3, 15), (THREE, 7, 15), (EIGHT, 2, 40), (BYTE, 5, 9), (TWELVE, 3, 20), (TWELVE, 1, 50), (LARGE, 4, 13)]
+
+
+def odd_lists():
+    table('oddLists', 'Lists of odd syndromes, S_1, S_3, ..: of words, and of sub-words and nested words of pages.',
+          'oddSyndromes syndromeList nestedSyndromeList')
+    for s, t, count in WORDS + [(B, 0, 15), (B, 1, 15), (B, 12, 15), (EIGHT, 1, 255), (EIGHT, 1, 0), (TWELVE, 1, 130)]:
+        word = some_word(count)
+        numbers('oddSyndromes %s %d %s' % (named(s), t, hex_number(word)), odd_syndromes(s[0], word, t))
+    for s in (B, THREE, DEEP4, PAIR24, TWELVE_SHORT):
+        page, i, l = some_page(s), below(s[1]), below(s[2])
+        numbers(call('syndromeList', s, page, i), syndrome_list(s, page, i))
+        numbers(call('nestedSyndromeList', s, page, l), nested_syndrome_list(s, page, l))
+
+    table('listLengths', 'Their lengths: t_0 of a sub-word, t_(v-l) of nested word l, in C twice as many bytes.', 'wordRefusal')
+    for s in (B, THREE, BYTE_SHORT, TWELVE_SHORT):
+        page = some_page(s)
+        for name, part, t in [('syndromesRefusal', 'sub_word', strength(s, 0)), ('nestedSyndromesRefusal', 'nested_word', strength(s, s[2]))]:
+            for unit in (1, 2):
+                sizes = sorted({0, t - 1, t, t + 1, 2 * t - 1, 2 * t, 2 * t + 1, 4 * t, U64})
+                numbers('map (%s) %s' % (call(name, unit, s, page, 0), as_list(sizes)), [refusal(s, page=page, room=(size, lambda: unit * t), **{part: 0}) for size in sizes])
+
+
+def all_by_odd():
+    table('allByOdd', 'All syndromes from the odd ones, even ones by squares: those of the word.', 'allSyndromes oddSyndromes syndromes range sum')
+    for s, t, count in WORDS:
+        word = some_word(count)
+        every, odd = syndromes(s[0], word, 2 * t), odd_syndromes(s[0], word, t)
+        assert all_syndromes(s[0], odd) == every
+        numbers('syndromes %s %d %s' % (named(s), 2 * t, hex_number(word)), every)
+        numbers('allSyndromes %s %s' % (named(s), as_list(odd)), every)
+        numbers('allSyndromes %s (oddSyndromes %s %d %s)' % (named(s), named(s), t, hex_number(word)), every)
+    # every element alone, squared
+    numbers('map (λ x. sum (drop 1 (allSyndromes A (x ∷ [])))) (range 0 16)', [all_syndromes(4, [x])[1] for x in range(16)])
+
+    table('allOthers', 'Lists of no word: none, of any length, and numbers that are no elements, squared as polynomials.', 'allSyndromes')
+    numbers('allSyndromes A []', [])
+    for s in (A, EIGHT, TWELVE):
+        q = s[0]
+        size, f = 2 ** q, FIELD[q]
+        for odd in ([below(size) for _ in range(5)], [size - 1], [size], [size + 1], [f], [f ^ 1], [65535], [below(65536) for _ in range(4)],
+                    [0, size, 0, 65535, f], [U64, 1]):
+            numbers('allSyndromes %s %s' % (named(s), as_list(odd)), all_syndromes(q, odd))
+
+    table('pastRemainders', 'A nested word past 2t_0: the remainder by g_0 has its S_1 and another S_3, the short remainder its S_3 and another S_1.',
+          'oddSyndromes allSyndromes nestedSyndromeList shortRemainder rem gen degree nested wordsOf pow xor')
+    for page in ([0x10, 0x00, 0x00, 0x00], some_page(A), some_page(A)):
+        word = nested(A, words(A, page), 0)
+        right, rest, short = [odd_syndromes(4, w, 2) for w in (word, divided(word, gen(A, 0))[1], divided(word, divisor(A, 0))[1])]
+        assert right[0] == rest[0] != short[0] and right[1] == short[1] != rest[1]
+        numbers(call('nestedSyndromeList', A, page, 0), right)
+        numbers('oddSyndromes A 2 (remainder A 0 (nested A 0 (%s)))' % call('wordsOf', A, page), rest)
+        numbers('oddSyndromes A 2 (shortRemainder A 0 (%s))' % call('wordsOf', A, page), short)
+        numbers('allSyndromes A (%s)' % call('nestedSyndromeList', A, page, 0), syndromes(4, word, 4))
+
+
+def all_refused():
+    whole = lambda unit, *given: in_turn([call('allRefusal', unit, *g) for g in given], [all_refusal(*g, unit) for g in given])
+    table('allRefused', 'All from the odd ones, refused: the numbers in their order; levels, and the lengths of both lists, of numbers and of bytes.', 'allRefusal')
+    sheets = [(5, 2, 1, 1, 2, 0, 0, U32), (4, 1, 1, 1, 2, 0, 0, U32), (4, 2, 1, 2, 2, 0, 0, U32), shortened(CLASH, U32), shortened(A, 7)]
+    for unit in (1, 2):
+        whole(unit, *[(s, 9, 99, 99) for s in sheets])
+        # one condition less with each, then one or two alone
+        t = unit * strength(A, 1)
+        whole(unit, *[(A, *g) for g in ((2, 99, 99), (1, 99, 99), (1, t, 99), (1, 99, 2 * t), (1, t, 2 * t), (2, t, 2 * t), (2, 99, 2 * t), (2, t, 99))])
+        whole(unit, *[(s, a, 0, 0) for s in (A, B) for a in (0, s[2], s[2] + 1, 4, 256, U32)])
+        # lengths one off, of another level, of the other list, of the other unit
+        for s, a in [(A, 0), (A, 1), (B, 1), (THREE, 0), (DEEP4, 3), (EIGHT, 3), (TWELVE, 2)]:
+            t = unit * strength(s, a)
+            odds = sorted({0, t - 1, t, t + 1, 2 * t, unit * strength(s, 0), 2 * unit * strength(s, 0), strength(s, a), 256, U64})
+            outs = sorted({0, t, 2 * t - 1, 2 * t, 2 * t + 1, 4 * t, 2 * unit * strength(s, 0), 2 * strength(s, a), 256, U64})
+            numbers('map (λ k. %s) %s' % (call('allRefusal', unit, s, a, 'k', 2 * t), as_list(odds)), [all_refusal(s, a, k, 2 * t, unit) for k in odds])
+            numbers('map (%s) %s' % (call('allRefusal', unit, s, a, t), as_list(outs)), [all_refusal(s, a, t, k, unit) for k in outs])
+
+
+def all_made():
+    def made(s, level, odd, size):
+        answer = all_from(s, level, odd, [258 + k for k in range(size)])
+        row('all %s %d %s %s' % (named(s), level, as_list(odd) if odd else '[]', as_list([258 + k for k in range(size)]) if size else '[]'), listed(answer))
+        return answer[0]
+
+    table('allMade', 'The call: the number, then what it leaves in the list.', 'allRefusal allSyndromes')
+    for s in (A, B, THREE, DEEP4, EIGHT, TWELVE):
+        for level in range(s[2] + 1):
+            t = strength(s, level)
+            assert made(s, level, odd_syndromes(s[0], some_word(30), t), 2 * t) == 0
+    assert made(B, 1, [65535, 19], 4) == 0
+    refused = [(2, [1], 2), (1, [1], 2), (1, [1], 4), (0, [1], 4), (0, [], 0), (0, [1, 2], 2), (0, [1], 1), (0, [1], 3)]
+    assert [made(A, *g) for g in refused] == [9] + [10] * 7
+    assert made(CLASH, 0, [1], 2) == 4 and made(shortened(A, 7), 0, [1], 2) == 14
+
+    table('allBytes', 'In C\'s bytes.', 'allSyndromes asBytes asNumbers')
+    for s, t in [(A, 2), (EIGHT, 2), (TWELVE, 3)]:
+        odd = [below(2 ** s[0]) for _ in range(t)]
+        row('asBytes (allSyndromes %s (asNumbers %s))' % (named(s), data(low_byte_first(odd))), listed(hexed(low_byte_first(all_syndromes(s[0], odd)))))
+
+
 HEAD = '''-- Cases of our own, of definitions that no compiled call gives back, and of the calls on erased pages, on shortened sheets,
--- on many pages, on one bit of a page and on a sub-word to mend: each row has what a definition gives and what an independent program says.
+-- on many pages, on one bit of a page, on a sub-word to mend and on odd syndromes: each row has what a definition gives and what an independent program says.
 -- Written by tools/cases.py, which works every number out by other means; see there. The calls' own cases are run: tools/trial.py.
 use mathlib.Core.Path.{_≡_, refl}
 use mathlib.Core.List.{List, [], _∷_, map}
 use Prim.Native.Nat.{_*_}
 use lib.ListN.{drop, replicate}
 use Rattle.polynomial.specs.Bits.{coefficient}
+use Rattle.polynomial.specs.Division.{rem}
 use Rattle.polynomial.specs.Sums.{add}
 use Rattle.polynomial.specs.Xor.{xor}
 use Rattle.field.specs.Elements.{power, sumBelow}
 use Rattle.field.specs.Field.{pow}
 use Rattle.code.specs.Lists.{range, sum}
 use Rattle.code.specs.Parameters.{sheet, sheetRefusal}
-use Rattle.code.specs.Code.{carried, combine, distance, divisor, N, newton}
+use Rattle.code.specs.Code.{allSyndromes, carried, combine, degree, distance, divisor, gen, N, nested, newton, oddSyndromes}
+use Rattle.code.specs.Code.{remainder, shortRemainder, syndromes}
 use Rattle.code.specs.Layout.{blockOffset, wordsOf, pageOf, pageBytes, dataBytes, coefficientOf, blockBit, differences}
 use Rattle.code.specs.Layout.{altered, flipped, mending, placeList}
-use Rattle.code.specs.Refusals.{writeRefusal, wordRefusal, remainderRefusal, nestedRefusal, syndromesRefusal}
+use Rattle.code.specs.Refusals.{writeRefusal, wordRefusal, remainderRefusal, nestedRefusal, syndromesRefusal, nestedSyndromesRefusal, allRefusal}
 use Rattle.code.specs.Refusals.{manyRefusal, alterRefusal, mendRefusal, openRefusal, feedRefusal, quoteRefusal}
-use Rattle.code.specs.Calls.{asBytes, empty, fed, judgeNumber, judgeValues, readNumber, readLeaves, writeLeaves, quote}
+use Rattle.code.specs.Calls.{asBytes, asNumbers, empty, fed, judgeNumber, judgeValues, readNumber, readLeaves, writeLeaves, quote}
 use Rattle.code.specs.Calls.{statuses, pagesBy}
 use Rattle.code.specs.Calls.{remainderBytes, shortBytes, nestedWordBytes, syndromeList, nestedSyndromeList}
 use Rattle.code.specs.Registers.{cut, feedings}
 use Rattle.code.specs.Writer.{writer}
-use Rattle.cases.specs.Sheets.{Row, A, B, held, many, alter, mend}
+use Rattle.cases.specs.Sheets.{Row, A, B, held, many, alter, mend, all}
 '''
 
 
@@ -1354,7 +1503,7 @@ def main(words):
     self_test()
     for part in (layouts, equal_form, divisors, page_differences, parts, field_sums, bytes_for_c, writings, huge_numbers, erased_pages,
                  short_sheets, short_sizes, short_pages, short_words, short_registers, many_refused, many_pages, alter_refused,
-                 alter_made, mend_refused, mend_made):
+                 alter_made, mend_refused, mend_made, odd_lists, all_by_odd, all_refused, all_made):
         part()
     if words == ['--check']:
         if (Path(__file__).resolve().parent.parent / OWN).read_text(encoding='utf-8') != printed():

@@ -85,9 +85,13 @@ def nested_word(sheet, l, page):
 
 
 def nested_syndromes(sheet, l, page):
+    """All of them; the call's odd ones are shown, then all from these."""
     assert refusal(sheet, page=page, nested_word=l) == 0
-    out = cases.nested_syndrome_list(sheet, page, l)
-    line('syndromes of nested word %d' % l, page, ' done' + ''.join(' %d' % s for s in out))
+    odd = cases.nested_syndrome_list(sheet, page, l)
+    code, *out = cases.all_from(sheet, sheet[2] - l, odd, [0] * (2 * len(odd)))
+    assert code == 0
+    for name, numbers in (('syndromes of nested word', odd), ('all syndromes of nested word', out)):
+        line('%s %d' % (name, l), page, ' done' + ''.join(' %d' % s for s in numbers))
     return out
 
 
@@ -211,7 +215,8 @@ def past_short():
     page = [0x10, 0x00, 0x00, 0x00]
     right = nested_syndromes(A, 0, page)
     wrong = nested_syndromes(A, 0, short_remainder(A, 0, page))
-    assert right[2] == wrong[2] and right[3] != wrong[3]
+    assert right == cases.syndromes(4, words(A, page)[0], 4)
+    assert right[0] != wrong[0] and right[2] == wrong[2] and right[3] != wrong[3]
     assert syndrome(4, cases.gen(A, 0), 4) == 0
 
 

@@ -14,13 +14,12 @@ from itertools import cycle, product as tuples
 from pathlib import Path
 
 import cases
-from cases import A, A3, A6, ALIKE, B, B4, CLASH, DEEP, DEEP4, EIGHT, FIELD, LARGE, PAIR, PAIR24, SMALL, THREE, TIGHT, TWELVE, TWO, TWO4, U32, U64, WIDE
+from cases import A, A3, A6, ALIKE, B, B4, BYTE, CLASH, DEEP, DEEP4, EIGHT, FIELD, LARGE, PAIR, PAIR24, SMALL, THREE, TIGHT, TWELVE, TWO, TWO4, U32, U64, WIDE
 from cases import below, exponents, largest, nesting, number, refusal, shortened, some_bytes, some_places, strength
 
-TEST, NESTING, GENERATORS, ELEMENTS, OPEN, FEED, REMAINDER, SHORT, NESTED, SYNDROMES, NESTED_SYNDROMES, JUDGE, READ_OUT, WRITE, QUOTE, WRITE_MANY, ALTER, MEND = range(18)
+TEST, NESTING, GENERATORS, ELEMENTS, OPEN, FEED, REMAINDER, SHORT, NESTED, SYNDROMES, NESTED_SYNDROMES, JUDGE, READ_OUT, WRITE, QUOTE, WRITE_MANY, ALTER, MEND, ALL = range(19)
 WIDTHS = (1, 7, 8, 63, 64)
 
-BYTE = (8, 4, 2, 3, 5, 9, 0, 0)
 FULL = (8, 5, 3, 2, 4, 6, 7, 0)
 SHEETS = (A, B, ALIKE, WIDE, DEEP, TIGHT, SMALL, BYTE, FULL, EIGHT, LARGE)
 # Shortened by a few coefficients, by half of them, and by nearly all; n - s a multiple of 8, and one off it.
@@ -185,7 +184,7 @@ cases.faults = faults
 # ---- records
 
 given, expected = bytearray(), bytearray()
-seen = [set() for _ in range(18)]
+seen = [set() for _ in range(19)]
 
 
 def le(x, size=8):
@@ -330,8 +329,8 @@ def ends_of_spare(s):
 
 def one_word():
     calls = ((REMAINDER, 'sub_word', lambda s, l: 96, cases.remainder_bytes, 1), (SHORT, 'nested_word', lambda s, l: 96, cases.short_bytes, 1),
-             (NESTED, 'nested_word', lambda s, l: cases.nested_size(s), cases.nested_bytes, 1), (SYNDROMES, 'sub_word', lambda s, l: 2 * strength(s, 0), cases.syndrome_list, 2),
-             (NESTED_SYNDROMES, 'nested_word', lambda s, l: 2 * strength(s, s[2] - l), cases.nested_syndrome_list, 2))
+             (NESTED, 'nested_word', lambda s, l: cases.nested_size(s), cases.nested_bytes, 1), (SYNDROMES, 'sub_word', lambda s, l: strength(s, 0), cases.syndrome_list, 2),
+             (NESTED_SYNDROMES, 'nested_word', lambda s, l: strength(s, s[2] - l), cases.nested_syndrome_list, 2))
 
     def each(s, page, i, wrong):
         for call, part, room, answer, unit in calls:
@@ -688,6 +687,50 @@ def mendings():
     assert seen[MEND] == {0, 1, 2, 3, 4, 7, 8, 9, 10, 14, 15}
 
 
+def all_from_odd():
+    """All syndromes from the odd ones: of words, of numbers drawn and of numbers that are no elements, at every level; and what refuses them."""
+    def given(s, level, odd, size):
+        code, *after = cases.all_from(s, level, odd, [42405] * size)
+        record(ALL, s, le(code, 1) + b''.join(le(x, 2) for x in after), page=cases.low_byte_first(odd), size=size, u=level)
+        return code
+
+    for s in SHEETS + SHORTENED + tuple(strengths()[::9]):
+        q, v = s[0], s[2]
+        for a in range(v + 1):
+            t, word = strength(s, a), [below(2) for _ in range(cases.length(s))]
+            odd = cases.odd_syndromes(q, word, t)
+            assert cases.all_syndromes(q, odd) == cases.syndromes(q, word, 2 * t)
+            # of a word, of 0 and of one place; numbers drawn, elements and any
+            for x in (odd, [0] * t, cases.odd_syndromes(q, [0] * below(cases.length(s)) + [1], t), [below(2 ** q) for _ in range(t)], [below(65536) for _ in range(t)]):
+                assert given(s, a, x, 2 * t) == 0
+            # lengths: one off, none, of the other list, of bytes; both wrong
+            for k in sorted({0, t - 1, t + 1, 2 * t} - {t}):
+                assert given(s, a, [below(2 ** q) for _ in range(k)], 2 * t) == 10
+            for k in sorted({0, t, 2 * t - 1, 2 * t + 1, min(4 * t, 256)} - {2 * t}):
+                assert given(s, a, odd, k) == 10
+            assert given(s, a, odd[1:], 2 * t - 2) == given(s, a, odd + [1], 2 * t + 2) == 10
+        # levels above v go before lengths; the lengths of level v, and of none
+        for level in (v + 1, 4, 255, 256, 65536, 2 ** 31, U32):
+            assert given(s, level, [1] * strength(s, v), 2 * strength(s, v)) == given(s, level, [1], 1) == 9
+        # lists of other levels
+        for a, b in tuples(range(v + 1), repeat=2):
+            t = strength(s, b)
+            assert given(s, a, [1] * t, 2 * t) == (0 if strength(s, a) == t else 10)
+    # every number near a power of 2 and near the field polynomial, alone; every element at q 4
+    for s in (A, PAIR, TWELVE):
+        q = s[0]
+        for x in sorted({2 ** k + d for k in range(17) for d in (-1, 0, 1)} | {FIELD[q] + d for d in range(-2, 3)} | set(range(16))):
+            if x < 65536:
+                assert given(s, 0, [x], 2) == 0
+        for _ in range(20):
+            x, y = below(65536), 2 ** q + below(65536 - 2 ** q)
+            assert given(s, 1, [x, y], 4) == given(s, 1, [y, x], 4) == 0
+    for s in REFUSED + EDGES:
+        given(s, U32, [65535] * 3, 5)
+        given(s, 0, [1], 2)
+    assert seen[ALL] == {0, 1, 2, 3, 4, 9, 10, 14}
+
+
 if __name__ == '__main__':
     tests()
     quotes()
@@ -701,6 +744,7 @@ if __name__ == '__main__':
     many_pages()
     alterations()
     mendings()
+    all_from_odd()
     assert seen[JUDGE] == {0, 1, 2, 3, 4, 7, 8, 14, 32, 64, 96} and seen[READ_OUT] == seen[JUDGE] | {6} and seen[WRITE] == {*range(9), 13, 14}
     room = Path(sys.argv[1])
     (room / 'stdin').write_bytes(given)

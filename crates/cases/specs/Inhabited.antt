@@ -1,4 +1,4 @@
--- The theorems' hypotheses hold of something, and nine statements that go further than the theorems are false. All by computation.
+-- The theorems' hypotheses hold of something, and twelve statements that go further than the theorems are false. All by computation.
 use mathlib.Core.Path.{_≡_, refl, sym, ap, _∙_}
 use mathlib.Core.Logic.{_≢_, _⊎_, inl, inr}
 use mathlib.Core.Bool.{Bool, true, false, not, _&&_, _||_}
@@ -11,6 +11,7 @@ use lib.ListN.{getD, replicate}
 use Rattle.polynomial.specs.Clmul.{clmul}
 use Rattle.polynomial.specs.Division.{rem}
 use Rattle.polynomial.specs.Multiple.{Multiple}
+use Rattle.polynomial.specs.Sums.{All}
 use Rattle.polynomial.specs.Xor.{xor}
 use Rattle.field.specs.Bch.{weight}
 use Rattle.field.specs.Field.{pow}
@@ -27,11 +28,12 @@ use Rattle.code.specs.Demands.{Burst, Damaged, MendLent, NamesBit, SetTo}
 use Rattle.code.specs.Lists.{any, part, range}
 use Rattle.code.specs.Parameters.{Accepted, sheetRefusal, sheet, stored, strength}
 use Rattle.code.specs.Code.{gen, degree, remainder, nested, combine, N, newton, Flips, IsMember, Near, distance, verdict}
+use Rattle.code.specs.Code.{allSyndromes, oddSyndromes}
 use Rattle.code.specs.Layout.{dataBytes, pageBytes, blocksClear, blocksFull, pageClear, pageOf, blank, wordsOf, Fits, IsBlank, IsPage, Bytes}
 use Rattle.code.specs.Layout.{altered, blockBit, blockOffset, coefficientOf, differences, flipped, mending, placeList}
-use Rattle.code.specs.Calls.{Altered, Judged, Mended, ReadOut, Written, WrittenMany}
-use Rattle.code.specs.Calls.{judgeAnswer, pagesBy, readAnswer, readLeaves, statuses, verdictNumber}
-use Rattle.code.specs.Refusals.{alterRefusal, manyRefusal, mendRefusal, writeRefusal}
+use Rattle.code.specs.Calls.{AllMade, Altered, Judged, Mended, NestedSyndromesMade, ReadOut, SyndromesMade, Written, WrittenMany}
+use Rattle.code.specs.Calls.{judgeAnswer, nestedSyndromeList, pagesBy, readAnswer, readLeaves, statuses, syndromeList, verdictNumber}
+use Rattle.code.specs.Refusals.{allRefusal, alterRefusal, manyRefusal, mendRefusal, wordRefusal, writeRefusal}
 use Rattle.cases.specs.Sheets.{A, B}
 
 -- ---- accepted sheets
@@ -471,6 +473,58 @@ pub not-member-mended :
 not-member-mended h =
     let e : Verdict.NestedWord 0 ≡ Verdict.Member = sym burst-nested ∙ h page-03 page-13 0 (7 ∷ []) (4 ∷ []) 9 1 mend-other in
     let z : _≡_ {A = ℕ} 64 0 = ap verdictNumber e in omega arith
+
+-- ---- odd syndromes: a page whose sub-word 0 and nested word 0 are x^4
+abbrev page-10 : List ℕ
+page-10 = 0x10 ∷ 0x00 ∷ 0x00 ∷ 0x00 ∷ []
+
+-- what the laws on odd syndromes suppose: lists of a sub-word and of a nested word, and all from them
+pub odd-sub-word : SyndromesMade A page-10 0 (7 ∷ []) (3 ∷ []) Outcome.Done
+unfolding wordRefusal syndromeList
+odd-sub-word = made-done _ _ _ _ refl refl
+
+pub odd-nested-word : NestedSyndromesMade A page-10 0 (7 ∷ 7 ∷ []) (3 ∷ 15 ∷ []) Outcome.Done
+unfolding wordRefusal nestedSyndromeList
+odd-nested-word = made-done _ _ _ _ refl refl
+
+pub all-sub-word : AllMade A 0 (3 ∷ []) (7 ∷ 7 ∷ []) (3 ∷ 5 ∷ []) Outcome.Done
+unfolding allRefusal allSyndromes
+all-sub-word = made-done _ _ _ _ refl refl
+
+pub all-nested-word : AllMade A 1 (3 ∷ 15 ∷ []) (replicate 4 7) (3 ∷ 5 ∷ 15 ∷ 2 ∷ []) Outcome.Done
+unfolding allRefusal allSyndromes
+all-nested-word = made-done _ _ _ _ refl refl
+
+-- the sub-word's list at the nested word's level
+pub all-refused : AllMade A 1 (3 ∷ []) (7 ∷ 7 ∷ []) (7 ∷ 7 ∷ []) (Outcome.Refused 10)
+unfolding allRefusal
+all-refused = made-refused _ 10 _ _ refl (lit< tt) (lit≤ tt)
+
+-- that even ones are odd ones again, and no squares, is false
+pub not-doubled : ((odd old after : List ℕ) → AllMade A 0 odd old after Outcome.Done → getD after 1 0 ≡ getD odd 0 0) → ⊥
+not-doubled h = let e : _≡_ {A = ℕ} 5 3 = h (3 ∷ []) (7 ∷ 7 ∷ []) (3 ∷ 5 ∷ []) all-sub-word in omega arith
+
+-- that all are elements: an odd one that is none stays as it is
+all-no-element : AllMade A 0 (16 ∷ []) (7 ∷ 7 ∷ []) (16 ∷ 5 ∷ []) Outcome.Done
+unfolding allRefusal allSyndromes
+all-no-element = made-done _ _ _ _ refl refl
+
+pub not-elements : ((odd old after : List ℕ) → AllMade A 0 odd old after Outcome.Done → All (λ x. x < 16) after) → ⊥
+not-elements h = lt-irrefl 16 (h (16 ∷ []) (7 ∷ 7 ∷ []) (16 ∷ 5 ∷ []) all-no-element .0)
+
+-- and that a word's remainder by g_0 has its syndromes past 2t_0: S_3 is another
+by-word : oddSyndromes A 2 0x10 ≡ 3 ∷ 15 ∷ []
+unfolding oddSyndromes
+by-word = refl
+
+by-remainder : oddSyndromes A 2 (remainder A 0 0x10) ≡ 3 ∷ 9 ∷ []
+unfolding oddSyndromes rem gen degree pow xor
+by-remainder = refl
+
+pub not-by-remainder : ((c : ℕ) → oddSyndromes A 2 (remainder A 0 c) ≡ oddSyndromes A 2 c) → ⊥
+not-by-remainder h =
+    let e : _≡_ {A = List ℕ} (3 ∷ 9 ∷ []) (3 ∷ 15 ∷ []) = sym by-remainder ∙ h 0x10 ∙ by-word in
+    let z : _≡_ {A = ℕ} 9 15 = ap (λ (l : List ℕ). getD l 1 0) e in omega arith
 
 -- ---- the equal form holds as a whole only: sheet B, page 13 00 00 00 00 00
 abbrev words-13 : List ℕ

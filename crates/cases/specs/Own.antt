@@ -1,28 +1,30 @@
 -- Cases of our own, of definitions that no compiled call gives back, and of the calls on erased pages, on shortened sheets,
--- on many pages, on one bit of a page and on a sub-word to mend: each row has what a definition gives and what an independent program says.
+-- on many pages, on one bit of a page, on a sub-word to mend and on odd syndromes: each row has what a definition gives and what an independent program says.
 -- Written by tools/cases.py, which works every number out by other means; see there. The calls' own cases are run: tools/trial.py.
 use mathlib.Core.Path.{_≡_, refl}
 use mathlib.Core.List.{List, [], _∷_, map}
 use Prim.Native.Nat.{_*_}
 use lib.ListN.{drop, replicate}
 use Rattle.polynomial.specs.Bits.{coefficient}
+use Rattle.polynomial.specs.Division.{rem}
 use Rattle.polynomial.specs.Sums.{add}
 use Rattle.polynomial.specs.Xor.{xor}
 use Rattle.field.specs.Elements.{power, sumBelow}
 use Rattle.field.specs.Field.{pow}
 use Rattle.code.specs.Lists.{range, sum}
 use Rattle.code.specs.Parameters.{sheet, sheetRefusal}
-use Rattle.code.specs.Code.{carried, combine, distance, divisor, N, newton}
+use Rattle.code.specs.Code.{allSyndromes, carried, combine, degree, distance, divisor, gen, N, nested, newton, oddSyndromes}
+use Rattle.code.specs.Code.{remainder, shortRemainder, syndromes}
 use Rattle.code.specs.Layout.{blockOffset, wordsOf, pageOf, pageBytes, dataBytes, coefficientOf, blockBit, differences}
 use Rattle.code.specs.Layout.{altered, flipped, mending, placeList}
-use Rattle.code.specs.Refusals.{writeRefusal, wordRefusal, remainderRefusal, nestedRefusal, syndromesRefusal}
+use Rattle.code.specs.Refusals.{writeRefusal, wordRefusal, remainderRefusal, nestedRefusal, syndromesRefusal, nestedSyndromesRefusal, allRefusal}
 use Rattle.code.specs.Refusals.{manyRefusal, alterRefusal, mendRefusal, openRefusal, feedRefusal, quoteRefusal}
-use Rattle.code.specs.Calls.{asBytes, empty, fed, judgeNumber, judgeValues, readNumber, readLeaves, writeLeaves, quote}
+use Rattle.code.specs.Calls.{asBytes, asNumbers, empty, fed, judgeNumber, judgeValues, readNumber, readLeaves, writeLeaves, quote}
 use Rattle.code.specs.Calls.{statuses, pagesBy}
 use Rattle.code.specs.Calls.{remainderBytes, shortBytes, nestedWordBytes, syndromeList, nestedSyndromeList}
 use Rattle.code.specs.Registers.{cut, feedings}
 use Rattle.code.specs.Writer.{writer}
-use Rattle.cases.specs.Sheets.{Row, A, B, held, many, alter, mend}
+use Rattle.cases.specs.Sheets.{Row, A, B, held, many, alter, mend, all}
 
 -- Where each block begins.
 pub offsets : List Row
@@ -193,14 +195,20 @@ pub fieldSums-hold : map (λ r. r .0) fieldSums ≡ map (λ r. r .1) fieldSums
 unfolding fieldSums power sumBelow xor range
 fieldSums-hold = refl
 
--- Numbers as C takes them, two bytes each, low byte first.
+-- Numbers as C takes them, two bytes each, low byte first, and read back.
 pub bytePairs : List Row
 bytePairs =
     (asBytes (0 ∷ 255 ∷ 256 ∷ 4095 ∷ 65535 ∷ []), 0x00 ∷ 0x00 ∷ 0xFF ∷ 0x00 ∷ 0x00 ∷ 0x01 ∷ 0xFF ∷ 0x0F ∷ 0xFF ∷ 0xFF ∷ [])
+    ∷ (asNumbers (asBytes (0 ∷ 255 ∷ 256 ∷ 4095 ∷ 65535 ∷ [])), 0 ∷ 255 ∷ 256 ∷ 4095 ∷ 65535 ∷ [])
+    ∷ (asNumbers [], [])
+    ∷ (asNumbers (0x12 ∷ []), [])
+    ∷ (asNumbers (0x34 ∷ 0x12 ∷ []), 4660 ∷ [])
+    ∷ (asNumbers (0x34 ∷ 0x12 ∷ 0x56 ∷ []), 4660 ∷ [])
+    ∷ (asNumbers (0xFF ∷ 0xFF ∷ 0x00 ∷ 0x01 ∷ 0x01 ∷ 0x00 ∷ []), 65535 ∷ 256 ∷ 1 ∷ [])
     ∷ []
 
 pub bytePairs-hold : map (λ r. r .0) bytePairs ≡ map (λ r. r .1) bytePairs
-unfolding bytePairs asBytes
+unfolding bytePairs asBytes asNumbers
 bytePairs-hold = refl
 
 -- The writer program's answer where strengths are missing: they are 0.
@@ -392,15 +400,15 @@ erasedWords = (
       0 ∷ 8 ∷ 8 ∷ 8 ∷ [],
     )
     ∷ (
-      map (λ x. syndromesRefusal 1 A x 0 2) ((0xFF ∷ 0x7F ∷ 0xFF ∷ 0x7F ∷ []) ∷ (0xFF ∷ 0x7F ∷ 0xFF ∷ 0xFF ∷ []) ∷ (0xFF ∷ 0xFF ∷ 0xFF
+      map (λ x. syndromesRefusal 1 A x 0 1) ((0xFF ∷ 0x7F ∷ 0xFF ∷ 0x7F ∷ []) ∷ (0xFF ∷ 0x7F ∷ 0xFF ∷ 0xFF ∷ []) ∷ (0xFF ∷ 0xFF ∷ 0xFF
           ∷ 0x7F ∷ []) ∷ (0xFF ∷ 0xFF ∷ 0xFF ∷ 0xFF ∷ []) ∷ []),
       0 ∷ 8 ∷ 8 ∷ 8 ∷ [],
     )
     ∷ (remainderBytes A (0xFF ∷ 0x7F ∷ 0xFF ∷ 0x7F ∷ []) 1, replicate 96 0x00)
     ∷ (nestedWordBytes A (0xFF ∷ 0x7F ∷ 0xFF ∷ 0x7F ∷ []) 0, 0x00 ∷ 0x00 ∷ [])
     ∷ (nestedWordBytes B (0xFF ∷ 0x7F ∷ 0xFF ∷ 0x7F ∷ 0xFF ∷ 0x7F ∷ []) 1, 0xFF ∷ 0x7F ∷ [])
-    ∷ (syndromeList A (0xFF ∷ 0x7F ∷ 0xFF ∷ 0x7F ∷ []) 1, 0 ∷ 0 ∷ [])
-    ∷ (nestedSyndromeList A (0xFF ∷ 0x7F ∷ 0xFF ∷ 0x7F ∷ []) 0, 0 ∷ 0 ∷ 0 ∷ 0 ∷ [])
+    ∷ (syndromeList A (0xFF ∷ 0x7F ∷ 0xFF ∷ 0x7F ∷ []) 1, 0 ∷ [])
+    ∷ (nestedSyndromeList A (0xFF ∷ 0x7F ∷ 0xFF ∷ 0x7F ∷ []) 0, 0 ∷ 0 ∷ [])
     ∷ []
 
 pub erasedWords-hold : map (λ r. r .0) erasedWords ≡ map (λ r. r .1) erasedWords
@@ -608,7 +616,7 @@ shortRead-hold = refl
 -- One word of a page: each spare bit; a nested word, where x^(l i) takes a coefficient past the stored ones and past n.
 pub shortWords : List Row
 shortWords = (
-  map (λ x. syndromesRefusal 1 (sheet 4 2 1 1 2 0 0 6) x 0 2) ((0xD6 ∷ 0x00 ∷ 0xBD ∷ 0x00 ∷ []) ∷ (0xD6 ∷ 0x02 ∷ 0xBD ∷ 0x00 ∷ []) ∷ (0xD6
+  map (λ x. syndromesRefusal 1 (sheet 4 2 1 1 2 0 0 6) x 0 1) ((0xD6 ∷ 0x00 ∷ 0xBD ∷ 0x00 ∷ []) ∷ (0xD6 ∷ 0x02 ∷ 0xBD ∷ 0x00 ∷ []) ∷ (0xD6
       ∷ 0x04 ∷ 0xBD ∷ 0x00 ∷ []) ∷ (0xD6 ∷ 0x08 ∷ 0xBD ∷ 0x00 ∷ []) ∷ (0xD6 ∷ 0x10 ∷ 0xBD ∷ 0x00 ∷ []) ∷ (0xD6 ∷ 0x20 ∷ 0xBD ∷ 0x00 ∷ [])
       ∷ (0xD6 ∷ 0x40 ∷ 0xBD ∷ 0x00 ∷ []) ∷ (0xD6 ∷ 0x80 ∷ 0xBD ∷ 0x00 ∷ []) ∷ []),
   0 ∷ replicate 7 8,
@@ -642,11 +650,8 @@ shortWords = (
       shortBytes (sheet 4 5 3 1 2 2 2 4) (0xE1 ∷ 0x03 ∷ 0x5E ∷ 0x04 ∷ 0x69 ∷ 0x01 ∷ 0x54 ∷ 0x01 ∷ 0x23 ∷ 0x02 ∷ []) 1,
       0x0C ∷ replicate 95 0x00,
     )
-    ∷ (syndromeList (sheet 4 5 3 1 2 2 2 4) (0xE1 ∷ 0x03 ∷ 0x5E ∷ 0x04 ∷ 0x69 ∷ 0x01 ∷ 0x54 ∷ 0x01 ∷ 0x23 ∷ 0x02 ∷ []) 3, 14 ∷ 11 ∷ [])
-    ∷ (
-      nestedSyndromeList (sheet 4 5 3 1 2 2 2 4) (0xE1 ∷ 0x03 ∷ 0x5E ∷ 0x04 ∷ 0x69 ∷ 0x01 ∷ 0x54 ∷ 0x01 ∷ 0x23 ∷ 0x02 ∷ []) 2,
-      12 ∷ 15 ∷ 1 ∷ 10 ∷ [],
-    )
+    ∷ (syndromeList (sheet 4 5 3 1 2 2 2 4) (0xE1 ∷ 0x03 ∷ 0x5E ∷ 0x04 ∷ 0x69 ∷ 0x01 ∷ 0x54 ∷ 0x01 ∷ 0x23 ∷ 0x02 ∷ []) 3, 14 ∷ [])
+    ∷ (nestedSyndromeList (sheet 4 5 3 1 2 2 2 4) (0xE1 ∷ 0x03 ∷ 0x5E ∷ 0x04 ∷ 0x69 ∷ 0x01 ∷ 0x54 ∷ 0x01 ∷ 0x23 ∷ 0x02 ∷ []) 2, 12 ∷ 1 ∷ [])
     ∷ []
 
 pub shortWords-hold : map (λ r. r .0) shortWords ≡ map (λ r. r .1) shortWords
@@ -1414,3 +1419,444 @@ flippedPlaces =
 pub flippedPlaces-hold : map (λ r. r .0) flippedPlaces ≡ map (λ r. r .1) flippedPlaces
 unfolding flippedPlaces flipped placeList pow
 flippedPlaces-hold = refl
+
+-- Lists of odd syndromes, S_1, S_3, ..: of words, and of sub-words and nested words of pages.
+pub oddLists : List Row
+oddLists =
+    (oddSyndromes A 2 0xD34, 13 ∷ 1 ∷ [])
+    ∷ (oddSyndromes B 3 0x76CD, 12 ∷ 4 ∷ 7 ∷ [])
+    ∷ (oddSyndromes (sheet 4 2 1 3 7 0 0 0) 7 0x40DD, 0 ∷ 3 ∷ 1 ∷ 0 ∷ 4 ∷ 0 ∷ 0 ∷ [])
+    ∷ (oddSyndromes (sheet 8 8 3 1 2 2 2 0) 2 0xDACC7DF401, 143 ∷ 185 ∷ [])
+    ∷ (oddSyndromes (sheet 8 4 2 3 5 9 0 0) 5 0x130, 45 ∷ 100 ∷ 221 ∷ 217 ∷ 129 ∷ [])
+    ∷ (oddSyndromes (sheet 12 3 2 1 2 3 0 0) 3 0x579BB, 2465 ∷ 2782 ∷ 2779 ∷ [])
+    ∷ (oddSyndromes (sheet 12 3 2 1 2 3 0 0) 1 0x7C0113FA81DD, 277 ∷ [])
+    ∷ (oddSyndromes (sheet 12 8 3 28 32 39 58 0) 4 0x116B, 312 ∷ 1794 ∷ 842 ∷ 863 ∷ [])
+    ∷ (oddSyndromes B 0 0x3517, [])
+    ∷ (oddSyndromes B 1 0x1F81, 3 ∷ [])
+    ∷ (oddSyndromes B 12 0x56EB, 1 ∷ 11 ∷ 7 ∷ 12 ∷ 14 ∷ 8 ∷ 10 ∷ 0 ∷ 1 ∷ 1 ∷ 9 ∷ 1 ∷ [])
+    ∷ (oddSyndromes (sheet 8 8 3 1 2 2 2 0) 1 0x63C7B2DB8583CC6BF563745CFB051119B8BA9CF8897F68440AE1D1216AB4ABDC, 110 ∷ [])
+    ∷ (oddSyndromes (sheet 8 8 3 1 2 2 2 0) 1 0x0, 0 ∷ [])
+    ∷ (oddSyndromes (sheet 12 3 2 1 2 3 0 0) 1 0x1142BA4EC73CDFE8183F3F458C2CAA0FD, 3594 ∷ [])
+    ∷ (syndromeList B (0xA5 ∷ 0x5F ∷ 0x4A ∷ 0x27 ∷ 0x19 ∷ 0x51 ∷ []) 0, 8 ∷ [])
+    ∷ (nestedSyndromeList B (0xA5 ∷ 0x5F ∷ 0x4A ∷ 0x27 ∷ 0x19 ∷ 0x51 ∷ []) 1, 12 ∷ 10 ∷ [])
+    ∷ (syndromeList (sheet 4 2 1 3 7 0 0 0) (0x6C ∷ 0x46 ∷ 0x18 ∷ 0x03 ∷ []) 0, 2 ∷ 14 ∷ 0 ∷ [])
+    ∷ (nestedSyndromeList (sheet 4 2 1 3 7 0 0 0) (0x6C ∷ 0x46 ∷ 0x18 ∷ 0x03 ∷ []) 0, 6 ∷ 14 ∷ 1 ∷ 1 ∷ 13 ∷ 1 ∷ 1 ∷ [])
+    ∷ (syndromeList (sheet 4 5 3 1 2 2 2 4) (0x7A ∷ 0x03 ∷ 0xAA ∷ 0x06 ∷ 0x98 ∷ 0x01 ∷ 0x0A ∷ 0x01 ∷ 0x60 ∷ 0x03 ∷ []) 2, 5 ∷ [])
+    ∷ (nestedSyndromeList (sheet 4 5 3 1 2 2 2 4) (0x7A ∷ 0x03 ∷ 0xAA ∷ 0x06 ∷ 0x98 ∷ 0x01 ∷ 0x0A ∷ 0x01 ∷ 0x60 ∷ 0x03 ∷ []) 2, 7 ∷ 2 ∷ [])
+    ∷ (syndromeList (sheet 8 2 1 1 2 0 0 231) (0xBB ∷ 0x6C ∷ 0x20 ∷ 0x12 ∷ 0x8D ∷ 0xC8 ∷ []) 0, 198 ∷ [])
+    ∷ (nestedSyndromeList (sheet 8 2 1 1 2 0 0 231) (0xBB ∷ 0x6C ∷ 0x20 ∷ 0x12 ∷ 0x8D ∷ 0xC8 ∷ []) 0, 10 ∷ 243 ∷ [])
+    ∷ (
+      syndromeList (sheet 12 3 2 1 2 3 0 4050) (0x70 ∷ 0x75 ∷ 0xAD ∷ 0xF6 ∷ 0xC5 ∷ 0x08 ∷ 0x81 ∷ 0x73 ∷ 0xB1 ∷ 0xEA ∷ 0xFF ∷ 0x14 ∷ 0x6E
+          ∷ 0xFE ∷ 0x69 ∷ 0xB6 ∷ 0xE3 ∷ 0x1E ∷ []) 1,
+      1738 ∷ [],
+    )
+    ∷ (
+      nestedSyndromeList (sheet 12 3 2 1 2 3 0 4050) (0x70 ∷ 0x75 ∷ 0xAD ∷ 0xF6 ∷ 0xC5 ∷ 0x08 ∷ 0x81 ∷ 0x73 ∷ 0xB1 ∷ 0xEA ∷ 0xFF ∷ 0x14
+          ∷ 0x6E ∷ 0xFE ∷ 0x69 ∷ 0xB6 ∷ 0xE3 ∷ 0x1E ∷ []) 0,
+      3681 ∷ 948 ∷ 450 ∷ [],
+    )
+    ∷ []
+
+pub oddLists-hold : map (λ r. r .0) oddLists ≡ map (λ r. r .1) oddLists
+unfolding oddLists oddSyndromes syndromeList nestedSyndromeList
+oddLists-hold = refl
+
+-- Their lengths: t_0 of a sub-word, t_(v-l) of nested word l, in C twice as many bytes.
+pub listLengths : List Row
+listLengths = (
+  map (syndromesRefusal 1 B (0xCA ∷ 0x0F ∷ 0xE8 ∷ 0x4C ∷ 0x80 ∷ 0x1F ∷ []) 0) (0 ∷ 1 ∷ 2 ∷ 3 ∷ 4 ∷ 18446744073709551615 ∷ []),
+  10 ∷ 0 ∷ 10 ∷ 10 ∷ 10 ∷ 10 ∷ [],
+)
+    ∷ (
+      map (syndromesRefusal 2 B (0xCA ∷ 0x0F ∷ 0xE8 ∷ 0x4C ∷ 0x80 ∷ 0x1F ∷ []) 0) (0 ∷ 1 ∷ 2 ∷ 3 ∷ 4 ∷ 18446744073709551615 ∷ []),
+      10 ∷ 10 ∷ 0 ∷ 10 ∷ 10 ∷ 10 ∷ [],
+    )
+    ∷ (
+      map (nestedSyndromesRefusal 1 B (0xCA ∷ 0x0F ∷ 0xE8 ∷ 0x4C ∷ 0x80 ∷ 0x1F ∷ []) 0) (0 ∷ 2 ∷ 3 ∷ 4 ∷ 5 ∷ 6 ∷ 7 ∷ 12
+          ∷ 18446744073709551615 ∷ []),
+      10 ∷ 10 ∷ 0 ∷ replicate 6 10,
+    )
+    ∷ (
+      map (nestedSyndromesRefusal 2 B (0xCA ∷ 0x0F ∷ 0xE8 ∷ 0x4C ∷ 0x80 ∷ 0x1F ∷ []) 0) (0 ∷ 2 ∷ 3 ∷ 4 ∷ 5 ∷ 6 ∷ 7 ∷ 12
+          ∷ 18446744073709551615 ∷ []),
+      10 ∷ 10 ∷ 10 ∷ 10 ∷ 10 ∷ 0 ∷ 10 ∷ 10 ∷ 10 ∷ [],
+    )
+    ∷ (
+      map (syndromesRefusal 1 (sheet 4 2 1 3 7 0 0 0) (0xD8 ∷ 0x7D ∷ 0xDE ∷ 0x73 ∷ []) 0) (0 ∷ 2 ∷ 3 ∷ 4 ∷ 5 ∷ 6 ∷ 7 ∷ 12
+          ∷ 18446744073709551615 ∷ []),
+      10 ∷ 10 ∷ 0 ∷ replicate 6 10,
+    )
+    ∷ (
+      map (syndromesRefusal 2 (sheet 4 2 1 3 7 0 0 0) (0xD8 ∷ 0x7D ∷ 0xDE ∷ 0x73 ∷ []) 0) (0 ∷ 2 ∷ 3 ∷ 4 ∷ 5 ∷ 6 ∷ 7 ∷ 12
+          ∷ 18446744073709551615 ∷ []),
+      10 ∷ 10 ∷ 10 ∷ 10 ∷ 10 ∷ 0 ∷ 10 ∷ 10 ∷ 10 ∷ [],
+    )
+    ∷ (
+      map (nestedSyndromesRefusal 1 (sheet 4 2 1 3 7 0 0 0) (0xD8 ∷ 0x7D ∷ 0xDE ∷ 0x73 ∷ []) 0) (0 ∷ 6 ∷ 7 ∷ 8 ∷ 13 ∷ 14 ∷ 15 ∷ 28
+          ∷ 18446744073709551615 ∷ []),
+      10 ∷ 10 ∷ 0 ∷ replicate 6 10,
+    )
+    ∷ (
+      map (nestedSyndromesRefusal 2 (sheet 4 2 1 3 7 0 0 0) (0xD8 ∷ 0x7D ∷ 0xDE ∷ 0x73 ∷ []) 0) (0 ∷ 6 ∷ 7 ∷ 8 ∷ 13 ∷ 14 ∷ 15 ∷ 28
+          ∷ 18446744073709551615 ∷ []),
+      10 ∷ 10 ∷ 10 ∷ 10 ∷ 10 ∷ 0 ∷ 10 ∷ 10 ∷ 10 ∷ [],
+    )
+    ∷ (
+      map (syndromesRefusal 1 (sheet 8 4 2 3 5 9 0 180) (0x30 ∷ 0x3D ∷ 0x1C ∷ 0xD8 ∷ 0xBA ∷ 0x57 ∷ 0x2B ∷ 0x40 ∷ 0x58 ∷ 0x01 ∷ 0xDB ∷ 0x32
+          ∷ 0xE1 ∷ 0x05 ∷ 0xD0 ∷ 0x64 ∷ 0xF9 ∷ 0x69 ∷ 0x3B ∷ 0x07 ∷ 0x7C ∷ 0xAE ∷ 0x9B ∷ 0x11 ∷ 0x9D ∷ 0xB3 ∷ 0x88 ∷ 0x9D ∷ 0xF8 ∷ 0x06
+          ∷ 0x71 ∷ 0xDC ∷ 0xF2 ∷ 0x72 ∷ 0x29 ∷ 0x7A ∷ 0x32 ∷ 0x61 ∷ 0xD8 ∷ 0x00 ∷ []) 0) (0 ∷ 2 ∷ 3 ∷ 4 ∷ 5 ∷ 6 ∷ 7 ∷ 12
+          ∷ 18446744073709551615 ∷ []),
+      10 ∷ 10 ∷ 0 ∷ replicate 6 10,
+    )
+    ∷ (
+      map (syndromesRefusal 2 (sheet 8 4 2 3 5 9 0 180) (0x30 ∷ 0x3D ∷ 0x1C ∷ 0xD8 ∷ 0xBA ∷ 0x57 ∷ 0x2B ∷ 0x40 ∷ 0x58 ∷ 0x01 ∷ 0xDB ∷ 0x32
+          ∷ 0xE1 ∷ 0x05 ∷ 0xD0 ∷ 0x64 ∷ 0xF9 ∷ 0x69 ∷ 0x3B ∷ 0x07 ∷ 0x7C ∷ 0xAE ∷ 0x9B ∷ 0x11 ∷ 0x9D ∷ 0xB3 ∷ 0x88 ∷ 0x9D ∷ 0xF8 ∷ 0x06
+          ∷ 0x71 ∷ 0xDC ∷ 0xF2 ∷ 0x72 ∷ 0x29 ∷ 0x7A ∷ 0x32 ∷ 0x61 ∷ 0xD8 ∷ 0x00 ∷ []) 0) (0 ∷ 2 ∷ 3 ∷ 4 ∷ 5 ∷ 6 ∷ 7 ∷ 12
+          ∷ 18446744073709551615 ∷ []),
+      10 ∷ 10 ∷ 10 ∷ 10 ∷ 10 ∷ 0 ∷ 10 ∷ 10 ∷ 10 ∷ [],
+    )
+    ∷ (
+      map (nestedSyndromesRefusal 1 (sheet 8 4 2 3 5 9 0 180) (0x30 ∷ 0x3D ∷ 0x1C ∷ 0xD8 ∷ 0xBA ∷ 0x57 ∷ 0x2B ∷ 0x40 ∷ 0x58 ∷ 0x01 ∷ 0xDB
+          ∷ 0x32 ∷ 0xE1 ∷ 0x05 ∷ 0xD0 ∷ 0x64 ∷ 0xF9 ∷ 0x69 ∷ 0x3B ∷ 0x07 ∷ 0x7C ∷ 0xAE ∷ 0x9B ∷ 0x11 ∷ 0x9D ∷ 0xB3 ∷ 0x88 ∷ 0x9D ∷ 0xF8
+          ∷ 0x06 ∷ 0x71 ∷ 0xDC ∷ 0xF2 ∷ 0x72 ∷ 0x29 ∷ 0x7A ∷ 0x32 ∷ 0x61 ∷ 0xD8 ∷ 0x00 ∷ []) 0) (0 ∷ 8 ∷ 9 ∷ 10 ∷ 17 ∷ 18 ∷ 19 ∷ 36
+          ∷ 18446744073709551615 ∷ []),
+      10 ∷ 10 ∷ 0 ∷ replicate 6 10,
+    )
+    ∷ (
+      map (nestedSyndromesRefusal 2 (sheet 8 4 2 3 5 9 0 180) (0x30 ∷ 0x3D ∷ 0x1C ∷ 0xD8 ∷ 0xBA ∷ 0x57 ∷ 0x2B ∷ 0x40 ∷ 0x58 ∷ 0x01 ∷ 0xDB
+          ∷ 0x32 ∷ 0xE1 ∷ 0x05 ∷ 0xD0 ∷ 0x64 ∷ 0xF9 ∷ 0x69 ∷ 0x3B ∷ 0x07 ∷ 0x7C ∷ 0xAE ∷ 0x9B ∷ 0x11 ∷ 0x9D ∷ 0xB3 ∷ 0x88 ∷ 0x9D ∷ 0xF8
+          ∷ 0x06 ∷ 0x71 ∷ 0xDC ∷ 0xF2 ∷ 0x72 ∷ 0x29 ∷ 0x7A ∷ 0x32 ∷ 0x61 ∷ 0xD8 ∷ 0x00 ∷ []) 0) (0 ∷ 8 ∷ 9 ∷ 10 ∷ 17 ∷ 18 ∷ 19 ∷ 36
+          ∷ 18446744073709551615 ∷ []),
+      10 ∷ 10 ∷ 10 ∷ 10 ∷ 10 ∷ 0 ∷ 10 ∷ 10 ∷ 10 ∷ [],
+    )
+    ∷ (
+      map (syndromesRefusal 1 (sheet 12 3 2 1 2 3 0 4050) (0x4D ∷ 0x35 ∷ 0xA4 ∷ 0x13 ∷ 0x39 ∷ 0x19 ∷ 0x78 ∷ 0x27 ∷ 0x4B ∷ 0x94 ∷ 0xDC
+          ∷ 0x0A ∷ 0x62 ∷ 0x34 ∷ 0x15 ∷ 0x71 ∷ 0x28 ∷ 0x0D ∷ []) 0) (0 ∷ 1 ∷ 2 ∷ 3 ∷ 4 ∷ 18446744073709551615 ∷ []),
+      10 ∷ 0 ∷ 10 ∷ 10 ∷ 10 ∷ 10 ∷ [],
+    )
+    ∷ (
+      map (syndromesRefusal 2 (sheet 12 3 2 1 2 3 0 4050) (0x4D ∷ 0x35 ∷ 0xA4 ∷ 0x13 ∷ 0x39 ∷ 0x19 ∷ 0x78 ∷ 0x27 ∷ 0x4B ∷ 0x94 ∷ 0xDC
+          ∷ 0x0A ∷ 0x62 ∷ 0x34 ∷ 0x15 ∷ 0x71 ∷ 0x28 ∷ 0x0D ∷ []) 0) (0 ∷ 1 ∷ 2 ∷ 3 ∷ 4 ∷ 18446744073709551615 ∷ []),
+      10 ∷ 10 ∷ 0 ∷ 10 ∷ 10 ∷ 10 ∷ [],
+    )
+    ∷ (
+      map (nestedSyndromesRefusal 1 (sheet 12 3 2 1 2 3 0 4050) (0x4D ∷ 0x35 ∷ 0xA4 ∷ 0x13 ∷ 0x39 ∷ 0x19 ∷ 0x78 ∷ 0x27 ∷ 0x4B ∷ 0x94 ∷ 0xDC
+          ∷ 0x0A ∷ 0x62 ∷ 0x34 ∷ 0x15 ∷ 0x71 ∷ 0x28 ∷ 0x0D ∷ []) 0) (0 ∷ 2 ∷ 3 ∷ 4 ∷ 5 ∷ 6 ∷ 7 ∷ 12 ∷ 18446744073709551615 ∷ []),
+      10 ∷ 10 ∷ 0 ∷ replicate 6 10,
+    )
+    ∷ (
+      map (nestedSyndromesRefusal 2 (sheet 12 3 2 1 2 3 0 4050) (0x4D ∷ 0x35 ∷ 0xA4 ∷ 0x13 ∷ 0x39 ∷ 0x19 ∷ 0x78 ∷ 0x27 ∷ 0x4B ∷ 0x94 ∷ 0xDC
+          ∷ 0x0A ∷ 0x62 ∷ 0x34 ∷ 0x15 ∷ 0x71 ∷ 0x28 ∷ 0x0D ∷ []) 0) (0 ∷ 2 ∷ 3 ∷ 4 ∷ 5 ∷ 6 ∷ 7 ∷ 12 ∷ 18446744073709551615 ∷ []),
+      10 ∷ 10 ∷ 10 ∷ 10 ∷ 10 ∷ 0 ∷ 10 ∷ 10 ∷ 10 ∷ [],
+    )
+    ∷ []
+
+pub listLengths-hold : map (λ r. r .0) listLengths ≡ map (λ r. r .1) listLengths
+unfolding listLengths wordRefusal
+listLengths-hold = refl
+
+-- All syndromes from the odd ones, even ones by squares: those of the word.
+pub allByOdd : List Row
+allByOdd =
+    (syndromes A 4 0x146D, 15 ∷ 10 ∷ 3 ∷ 8 ∷ [])
+    ∷ (allSyndromes A (15 ∷ 3 ∷ []), 15 ∷ 10 ∷ 3 ∷ 8 ∷ [])
+    ∷ (allSyndromes A (oddSyndromes A 2 0x146D), 15 ∷ 10 ∷ 3 ∷ 8 ∷ [])
+    ∷ (syndromes B 6 0x42BF, 2 ∷ 4 ∷ 13 ∷ 3 ∷ 0 ∷ 14 ∷ [])
+    ∷ (allSyndromes B (2 ∷ 13 ∷ 0 ∷ []), 2 ∷ 4 ∷ 13 ∷ 3 ∷ 0 ∷ 14 ∷ [])
+    ∷ (allSyndromes B (oddSyndromes B 3 0x42BF), 2 ∷ 4 ∷ 13 ∷ 3 ∷ 0 ∷ 14 ∷ [])
+    ∷ (syndromes (sheet 4 2 1 3 7 0 0 0) 14 0x2A7B, 11 ∷ 9 ∷ 8 ∷ 13 ∷ 6 ∷ 12 ∷ 12 ∷ 14 ∷ 10 ∷ 7 ∷ 8 ∷ 15 ∷ 10 ∷ 15 ∷ [])
+    ∷ (
+      allSyndromes (sheet 4 2 1 3 7 0 0 0) (11 ∷ 8 ∷ 6 ∷ 12 ∷ 10 ∷ 8 ∷ 10 ∷ []),
+      11 ∷ 9 ∷ 8 ∷ 13 ∷ 6 ∷ 12 ∷ 12 ∷ 14 ∷ 10 ∷ 7 ∷ 8 ∷ 15 ∷ 10 ∷ 15 ∷ [],
+    )
+    ∷ (
+      allSyndromes (sheet 4 2 1 3 7 0 0 0) (oddSyndromes (sheet 4 2 1 3 7 0 0 0) 7 0x2A7B),
+      11 ∷ 9 ∷ 8 ∷ 13 ∷ 6 ∷ 12 ∷ 12 ∷ 14 ∷ 10 ∷ 7 ∷ 8 ∷ 15 ∷ 10 ∷ 15 ∷ [],
+    )
+    ∷ (syndromes (sheet 8 8 3 1 2 2 2 0) 4 0xB2689A3725, 162 ∷ 99 ∷ 128 ∷ 188 ∷ [])
+    ∷ (allSyndromes (sheet 8 8 3 1 2 2 2 0) (162 ∷ 128 ∷ []), 162 ∷ 99 ∷ 128 ∷ 188 ∷ [])
+    ∷ (allSyndromes (sheet 8 8 3 1 2 2 2 0) (oddSyndromes (sheet 8 8 3 1 2 2 2 0) 2 0xB2689A3725), 162 ∷ 99 ∷ 128 ∷ 188 ∷ [])
+    ∷ (syndromes (sheet 8 4 2 3 5 9 0 0) 10 0x1E3, 254 ∷ 227 ∷ 248 ∷ 175 ∷ 180 ∷ 247 ∷ 121 ∷ 50 ∷ 110 ∷ 106 ∷ [])
+    ∷ (
+      allSyndromes (sheet 8 4 2 3 5 9 0 0) (254 ∷ 248 ∷ 180 ∷ 121 ∷ 110 ∷ []),
+      254 ∷ 227 ∷ 248 ∷ 175 ∷ 180 ∷ 247 ∷ 121 ∷ 50 ∷ 110 ∷ 106 ∷ [],
+    )
+    ∷ (
+      allSyndromes (sheet 8 4 2 3 5 9 0 0) (oddSyndromes (sheet 8 4 2 3 5 9 0 0) 5 0x1E3),
+      254 ∷ 227 ∷ 248 ∷ 175 ∷ 180 ∷ 247 ∷ 121 ∷ 50 ∷ 110 ∷ 106 ∷ [],
+    )
+    ∷ (syndromes (sheet 12 3 2 1 2 3 0 0) 6 0x1EB47, 3333 ∷ 3906 ∷ 16 ∷ 2967 ∷ 1563 ∷ 256 ∷ [])
+    ∷ (allSyndromes (sheet 12 3 2 1 2 3 0 0) (3333 ∷ 16 ∷ 1563 ∷ []), 3333 ∷ 3906 ∷ 16 ∷ 2967 ∷ 1563 ∷ 256 ∷ [])
+    ∷ (allSyndromes (sheet 12 3 2 1 2 3 0 0) (oddSyndromes (sheet 12 3 2 1 2 3 0 0) 3 0x1EB47), 3333 ∷ 3906 ∷ 16 ∷ 2967 ∷ 1563 ∷ 256 ∷ [])
+    ∷ (syndromes (sheet 12 3 2 1 2 3 0 0) 2 0x2F35B11E68D03, 3037 ∷ 2449 ∷ [])
+    ∷ (allSyndromes (sheet 12 3 2 1 2 3 0 0) (3037 ∷ []), 3037 ∷ 2449 ∷ [])
+    ∷ (allSyndromes (sheet 12 3 2 1 2 3 0 0) (oddSyndromes (sheet 12 3 2 1 2 3 0 0) 1 0x2F35B11E68D03), 3037 ∷ 2449 ∷ [])
+    ∷ (syndromes (sheet 12 8 3 28 32 39 58 0) 8 0x19F, 415 ∷ 1321 ∷ 1906 ∷ 878 ∷ 75 ∷ 1771 ∷ 2564 ∷ 1444 ∷ [])
+    ∷ (allSyndromes (sheet 12 8 3 28 32 39 58 0) (415 ∷ 1906 ∷ 75 ∷ 2564 ∷ []), 415 ∷ 1321 ∷ 1906 ∷ 878 ∷ 75 ∷ 1771 ∷ 2564 ∷ 1444 ∷ [])
+    ∷ (
+      allSyndromes (sheet 12 8 3 28 32 39 58 0) (oddSyndromes (sheet 12 8 3 28 32 39 58 0) 4 0x19F),
+      415 ∷ 1321 ∷ 1906 ∷ 878 ∷ 75 ∷ 1771 ∷ 2564 ∷ 1444 ∷ [],
+    )
+    ∷ (
+      map (λ x. sum (drop 1 (allSyndromes A (x ∷ [])))) (range 0 16),
+      0 ∷ 1 ∷ 4 ∷ 5 ∷ 3 ∷ 2 ∷ 7 ∷ 6 ∷ 12 ∷ 13 ∷ 8 ∷ 9 ∷ 15 ∷ 14 ∷ 11 ∷ 10 ∷ [],
+    )
+    ∷ []
+
+pub allByOdd-hold : map (λ r. r .0) allByOdd ≡ map (λ r. r .1) allByOdd
+unfolding allByOdd allSyndromes oddSyndromes syndromes range sum
+allByOdd-hold = refl
+
+-- Lists of no word: none, of any length, and numbers that are no elements, squared as polynomials.
+pub allOthers : List Row
+allOthers =
+    (allSyndromes A [], [])
+    ∷ (allSyndromes A (8 ∷ 2 ∷ 9 ∷ 0 ∷ 1 ∷ []), 8 ∷ 12 ∷ 2 ∷ 15 ∷ 9 ∷ 4 ∷ 0 ∷ 10 ∷ 1 ∷ 13 ∷ [])
+    ∷ (allSyndromes A (15 ∷ []), 15 ∷ 10 ∷ [])
+    ∷ (allSyndromes A (16 ∷ []), 16 ∷ 5 ∷ [])
+    ∷ (allSyndromes A (17 ∷ []), 17 ∷ 4 ∷ [])
+    ∷ (allSyndromes A (19 ∷ []), 19 ∷ 0 ∷ [])
+    ∷ (allSyndromes A (18 ∷ []), 18 ∷ 1 ∷ [])
+    ∷ (allSyndromes A (65535 ∷ []), 65535 ∷ 1 ∷ [])
+    ∷ (allSyndromes A (50805 ∷ 29544 ∷ 44890 ∷ 37607 ∷ []), 50805 ∷ 13 ∷ 29544 ∷ 14 ∷ 44890 ∷ 7 ∷ 37607 ∷ 11 ∷ [])
+    ∷ (allSyndromes A (0 ∷ 16 ∷ 0 ∷ 65535 ∷ 19 ∷ []), 0 ∷ 0 ∷ 16 ∷ 0 ∷ 0 ∷ 5 ∷ 65535 ∷ 0 ∷ 19 ∷ 0 ∷ [])
+    ∷ (allSyndromes A (18446744073709551615 ∷ 1 ∷ []), 18446744073709551615 ∷ 10 ∷ 1 ∷ 8 ∷ [])
+    ∷ (
+      allSyndromes (sheet 8 8 3 1 2 2 2 0) (208 ∷ 236 ∷ 179 ∷ 170 ∷ 95 ∷ []),
+      208 ∷ 195 ∷ 236 ∷ 219 ∷ 179 ∷ 250 ∷ 170 ∷ 134 ∷ 95 ∷ 127 ∷ [],
+    )
+    ∷ (allSyndromes (sheet 8 8 3 1 2 2 2 0) (255 ∷ []), 255 ∷ 226 ∷ [])
+    ∷ (allSyndromes (sheet 8 8 3 1 2 2 2 0) (256 ∷ []), 256 ∷ 76 ∷ [])
+    ∷ (allSyndromes (sheet 8 8 3 1 2 2 2 0) (257 ∷ []), 257 ∷ 77 ∷ [])
+    ∷ (allSyndromes (sheet 8 8 3 1 2 2 2 0) (285 ∷ []), 285 ∷ 0 ∷ [])
+    ∷ (allSyndromes (sheet 8 8 3 1 2 2 2 0) (284 ∷ []), 284 ∷ 1 ∷ [])
+    ∷ (allSyndromes (sheet 8 8 3 1 2 2 2 0) (65535 ∷ []), 65535 ∷ 44 ∷ [])
+    ∷ (
+      allSyndromes (sheet 8 8 3 1 2 2 2 0) (53251 ∷ 21340 ∷ 31592 ∷ 39131 ∷ []),
+      53251 ∷ 242 ∷ 21340 ∷ 179 ∷ 31592 ∷ 118 ∷ 39131 ∷ 127 ∷ [],
+    )
+    ∷ (allSyndromes (sheet 8 8 3 1 2 2 2 0) (0 ∷ 256 ∷ 0 ∷ 65535 ∷ 285 ∷ []), 0 ∷ 0 ∷ 256 ∷ 0 ∷ 0 ∷ 76 ∷ 65535 ∷ 0 ∷ 285 ∷ 0 ∷ [])
+    ∷ (allSyndromes (sheet 8 8 3 1 2 2 2 0) (18446744073709551615 ∷ 1 ∷ []), 18446744073709551615 ∷ 223 ∷ 1 ∷ 150 ∷ [])
+    ∷ (
+      allSyndromes (sheet 12 3 2 1 2 3 0 0) (2963 ∷ 3486 ∷ 2868 ∷ 1219 ∷ 3343 ∷ []),
+      2963 ∷ 2454 ∷ 3486 ∷ 3348 ∷ 2868 ∷ 3915 ∷ 1219 ∷ 3651 ∷ 3343 ∷ 3279 ∷ [],
+    )
+    ∷ (allSyndromes (sheet 12 3 2 1 2 3 0 0) (4095 ∷ []), 4095 ∷ 3978 ∷ [])
+    ∷ (allSyndromes (sheet 12 3 2 1 2 3 0 0) (4096 ∷ []), 4096 ∷ 342 ∷ [])
+    ∷ (allSyndromes (sheet 12 3 2 1 2 3 0 0) (4097 ∷ []), 4097 ∷ 343 ∷ [])
+    ∷ (allSyndromes (sheet 12 3 2 1 2 3 0 0) (4179 ∷ []), 4179 ∷ 0 ∷ [])
+    ∷ (allSyndromes (sheet 12 3 2 1 2 3 0 0) (4178 ∷ []), 4178 ∷ 1 ∷ [])
+    ∷ (allSyndromes (sheet 12 3 2 1 2 3 0 0) (65535 ∷ []), 65535 ∷ 2600 ∷ [])
+    ∷ (
+      allSyndromes (sheet 12 3 2 1 2 3 0 0) (50125 ∷ 29704 ∷ 54152 ∷ 20868 ∷ []),
+      50125 ∷ 321 ∷ 29704 ∷ 1378 ∷ 54152 ∷ 866 ∷ 20868 ∷ 888 ∷ [],
+    )
+    ∷ (allSyndromes (sheet 12 3 2 1 2 3 0 0) (0 ∷ 4096 ∷ 0 ∷ 65535 ∷ 4179 ∷ []), 0 ∷ 0 ∷ 4096 ∷ 0 ∷ 0 ∷ 342 ∷ 65535 ∷ 0 ∷ 4179 ∷ 0 ∷ [])
+    ∷ (allSyndromes (sheet 12 3 2 1 2 3 0 0) (18446744073709551615 ∷ 1 ∷ []), 18446744073709551615 ∷ 2780 ∷ 1 ∷ 3232 ∷ [])
+    ∷ []
+
+pub allOthers-hold : map (λ r. r .0) allOthers ≡ map (λ r. r .1) allOthers
+unfolding allOthers allSyndromes
+allOthers-hold = refl
+
+-- A nested word past 2t_0: the remainder by g_0 has its S_1 and another S_3, the short remainder its S_3 and another S_1.
+pub pastRemainders : List Row
+pastRemainders =
+    (nestedSyndromeList A (0x10 ∷ 0x00 ∷ 0x00 ∷ 0x00 ∷ []) 0, 3 ∷ 15 ∷ [])
+    ∷ (oddSyndromes A 2 (remainder A 0 (nested A 0 (wordsOf A (0x10 ∷ 0x00 ∷ 0x00 ∷ 0x00 ∷ [])))), 3 ∷ 9 ∷ [])
+    ∷ (oddSyndromes A 2 (shortRemainder A 0 (wordsOf A (0x10 ∷ 0x00 ∷ 0x00 ∷ 0x00 ∷ []))), 15 ∷ 15 ∷ [])
+    ∷ (allSyndromes A (nestedSyndromeList A (0x10 ∷ 0x00 ∷ 0x00 ∷ 0x00 ∷ []) 0), 3 ∷ 5 ∷ 15 ∷ 2 ∷ [])
+    ∷ (nestedSyndromeList A (0x96 ∷ 0x3C ∷ 0xE3 ∷ 0x4E ∷ []) 0, 13 ∷ 13 ∷ [])
+    ∷ (oddSyndromes A 2 (remainder A 0 (nested A 0 (wordsOf A (0x96 ∷ 0x3C ∷ 0xE3 ∷ 0x4E ∷ [])))), 13 ∷ 7 ∷ [])
+    ∷ (oddSyndromes A 2 (shortRemainder A 0 (wordsOf A (0x96 ∷ 0x3C ∷ 0xE3 ∷ 0x4E ∷ []))), 5 ∷ 13 ∷ [])
+    ∷ (allSyndromes A (nestedSyndromeList A (0x96 ∷ 0x3C ∷ 0xE3 ∷ 0x4E ∷ []) 0), 13 ∷ 14 ∷ 13 ∷ 11 ∷ [])
+    ∷ (nestedSyndromeList A (0x9A ∷ 0x16 ∷ 0xA7 ∷ 0x30 ∷ []) 0, 8 ∷ 13 ∷ [])
+    ∷ (oddSyndromes A 2 (remainder A 0 (nested A 0 (wordsOf A (0x9A ∷ 0x16 ∷ 0xA7 ∷ 0x30 ∷ [])))), 8 ∷ 10 ∷ [])
+    ∷ (oddSyndromes A 2 (shortRemainder A 0 (wordsOf A (0x9A ∷ 0x16 ∷ 0xA7 ∷ 0x30 ∷ []))), 5 ∷ 13 ∷ [])
+    ∷ (allSyndromes A (nestedSyndromeList A (0x9A ∷ 0x16 ∷ 0xA7 ∷ 0x30 ∷ []) 0), 8 ∷ 12 ∷ 13 ∷ 15 ∷ [])
+    ∷ []
+
+pub pastRemainders-hold : map (λ r. r .0) pastRemainders ≡ map (λ r. r .1) pastRemainders
+unfolding pastRemainders oddSyndromes allSyndromes nestedSyndromeList shortRemainder rem gen degree nested wordsOf pow xor
+pastRemainders-hold = refl
+
+-- All from the odd ones, refused: the numbers in their order; levels, and the lengths of both lists, of numbers and of bytes.
+pub allRefused : List Row
+allRefused = (
+  allRefusal 1 (sheet 5 2 1 1 2 0 0 4294967295) 9 99 99 ∷ allRefusal 1 (sheet 4 1 1 1 2 0 0 4294967295) 9 99 99
+      ∷ allRefusal 1 (sheet 4 2 1 2 2 0 0 4294967295) 9 99 99 ∷ allRefusal 1 (sheet 4 4 2 1 2 3 0 4294967295) 9 99 99
+      ∷ allRefusal 1 (sheet 4 2 1 1 2 0 0 7) 9 99 99 ∷ [],
+  1 ∷ 2 ∷ 3 ∷ 4 ∷ 14 ∷ [],
+)
+    ∷ (
+      allRefusal 1 A 2 99 99 ∷ allRefusal 1 A 1 99 99 ∷ allRefusal 1 A 1 2 99 ∷ allRefusal 1 A 1 99 4 ∷ allRefusal 1 A 1 2 4
+          ∷ allRefusal 1 A 2 2 4 ∷ allRefusal 1 A 2 99 4 ∷ allRefusal 1 A 2 2 99 ∷ [],
+      9 ∷ 10 ∷ 10 ∷ 10 ∷ 0 ∷ 9 ∷ 9 ∷ 9 ∷ [],
+    )
+    ∷ (
+      allRefusal 1 A 0 0 0 ∷ allRefusal 1 A 1 0 0 ∷ allRefusal 1 A 2 0 0 ∷ allRefusal 1 A 4 0 0 ∷ allRefusal 1 A 256 0 0
+          ∷ allRefusal 1 A 4294967295 0 0 ∷ allRefusal 1 B 0 0 0 ∷ allRefusal 1 B 2 0 0 ∷ allRefusal 1 B 3 0 0 ∷ allRefusal 1 B 4 0 0
+          ∷ allRefusal 1 B 256 0 0 ∷ allRefusal 1 B 4294967295 0 0 ∷ [],
+      10 ∷ 10 ∷ 9 ∷ 9 ∷ 9 ∷ 9 ∷ 10 ∷ 10 ∷ 9 ∷ 9 ∷ 9 ∷ 9 ∷ [],
+    )
+    ∷ (map (λ k. allRefusal 1 A 0 k 2) (0 ∷ 1 ∷ 2 ∷ 256 ∷ 18446744073709551615 ∷ []), 10 ∷ 0 ∷ 10 ∷ 10 ∷ 10 ∷ [])
+    ∷ (map (allRefusal 1 A 0 1) (0 ∷ 1 ∷ 2 ∷ 3 ∷ 4 ∷ 256 ∷ 18446744073709551615 ∷ []), 10 ∷ 10 ∷ 0 ∷ 10 ∷ 10 ∷ 10 ∷ 10 ∷ [])
+    ∷ (map (λ k. allRefusal 1 A 1 k 4) (0 ∷ 1 ∷ 2 ∷ 3 ∷ 4 ∷ 256 ∷ 18446744073709551615 ∷ []), 10 ∷ 10 ∷ 0 ∷ 10 ∷ 10 ∷ 10 ∷ 10 ∷ [])
+    ∷ (map (allRefusal 1 A 1 2) (0 ∷ 2 ∷ 3 ∷ 4 ∷ 5 ∷ 8 ∷ 256 ∷ 18446744073709551615 ∷ []), 10 ∷ 10 ∷ 10 ∷ 0 ∷ 10 ∷ 10 ∷ 10 ∷ 10 ∷ [])
+    ∷ (map (λ k. allRefusal 1 B 1 k 4) (0 ∷ 1 ∷ 2 ∷ 3 ∷ 4 ∷ 256 ∷ 18446744073709551615 ∷ []), 10 ∷ 10 ∷ 0 ∷ 10 ∷ 10 ∷ 10 ∷ 10 ∷ [])
+    ∷ (map (allRefusal 1 B 1 2) (0 ∷ 2 ∷ 3 ∷ 4 ∷ 5 ∷ 8 ∷ 256 ∷ 18446744073709551615 ∷ []), 10 ∷ 10 ∷ 10 ∷ 0 ∷ 10 ∷ 10 ∷ 10 ∷ 10 ∷ [])
+    ∷ (
+      map (λ k. allRefusal 1 (sheet 4 2 1 3 7 0 0 0) 0 k 6) (0 ∷ 2 ∷ 3 ∷ 4 ∷ 6 ∷ 256 ∷ 18446744073709551615 ∷ []),
+      10 ∷ 10 ∷ 0 ∷ 10 ∷ 10 ∷ 10 ∷ 10 ∷ [],
+    )
+    ∷ (
+      map (allRefusal 1 (sheet 4 2 1 3 7 0 0 0) 0 3) (0 ∷ 3 ∷ 5 ∷ 6 ∷ 7 ∷ 12 ∷ 256 ∷ 18446744073709551615 ∷ []),
+      10 ∷ 10 ∷ 10 ∷ 0 ∷ 10 ∷ 10 ∷ 10 ∷ 10 ∷ [],
+    )
+    ∷ (
+      map (λ k. allRefusal 1 (sheet 4 5 3 1 2 2 2 4) 3 k 4) (0 ∷ 1 ∷ 2 ∷ 3 ∷ 4 ∷ 256 ∷ 18446744073709551615 ∷ []),
+      10 ∷ 10 ∷ 0 ∷ 10 ∷ 10 ∷ 10 ∷ 10 ∷ [],
+    )
+    ∷ (
+      map (allRefusal 1 (sheet 4 5 3 1 2 2 2 4) 3 2) (0 ∷ 2 ∷ 3 ∷ 4 ∷ 5 ∷ 8 ∷ 256 ∷ 18446744073709551615 ∷ []),
+      10 ∷ 10 ∷ 10 ∷ 0 ∷ 10 ∷ 10 ∷ 10 ∷ 10 ∷ [],
+    )
+    ∷ (
+      map (λ k. allRefusal 1 (sheet 8 8 3 1 2 2 2 0) 3 k 4) (0 ∷ 1 ∷ 2 ∷ 3 ∷ 4 ∷ 256 ∷ 18446744073709551615 ∷ []),
+      10 ∷ 10 ∷ 0 ∷ 10 ∷ 10 ∷ 10 ∷ 10 ∷ [],
+    )
+    ∷ (
+      map (allRefusal 1 (sheet 8 8 3 1 2 2 2 0) 3 2) (0 ∷ 2 ∷ 3 ∷ 4 ∷ 5 ∷ 8 ∷ 256 ∷ 18446744073709551615 ∷ []),
+      10 ∷ 10 ∷ 10 ∷ 0 ∷ 10 ∷ 10 ∷ 10 ∷ 10 ∷ [],
+    )
+    ∷ (
+      map (λ k. allRefusal 1 (sheet 12 3 2 1 2 3 0 0) 2 k 6) (0 ∷ 1 ∷ 2 ∷ 3 ∷ 4 ∷ 6 ∷ 256 ∷ 18446744073709551615 ∷ []),
+      10 ∷ 10 ∷ 10 ∷ 0 ∷ 10 ∷ 10 ∷ 10 ∷ 10 ∷ [],
+    )
+    ∷ (
+      map (allRefusal 1 (sheet 12 3 2 1 2 3 0 0) 2 3) (0 ∷ 2 ∷ 3 ∷ 5 ∷ 6 ∷ 7 ∷ 12 ∷ 256 ∷ 18446744073709551615 ∷ []),
+      10 ∷ 10 ∷ 10 ∷ 10 ∷ 0 ∷ 10 ∷ 10 ∷ 10 ∷ 10 ∷ [],
+    )
+    ∷ (
+      allRefusal 2 (sheet 5 2 1 1 2 0 0 4294967295) 9 99 99 ∷ allRefusal 2 (sheet 4 1 1 1 2 0 0 4294967295) 9 99 99
+          ∷ allRefusal 2 (sheet 4 2 1 2 2 0 0 4294967295) 9 99 99 ∷ allRefusal 2 (sheet 4 4 2 1 2 3 0 4294967295) 9 99 99
+          ∷ allRefusal 2 (sheet 4 2 1 1 2 0 0 7) 9 99 99 ∷ [],
+      1 ∷ 2 ∷ 3 ∷ 4 ∷ 14 ∷ [],
+    )
+    ∷ (
+      allRefusal 2 A 2 99 99 ∷ allRefusal 2 A 1 99 99 ∷ allRefusal 2 A 1 4 99 ∷ allRefusal 2 A 1 99 8 ∷ allRefusal 2 A 1 4 8
+          ∷ allRefusal 2 A 2 4 8 ∷ allRefusal 2 A 2 99 8 ∷ allRefusal 2 A 2 4 99 ∷ [],
+      9 ∷ 10 ∷ 10 ∷ 10 ∷ 0 ∷ 9 ∷ 9 ∷ 9 ∷ [],
+    )
+    ∷ (
+      allRefusal 2 A 0 0 0 ∷ allRefusal 2 A 1 0 0 ∷ allRefusal 2 A 2 0 0 ∷ allRefusal 2 A 4 0 0 ∷ allRefusal 2 A 256 0 0
+          ∷ allRefusal 2 A 4294967295 0 0 ∷ allRefusal 2 B 0 0 0 ∷ allRefusal 2 B 2 0 0 ∷ allRefusal 2 B 3 0 0 ∷ allRefusal 2 B 4 0 0
+          ∷ allRefusal 2 B 256 0 0 ∷ allRefusal 2 B 4294967295 0 0 ∷ [],
+      10 ∷ 10 ∷ 9 ∷ 9 ∷ 9 ∷ 9 ∷ 10 ∷ 10 ∷ 9 ∷ 9 ∷ 9 ∷ 9 ∷ [],
+    )
+    ∷ (map (λ k. allRefusal 2 A 0 k 4) (0 ∷ 1 ∷ 2 ∷ 3 ∷ 4 ∷ 256 ∷ 18446744073709551615 ∷ []), 10 ∷ 10 ∷ 0 ∷ 10 ∷ 10 ∷ 10 ∷ 10 ∷ [])
+    ∷ (map (allRefusal 2 A 0 2) (0 ∷ 2 ∷ 3 ∷ 4 ∷ 5 ∷ 8 ∷ 256 ∷ 18446744073709551615 ∷ []), 10 ∷ 10 ∷ 10 ∷ 0 ∷ 10 ∷ 10 ∷ 10 ∷ 10 ∷ [])
+    ∷ (map (λ k. allRefusal 2 A 1 k 8) (0 ∷ 2 ∷ 3 ∷ 4 ∷ 5 ∷ 8 ∷ 256 ∷ 18446744073709551615 ∷ []), 10 ∷ 10 ∷ 10 ∷ 0 ∷ 10 ∷ 10 ∷ 10 ∷ 10 ∷ [])
+    ∷ (map (allRefusal 2 A 1 4) (0 ∷ 4 ∷ 7 ∷ 8 ∷ 9 ∷ 16 ∷ 256 ∷ 18446744073709551615 ∷ []), 10 ∷ 10 ∷ 10 ∷ 0 ∷ 10 ∷ 10 ∷ 10 ∷ 10 ∷ [])
+    ∷ (map (λ k. allRefusal 2 B 1 k 8) (0 ∷ 2 ∷ 3 ∷ 4 ∷ 5 ∷ 8 ∷ 256 ∷ 18446744073709551615 ∷ []), 10 ∷ 10 ∷ 10 ∷ 0 ∷ 10 ∷ 10 ∷ 10 ∷ 10 ∷ [])
+    ∷ (map (allRefusal 2 B 1 4) (0 ∷ 4 ∷ 7 ∷ 8 ∷ 9 ∷ 16 ∷ 256 ∷ 18446744073709551615 ∷ []), 10 ∷ 10 ∷ 10 ∷ 0 ∷ 10 ∷ 10 ∷ 10 ∷ 10 ∷ [])
+    ∷ (
+      map (λ k. allRefusal 2 (sheet 4 2 1 3 7 0 0 0) 0 k 12) (0 ∷ 3 ∷ 5 ∷ 6 ∷ 7 ∷ 12 ∷ 256 ∷ 18446744073709551615 ∷ []),
+      10 ∷ 10 ∷ 10 ∷ 0 ∷ 10 ∷ 10 ∷ 10 ∷ 10 ∷ [],
+    )
+    ∷ (
+      map (allRefusal 2 (sheet 4 2 1 3 7 0 0 0) 0 6) (0 ∷ 6 ∷ 11 ∷ 12 ∷ 13 ∷ 24 ∷ 256 ∷ 18446744073709551615 ∷ []),
+      10 ∷ 10 ∷ 10 ∷ 0 ∷ 10 ∷ 10 ∷ 10 ∷ 10 ∷ [],
+    )
+    ∷ (
+      map (λ k. allRefusal 2 (sheet 4 5 3 1 2 2 2 4) 3 k 8) (0 ∷ 2 ∷ 3 ∷ 4 ∷ 5 ∷ 8 ∷ 256 ∷ 18446744073709551615 ∷ []),
+      10 ∷ 10 ∷ 10 ∷ 0 ∷ 10 ∷ 10 ∷ 10 ∷ 10 ∷ [],
+    )
+    ∷ (
+      map (allRefusal 2 (sheet 4 5 3 1 2 2 2 4) 3 4) (0 ∷ 4 ∷ 7 ∷ 8 ∷ 9 ∷ 16 ∷ 256 ∷ 18446744073709551615 ∷ []),
+      10 ∷ 10 ∷ 10 ∷ 0 ∷ 10 ∷ 10 ∷ 10 ∷ 10 ∷ [],
+    )
+    ∷ (
+      map (λ k. allRefusal 2 (sheet 8 8 3 1 2 2 2 0) 3 k 8) (0 ∷ 2 ∷ 3 ∷ 4 ∷ 5 ∷ 8 ∷ 256 ∷ 18446744073709551615 ∷ []),
+      10 ∷ 10 ∷ 10 ∷ 0 ∷ 10 ∷ 10 ∷ 10 ∷ 10 ∷ [],
+    )
+    ∷ (
+      map (allRefusal 2 (sheet 8 8 3 1 2 2 2 0) 3 4) (0 ∷ 4 ∷ 7 ∷ 8 ∷ 9 ∷ 16 ∷ 256 ∷ 18446744073709551615 ∷ []),
+      10 ∷ 10 ∷ 10 ∷ 0 ∷ 10 ∷ 10 ∷ 10 ∷ 10 ∷ [],
+    )
+    ∷ (
+      map (λ k. allRefusal 2 (sheet 12 3 2 1 2 3 0 0) 2 k 12) (0 ∷ 2 ∷ 3 ∷ 4 ∷ 5 ∷ 6 ∷ 7 ∷ 12 ∷ 256 ∷ 18446744073709551615 ∷ []),
+      10 ∷ 10 ∷ 10 ∷ 10 ∷ 10 ∷ 0 ∷ 10 ∷ 10 ∷ 10 ∷ 10 ∷ [],
+    )
+    ∷ (
+      map (allRefusal 2 (sheet 12 3 2 1 2 3 0 0) 2 6) (0 ∷ 4 ∷ 6 ∷ 11 ∷ 12 ∷ 13 ∷ 24 ∷ 256 ∷ 18446744073709551615 ∷ []),
+      10 ∷ 10 ∷ 10 ∷ 10 ∷ 0 ∷ 10 ∷ 10 ∷ 10 ∷ 10 ∷ [],
+    )
+    ∷ []
+
+pub allRefused-hold : map (λ r. r .0) allRefused ≡ map (λ r. r .1) allRefused
+unfolding allRefused allRefusal
+allRefused-hold = refl
+
+-- The call: the number, then what it leaves in the list.
+pub allMade : List Row
+allMade =
+    (all A 0 (4 ∷ []) (258 ∷ 259 ∷ []), 0 ∷ 4 ∷ 3 ∷ [])
+    ∷ (all A 1 (0 ∷ 11 ∷ []) (258 ∷ 259 ∷ 260 ∷ 261 ∷ []), 0 ∷ 0 ∷ 0 ∷ 11 ∷ 0 ∷ [])
+    ∷ (all B 0 (4 ∷ []) (258 ∷ 259 ∷ []), 0 ∷ 4 ∷ 3 ∷ [])
+    ∷ (all B 1 (7 ∷ 8 ∷ []) (258 ∷ 259 ∷ 260 ∷ 261 ∷ []), 0 ∷ 7 ∷ 6 ∷ 8 ∷ 7 ∷ [])
+    ∷ (all B 2 (6 ∷ 11 ∷ 7 ∷ []) (258 ∷ 259 ∷ 260 ∷ 261 ∷ 262 ∷ 263 ∷ []), 0 ∷ 6 ∷ 7 ∷ 11 ∷ 6 ∷ 7 ∷ 9 ∷ [])
+    ∷ (all (sheet 4 2 1 3 7 0 0 0) 0 (1 ∷ 9 ∷ 0 ∷ []) (258 ∷ 259 ∷ 260 ∷ 261 ∷ 262 ∷ 263 ∷ []), 0 ∷ 1 ∷ 1 ∷ 9 ∷ 1 ∷ 0 ∷ 13 ∷ [])
+    ∷ (
+      all (sheet 4 2 1 3 7 0 0 0) 1 (9 ∷ 8 ∷ 1 ∷ 7 ∷ 10 ∷ 6 ∷ 7 ∷ []) (258 ∷ 259 ∷ 260 ∷ 261 ∷ 262 ∷ 263 ∷ 264 ∷ 265 ∷ 266 ∷ 267 ∷ 268
+          ∷ 269 ∷ 270 ∷ 271 ∷ []),
+      0 ∷ 9 ∷ 13 ∷ 8 ∷ 14 ∷ 1 ∷ 12 ∷ 7 ∷ 11 ∷ 10 ∷ 1 ∷ 6 ∷ 15 ∷ 7 ∷ 6 ∷ [],
+    )
+    ∷ (all (sheet 4 5 3 1 2 2 2 4) 0 (7 ∷ []) (258 ∷ 259 ∷ []), 0 ∷ 7 ∷ 6 ∷ [])
+    ∷ (all (sheet 4 5 3 1 2 2 2 4) 1 (2 ∷ 9 ∷ []) (258 ∷ 259 ∷ 260 ∷ 261 ∷ []), 0 ∷ 2 ∷ 4 ∷ 9 ∷ 3 ∷ [])
+    ∷ (all (sheet 4 5 3 1 2 2 2 4) 2 (14 ∷ 4 ∷ []) (258 ∷ 259 ∷ 260 ∷ 261 ∷ []), 0 ∷ 14 ∷ 11 ∷ 4 ∷ 9 ∷ [])
+    ∷ (all (sheet 4 5 3 1 2 2 2 4) 3 (3 ∷ 13 ∷ []) (258 ∷ 259 ∷ 260 ∷ 261 ∷ []), 0 ∷ 3 ∷ 5 ∷ 13 ∷ 2 ∷ [])
+    ∷ (all (sheet 8 8 3 1 2 2 2 0) 0 (117 ∷ []) (258 ∷ 259 ∷ []), 0 ∷ 117 ∷ 181 ∷ [])
+    ∷ (all (sheet 8 8 3 1 2 2 2 0) 1 (148 ∷ 99 ∷ []) (258 ∷ 259 ∷ 260 ∷ 261 ∷ []), 0 ∷ 148 ∷ 30 ∷ 99 ∷ 73 ∷ [])
+    ∷ (all (sheet 8 8 3 1 2 2 2 0) 2 (119 ∷ 36 ∷ []) (258 ∷ 259 ∷ 260 ∷ 261 ∷ []), 0 ∷ 119 ∷ 177 ∷ 36 ∷ 123 ∷ [])
+    ∷ (all (sheet 8 8 3 1 2 2 2 0) 3 (73 ∷ 86 ∷ []) (258 ∷ 259 ∷ 260 ∷ 261 ∷ []), 0 ∷ 73 ∷ 140 ∷ 86 ∷ 67 ∷ [])
+    ∷ (all (sheet 12 3 2 1 2 3 0 0) 0 (2618 ∷ []) (258 ∷ 259 ∷ []), 0 ∷ 2618 ∷ 2475 ∷ [])
+    ∷ (all (sheet 12 3 2 1 2 3 0 0) 1 (627 ∷ 1253 ∷ []) (258 ∷ 259 ∷ 260 ∷ 261 ∷ []), 0 ∷ 627 ∷ 453 ∷ 1253 ∷ 1086 ∷ [])
+    ∷ (
+      all (sheet 12 3 2 1 2 3 0 0) 2 (512 ∷ 1562 ∷ 901 ∷ []) (258 ∷ 259 ∷ 260 ∷ 261 ∷ 262 ∷ 263 ∷ []),
+      0 ∷ 512 ∷ 1171 ∷ 1562 ∷ 598 ∷ 901 ∷ 1992 ∷ [],
+    )
+    ∷ (all B 1 (65535 ∷ 19 ∷ []) (258 ∷ 259 ∷ 260 ∷ 261 ∷ []), 0 ∷ 65535 ∷ 1 ∷ 19 ∷ 1 ∷ [])
+    ∷ (all A 2 (1 ∷ []) (258 ∷ 259 ∷ []), 9 ∷ 258 ∷ 259 ∷ [])
+    ∷ (all A 1 (1 ∷ []) (258 ∷ 259 ∷ []), 10 ∷ 258 ∷ 259 ∷ [])
+    ∷ (all A 1 (1 ∷ []) (258 ∷ 259 ∷ 260 ∷ 261 ∷ []), 10 ∷ 258 ∷ 259 ∷ 260 ∷ 261 ∷ [])
+    ∷ (all A 0 (1 ∷ []) (258 ∷ 259 ∷ 260 ∷ 261 ∷ []), 10 ∷ 258 ∷ 259 ∷ 260 ∷ 261 ∷ [])
+    ∷ (all A 0 [] [], 10 ∷ [])
+    ∷ (all A 0 (1 ∷ 2 ∷ []) (258 ∷ 259 ∷ []), 10 ∷ 258 ∷ 259 ∷ [])
+    ∷ (all A 0 (1 ∷ []) (258 ∷ []), 10 ∷ 258 ∷ [])
+    ∷ (all A 0 (1 ∷ []) (258 ∷ 259 ∷ 260 ∷ []), 10 ∷ 258 ∷ 259 ∷ 260 ∷ [])
+    ∷ (all (sheet 4 4 2 1 2 3 0 0) 0 (1 ∷ []) (258 ∷ 259 ∷ []), 4 ∷ 258 ∷ 259 ∷ [])
+    ∷ (all (sheet 4 2 1 1 2 0 0 7) 0 (1 ∷ []) (258 ∷ 259 ∷ []), 14 ∷ 258 ∷ 259 ∷ [])
+    ∷ []
+
+pub allMade-hold : map (λ r. r .0) allMade ≡ map (λ r. r .1) allMade
+unfolding allMade allRefusal allSyndromes
+allMade-hold = refl
+
+-- In C's bytes.
+pub allBytes : List Row
+allBytes =
+    (asBytes (allSyndromes A (asNumbers (0x0F ∷ 0x00 ∷ 0x09 ∷ 0x00 ∷ []))), 0x0F ∷ 0x00 ∷ 0x0A ∷ 0x00 ∷ 0x09 ∷ 0x00 ∷ 0x08 ∷ 0x00 ∷ [])
+    ∷ (
+      asBytes (allSyndromes (sheet 8 8 3 1 2 2 2 0) (asNumbers (0x6A ∷ 0x00 ∷ 0x05 ∷ 0x00 ∷ []))),
+      0x6A ∷ 0x00 ∷ 0xFD ∷ 0x00 ∷ 0x05 ∷ 0x00 ∷ 0xE6 ∷ 0x00 ∷ [],
+    )
+    ∷ (
+      asBytes (allSyndromes (sheet 12 3 2 1 2 3 0 0) (asNumbers (0x4C ∷ 0x02 ∷ 0x44 ∷ 0x08 ∷ 0x0E ∷ 0x0D ∷ []))),
+      0x4C ∷ 0x02 ∷ 0x90 ∷ 0x04 ∷ 0x44 ∷ 0x08 ∷ 0x53 ∷ 0x02 ∷ 0x0E ∷ 0x0D ∷ 0x3F ∷ 0x08 ∷ [],
+    )
+    ∷ []
+
+pub allBytes-hold : map (λ r. r .0) allBytes ≡ map (λ r. r .1) allBytes
+unfolding allBytes allSyndromes asBytes asNumbers
+allBytes-hold = refl

@@ -6,15 +6,17 @@
 --   many p L c b x    what a write of c pages lists, then what it leaves in the pages x
 --   alter p x i r b   what refuses bit r of block i made b, or 0, then what that leaves in the page x
 --   mend p x i l n    what refuses the mending of sub-word i, or 0, then what that leaves in the page x, the list l and the number n
+--   all p a l x       what refuses all syndromes of level a from the odd ones l, or 0, then what that leaves in the list x
 use mathlib.Core.List.{List, [], _∷_, _++_}
 use Prim.Native.Nat.{ℕ}
 use lib.ListN.{length, replicate}
 use Rattle.code.specs.declared.Parameters.{Parameters}
 use Rattle.code.specs.Register.{Register}
 use Rattle.code.specs.Calls.{leaves, pagesBy, placesOf, statuses, writeLeaves}
+use Rattle.code.specs.Code.{allSyndromes}
 use Rattle.code.specs.Layout.{altered, flipped, placeList}
 use Rattle.code.specs.Parameters.{sheet, strength}
-use Rattle.code.specs.Refusals.{alterRefusal, mendRefusal}
+use Rattle.code.specs.Refusals.{allRefusal, alterRefusal, mendRefusal}
 
 abbrev pub Row : Type 0
 Row = List ℕ × List ℕ
@@ -44,3 +46,6 @@ mendBy p x i l n k R =
 
 abbrev pub mend : Parameters → List ℕ → ℕ → List ℕ → ℕ → List ℕ
 mend p x i l n = mendBy p x i l n (mendRefusal 1 p x i (length l)) (placesOf p x i)
+
+abbrev pub all : Parameters → ℕ → List ℕ → List ℕ → List ℕ
+all p a l x = allRefusal 1 p a (length l) (length x) ∷ leaves (allRefusal 1 p a (length l) (length x)) (allSyndromes p l) x

@@ -8,7 +8,7 @@ use Rattle.field.specs.Field.{pow}
 use Rattle.field.specs.Fields.{fieldOf}
 use Rattle.generator.specs.Generator.{generator, width}
 use Rattle.code.specs.Parameters.{sheet, sheetRefusal}
-use Rattle.code.specs.Code.{syndromes}
+use Rattle.code.specs.Code.{allSyndromes, oddSyndromes, syndromes}
 use Rattle.code.specs.Refusals.{writeRefusal}
 use Rattle.code.specs.Layout.{pageOf}
 use Rattle.code.specs.Calls.{verdictNumber, judgeAnswer, quote}
@@ -29,6 +29,8 @@ table =
     ∷ (verdictNumber (judgeAnswer A (0x01 ∷ 0x00 ∷ 0x00 ∷ 0x00 ∷ [])) ∷ [], 32 ∷ [])
     ∷ (verdictNumber (judgeAnswer A (0x13 ∷ 0x00 ∷ 0x00 ∷ 0x00 ∷ [])) ∷ [], 64 ∷ [])
     ∷ (syndromes A 4 (value 8 (0x02 ∷ 0x00 ∷ [])), 2 ∷ 4 ∷ 8 ∷ 3 ∷ [])
+    ∷ (oddSyndromes A 2 (value 8 (0x02 ∷ 0x00 ∷ [])), 2 ∷ 8 ∷ [])
+    ∷ (allSyndromes A (2 ∷ 8 ∷ []), 2 ∷ 4 ∷ 8 ∷ 3 ∷ [])
     ∷ (sheetRefusal (sheet 4 4 2 1 2 3 0 0) ∷ [], 4 ∷ [])
     ∷ (sheetRefusal (sheet 4 4 2 1 2 2 0 0) ∷ [], 0 ∷ [])
     ∷ (sheetRefusal (sheet 8 4 1 1 42 0 0 0) ∷ [], 0 ∷ [])
@@ -38,7 +40,7 @@ table =
     ∷ []
 
 pub starred : map (λ r. r .0) table ≡ map (λ r. r .1) table
-unfolding table value generator fieldOf pow writeRefusal pageOf judgeAnswer syndromes sheetRefusal writer
+unfolding table value generator fieldOf pow writeRefusal pageOf judgeAnswer syndromes oddSyndromes allSyndromes sheetRefusal writer
 starred = refl
 
 -- ---- check and data bits

@@ -177,10 +177,17 @@ fn nested_word(p: Parameters, l: usize, page: &[u8]) {
     end();
 }
 
-fn nested_syndromes(p: Parameters, l: usize, page: &[u8]) {
+// Of nested word l of that level: the odd ones, and all from these.
+fn nested_syndromes(p: Parameters, l: usize, level: u32, page: &[u8]) {
     given(b"syndromes of nested word", l as u64, page);
+    let mut odd = [0u16; 2];
+    let r = oneword::nested_syndromes(p, page, l, &mut odd);
+    outcome(r);
+    numbers(&odd);
+    end();
+    given(b"all syndromes of nested word", l as u64, page);
     let mut list = [0u16; 4];
-    let r = oneword::nested_syndromes(p, page, l, &mut list);
+    let r = oneword::all_syndromes(p, level, &odd, &mut list);
     outcome(r);
     numbers(&list);
     end();
@@ -195,7 +202,7 @@ fn short_remainder(p: Parameters, page: &[u8]) {
     let rest = [out[0], out[1], 0, 0];
     bytes(&rest);
     end();
-    nested_syndromes(p, 0, &rest);
+    nested_syndromes(p, 0, 1, &rest);
 }
 
 // ---- the counter
@@ -306,10 +313,10 @@ fn powers() {
     nested_word(A, 0, &page);
 }
 
-// S_4 is not that of the short remainder: alpha^4 is a root of g_0, and no root of g_1 / g_0.
+// S_1 and S_4 are not those of the short remainder: alpha and alpha^4 are roots of g_0, and no roots of g_1 / g_0.
 fn past_short() {
     let page = [0x10, 0x00, 0x00, 0x00];
-    nested_syndromes(A, 0, &page);
+    nested_syndromes(A, 0, 1, &page);
     short_remainder(A, &page);
 }
 

@@ -1,16 +1,12 @@
 -- One coefficient of a member flipped, and the sub-word mended.
 --   struck p z i e    the page z with the coefficient of x^e of sub-word i flipped
-use mathlib.Core.Path.{_≡_, refl, sym, ap, ap₂, _∙_}
-use mathlib.Core.Bool.{not}
-use mathlib.Core.Logic.{_≢_}
+use mathlib.Core.Path.{_≡_, refl, sym, ap, _∙_}
 use mathlib.Core.List.{List, [], _∷_}
 use Prim.Native.Nat.{ℕ, _^_, _<_, zero-le}
 use native.Mathlib.Nat as Nat
-use lib.Dec.{eqb}
 use lib.ListN.{length}
-use Rattle.polynomial.specs.Bits.{coefficient}
-use Rattle.polynomial.specs.Xor.{xor, xor-cancel, xor-comm, xor-self, xor-zero-r}
-use Rattle.field.specs.Bch.{weight, weight-zero}
+use Rattle.polynomial.specs.Xor.{xor, xor-cancel, xor-comm, xor-zero-r}
+use Rattle.field.specs.Bch.{weight}
 use Rattle.field.specs.Flips.{Rising, flips, flips-cons, flips-nil, weight-pow}
 use Rattle.code.specs.declared.Outcome.{Outcome}
 use Rattle.code.specs.declared.Parameters.{Parameters}
@@ -19,15 +15,11 @@ use Rattle.code.specs.Accepted.{Rules, accepted}
 use Rattle.code.specs.Answers.{judged}
 use Rattle.code.specs.Calls.{Mended, Written, judgeAnswer, subWordOf}
 use Rattle.code.specs.Demands.{Damaged, MendLent, WriteLaws}
-use Rattle.code.specs.Layout.{IsPage, coefficientOf, differences, flipped, wordsOf}
-use Rattle.code.specs.Lists.{countBelow}
+use Rattle.code.specs.Layout.{IsPage, differences, flipped}
 use Rattle.code.specs.Mend.{flipped-else, flipped-here, flipped-page, flipped-stay}
-use Rattle.code.specs.Pages.{word-lt}
 use Rattle.code.specs.Parameters.{Accepted, stored, strength}
-use Rattle.code.specs.Placement.{sub-word-bit}
-use Rattle.code.specs.Places.{addBelow-ext, addBelow-single, countBelow-ext, differing, words-differ}
 use Rattle.code.specs.Refused.{PageBuffer, Width}
-use Rattle.code.specs.Theorems.{demands}
+use Rattle.code.specs.Theorems.{damage, demands}
 use Rattle.layout.specs.Written.{written}
 use Rattle.mend.specs.Call.{written-flipped}
 use Rattle.gate_rounds.specs.Apt.{Apt}
@@ -63,22 +55,8 @@ module _ (p : Parameters) (A : Accepted p) (z : List ℕ) (u : IsPage p z) (i : 
       ap (λ (c : ℕ). xor c (subWordOf p z i)) (flipped-here p R z u i li Q rises)
       ∙ xor-comm (xor (subWordOf p z i) (flips Q)) (subWordOf p z i) ∙ xor-cancel (subWordOf p z i) (flips Q) ∙ one
 
-  none : (j : ℕ) → j < p .m → j ≢ i → differing (stored p) (wordsOf p x) (wordsOf p z) j ≡ 0
-  none j h n =
-      words-differ (stored p) (subWordOf p x j) (subWordOf p z j) (word-lt p R x page j h) (word-lt p R z u j h)
-      ∙ ap (λ (c : ℕ). weight (xor c (subWordOf p z j))) (flipped-else p R z u i li Q rises j n) ∙ ap weight (xor-self (subWordOf p z j)) ∙ weight-zero
-
   differ : differences p x z ≡ 1
-  unfolding differences
-  differ =
-      addBelow-ext (p .m) (λ i. countBelow (stored p) (λ k. not (eqb (coefficientOf p x i k) (coefficientOf p z i k))))
-      (differing (stored p) (wordsOf p x) (wordsOf p z))
-      (λ i b. countBelow-ext (stored p) (λ k. not (eqb (coefficientOf p x i k) (coefficientOf p z i k)))
-      (λ k. not (eqb (coefficient (subWordOf p x i) k) (coefficient (subWordOf p z i) k)))
-      (λ k c. ap₂ (λ (s t : ℕ). not (eqb s t)) (sym (sub-word-bit p R x (page .bytes) i k b c)) (sym (sub-word-bit p R z (u .bytes) i k b c))))
-      ∙ addBelow-single (p .m) i (differing (stored p) (wordsOf p x) (wordsOf p z)) li none
-      ∙ words-differ (stored p) (subWordOf p x i) (subWordOf p z i) (word-lt p R x page i li) (word-lt p R z u i li)
-      ∙ ap weight here ∙ weight-pow e
+  differ = damage p A z x i page li u (λ j h n. sym (flipped-else p R z u i li Q rises j n)) ∙ ap weight here ∙ weight-pow e
 
   damaged : Damaged p z x i
   damaged = record { elsewhere = λ j h n. flipped-stay p R z u i li Q rises j h n; few = rw differ (R .t-low) }

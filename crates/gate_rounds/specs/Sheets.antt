@@ -1,6 +1,6 @@
 -- The sheets, blocks and pages that the program takes: accepted, fitting, pages of their sheets, members or not. All by computation.
 --   areBytes l    is every element a byte?
---   long q        the sheet of q with m = 2, v = 1, t 1, 2: blocks and pages are one byte repeated
+--   long q        the sheet of q with m = 2, v = 1, t 1, 2: blocks and pages are one byte repeated, but for page-12
 --   short         sheet A with s = 3; short-8 is long 8 with s = 231
 use mathlib.Core.Path.{_≡_, refl}
 use mathlib.Core.Bool.{Bool, true, false, _&&_}
@@ -172,11 +172,12 @@ pub three-12 : Three (long 12) (replicate 1020 0x06) (replicate 1020 0x02)
 unfolding xor
 three-12 = three (long 12) accepted-12 (replicate 1020 0x06) (replicate 1020 0x02) fits-12 fits-other-12 refl refl refl
 
-pub page-12 : IsPage (long 12) (replicate 1024 0x01)
+-- a single coefficient, so that no long remainder is computed
+pub page-12 : IsPage (long 12) (0x01 ∷ replicate 1023 0x00)
 unfolding pageClear
-page-12 = page (long 12) (replicate 1024 0x01) tt refl tt
+page-12 = page (long 12) (0x01 ∷ replicate 1023 0x00) tt refl tt
 
-pub damaged-12 : isMember (judgeAnswer (long 12) (replicate 1024 0x01)) ≡ false
+pub damaged-12 : isMember (judgeAnswer (long 12) (0x01 ∷ replicate 1023 0x00)) ≡ false
 unfolding judgeAnswer pow
 damaged-12 = refl
 

@@ -795,8 +795,9 @@ fn main() {
     };
     let a = [0x06u8; 1020];
     let b = [0x02u8; 1020];
-    let x = [0x01u8; 1024];
+    let mut x = [0x00u8; 1024];
     let e = [0xffu8; 1024];
+    x[0] = 0x01;
     check::expect(!holds(p, &a, &b, &x));
     erased_rooms(p, &e, 1020);
     // sheet A with s 3: a member, and its erased page, whose blocks are written and make another page

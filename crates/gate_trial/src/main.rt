@@ -3,7 +3,8 @@
 //            count (eight bytes each), s (four); then the page's bytes, for a writing the blocks', for a feeding the register's 96.
 //            A writing of many pages has their number in count, the length of all in the buffer's length, and the list's in u; an alteration
 //            the block and the bit in the lower and the upper four bytes of u, and the value in count; a mending the sub-word in u, the
-//            list's length in the buffer's length, and what the number of flips is before the call in count
+//            list's length in the buffer's length, and what the number of flips is before the call in count; all syndromes from the odd
+//            ones the level in u, and in the page's bytes the odd ones, two each
 //   answer   the refusal's number or 0, then what the call gives, and the lent buffer whole, of many pages that and the list, of an
 //            alteration the page, of a mending the page, the list and the number of flips;
 //            of a verdict 0, 32 or 64, then the word's index; 96 for blank
@@ -172,6 +173,18 @@ fn words_of(b: &[u8]) -> [u64; 12] {
     r
 }
 
+// Numbers of two bytes each.
+fn take_pairs(b: &[u8], list: &mut [u16]) {
+    let count = b.len() / 2;
+    let mut k: usize = 0;
+    while k < count && k < list.len() {
+        let at = 2 * k;
+        let end = at + 2;
+        list[k] = (number(&b[at..end]) % 65536) as u16;
+        k += 1;
+    }
+}
+
 fn put_fed(f: Fed) {
     let outcome = f.outcome;
     put_outcome(outcome);
@@ -315,6 +328,13 @@ fn list_call(call: u8, p: Parameters, page: &[u8], i: usize, list: &mut [u16]) {
     put_list(r, list);
 }
 
+// All syndromes from the odd ones, which the bytes are.
+fn all_call(p: Parameters, level: u32, b: &[u8], odd: &mut [u16], list: &mut [u16]) {
+    take_pairs(b, odd);
+    let r = oneword::all_syndromes(p, level, odd, list);
+    put_list(r, list);
+}
+
 fn lend_bytes(call: u8, p: Parameters, page: &[u8], i: usize, width: u32, size: usize) {
     let mut room = [165u8; 8192];
     if size <= 8192 {
@@ -343,6 +363,17 @@ fn lend_list(call: u8, p: Parameters, page: &[u8], i: usize, size: usize) {
     let mut room = [42405u16; 256];
     if size <= 256 {
         list_call(call, p, page, i, &mut room[..size]);
+    }
+}
+
+fn lend_all(p: Parameters, level: u32, b: &[u8], size: usize) {
+    let mut odd = [0u16; 128];
+    let mut room = [42405u16; 256];
+    let count = b.len() / 2;
+    if count <= 128 {
+        if size <= 256 {
+            all_call(p, level, b, &mut odd[..count], &mut room[..size]);
+        }
     }
 }
 
@@ -434,6 +465,9 @@ fn run(h: &[u8], page: &mut [u8], size: usize) {
             size,
             (u % 65536) as usize,
         );
+    }
+    if call == 18 {
+        lend_all(p, (u % 4294967296) as u32, page, size);
     }
     if call == 16 || call == 17 {
         change(call, p, page, size, u, count);

@@ -103,6 +103,9 @@ holds-requires-5 c κs = (accepted-8, three-8 .0, three-8 .1, page-8, lit≤ tt,
 expect-requires-5 : tie.Need-expect-requires-5
 expect-requires-5 c κs = ap not (c .holds5 .ensures ∙ damaged-8)
 
+array-write-x : tie.Need-array-write-x
+array-write-x c = search needs
+
 slice-aggregate-holds-16 : tie.Need-slice-aggregate-holds-16
 slice-aggregate-holds-16 c = search needs
 
@@ -208,6 +211,7 @@ main-spec =
     slice-aggregate-holds-15
     holds-requires-5
     expect-requires-5
+    array-write-x
     slice-aggregate-holds-16
     slice-aggregate-holds-17
     slice-aggregate-holds-18
