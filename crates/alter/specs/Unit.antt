@@ -8,7 +8,7 @@ use Prim.Native.Nat.{ℕ, zero, suc, _+_, _-_, _*_, _/_, _%_, _^_, _≤_, _<_, m
 use native.Mathlib.Nat as Nat
 use native.Mathlib.Decide.{decLe, ℕ-discrete}
 use native.Mathlib.Omega.{arith}
-use lib.ListN.{length, getD, take, drop, replicate, length-take, length-replicate}
+use lib.ListN.{length, getD, take, drop, replicate, length-replicate}
 use lib.Seq.{take-all}
 use Rattle.polynomial.specs.Digits.{digits, length-digits, value}
 use Rattle.code.specs.declared.Parameters.{Parameters}
@@ -54,9 +54,6 @@ moved-down y d bits h e = e ∙ Nat.mod-eq-of-lt (Nat.lt-of-le-of-lt (Nat.div-le
 -- the room of a rule is of 520 bytes at most
 pub room-high : (p : Parameters) → Accepted p → (n : ℕ) → n ≡ roomBytes p → n ≤ 520
 room-high p A n e = omega (arith, word-high p A)
-
-pub zeros-length : (n m : ℕ) → n ≤ m → length {A = ℕ} (take n (replicate m 0)) ≡ n
-zeros-length n m h = length-take n (replicate {A = ℕ} m 0) ∙ Nat.min-eq-left (rw (length-replicate {A = ℕ} m 0) h)
 
 -- no data
 pub no-data : (n : ℕ) → value 8 (replicate n 0) ≡ 0

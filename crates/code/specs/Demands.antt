@@ -31,7 +31,7 @@ use mathlib.Core.Bool.{_&&_, _||_, cond}
 use mathlib.Core.List.{List, [], _++_, map}
 use Prim.Native.Nat.{ℕ, suc, _+_, _-_, _*_, _/_, _%_, _^_, _≤_, _<_}
 use lib.Dec.{eqb, ltb}
-use lib.ListN.{length, getD, replicate, take, drop}
+use lib.ListN.{length, getD, replicate, drop}
 use Rattle.polynomial.specs.Bits.{coefficient}
 use Rattle.polynomial.specs.Clmul.{clmul}
 use Rattle.polynomial.specs.Digits.{value}

@@ -1,10 +1,9 @@
 -- Lists of odd syndromes, and all syndromes from them.
-use mathlib.Core.Path.{_≡_, refl, sym, ap, ap₂, _∙_}
-use mathlib.Core.List.{List, map}
-use Prim.Native.Nat.{ℕ, suc, _+_, _*_, _/_, _^_, _≤_, _<_, zero-le, suc-le-suc}
+use mathlib.Core.Path.{_≡_, refl, sym, ap, _∙_}
+use mathlib.Core.List.{List}
+use Prim.Native.Nat.{ℕ, suc, _+_, _*_, _^_, _≤_, _<_, zero-le, suc-le-suc}
 use native.Mathlib.Nat as Nat
 use native.Mathlib.Numerals.{add-one}
-use native.Mathlib.Omega.{arith}
 use lib.Dec.{lit≤}
 use lib.ListN.{length, getD, length-map}
 use lib.Pow.{pow-mono}
@@ -15,7 +14,7 @@ use Rattle.field.specs.Elements.{syndrome, syndrome-lt}
 use Rattle.field.specs.Fields.{Known}
 use Rattle.field.specs.Odd.{fromOdd, word-odd}
 use Rattle.code.specs.declared.Parameters.{Parameters}
-use Rattle.code.specs.Buffers.{bytes-at, length-bytes, length-syndromes, syndromes-at, numbers-back}
+use Rattle.code.specs.Buffers.{bytes-at, length-syndromes, syndromes-at, numbers-back}
 use Rattle.code.specs.Calls.{asBytes, asNumbers, numberAt}
 use Rattle.code.specs.Chains.{exact-none, exact-of, first-of, or-le, or-none, or-second, or-zero, when-le}
 use Rattle.code.specs.Code.{allSyndromes, oddSyndromes, syndromes}
@@ -24,7 +23,7 @@ use Rattle.code.specs.Pages.{length-range}
 use Rattle.code.specs.Parameters.{Accepted, strength}
 use Rattle.code.specs.Placement.{getD-map-range}
 use Rattle.code.specs.Refusals.{allRefusal, notExact, openRefusal}
-use Rattle.code.specs.Refused.{open-le, open-none, open-zero}
+use Rattle.code.specs.Refused.{open-le, open-zero}
 use Rattle.code.specs.Accepted.{q-high}
 
 -- ---- the lists, number by number

@@ -8,7 +8,7 @@ use Prim.Native.Nat.{ℕ, zero, suc, _+_, _-_, _*_, _/_, _%_, _^_, _≤_, _<_}
 use native.Mathlib.Nat as Nat
 use native.Mathlib.Omega.{arith}
 use lib.Dec.{T, ltb→lt, lt→ltb}
-use lib.ListN.{length, getD, replicate, length-replicate, length-map}
+use lib.ListN.{length, getD, replicate, length-replicate, length-map, take, length-take}
 use lib.Pow.{pow-mono, pow-pos}
 use Rattle.polynomial.specs.Division.{xor-lt}
 use Rattle.polynomial.specs.Sums.{All, add, all-at, length-add}
@@ -341,3 +341,7 @@ module _ (p : Parameters) (R : Rules p) where
         ∙ join-add (wordSizes p) (encode p (blocksOf p a)) (encode p (blocksOf p b)) (small-words (encode p (blocksOf p a)) (ready a h))
         (small-words (encode p (blocksOf p b)) (ready b j))
         ∙ sym (ap₂ add (pageOf-eq p a) (pageOf-eq p b))
+
+-- ---- a part of a room of zeros
+pub zeros-length : (n m : ℕ) → n ≤ m → length {A = ℕ} (take n (replicate m 0)) ≡ n
+zeros-length n m h = length-take n (replicate {A = ℕ} m 0) ∙ Nat.min-eq-left (rw (length-replicate {A = ℕ} m 0) h)

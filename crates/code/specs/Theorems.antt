@@ -9,14 +9,14 @@ use Prim.Native.Nat.{ℕ, zero, suc, _+_, _-_, _*_, _^_, _≤_, _<_, zero-le, su
 use native.Mathlib.Nat as Nat
 use native.Mathlib.Decide.{ℕ-discrete}
 use native.Mathlib.Omega.{arith}
-use lib.Dec.{T, eqb, eqb-refl, lit≤, not-T, T-not}
-use lib.ListN.{length, getD, take, drop, replicate}
-use lib.Pow.{pow-mono, pow-pos}
+use lib.Dec.{T, eqb, eqb-refl, not-T, T-not}
+use lib.ListN.{length, getD, replicate}
+use lib.Pow.{pow-pos}
 use Rattle.polynomial.specs.Bits.{coefficient}
 use Rattle.polynomial.specs.Coefficients.{beyond}
 use Rattle.polynomial.specs.Digits.{value}
 use Rattle.polynomial.specs.Division.{rem-lt, rem-zero, xor-lt}
-use Rattle.polynomial.specs.Sums.{All, add, all-at, at-all}
+use Rattle.polynomial.specs.Sums.{All, add, all-at}
 use Rattle.polynomial.specs.Multiple.{Multiple, multiple-same, rem-differ}
 use Rattle.polynomial.specs.Xor.{xor, xor-cancel, xor-self}
 use Rattle.field.specs.Bch.{weight, weight-zero}
@@ -31,16 +31,16 @@ use Rattle.code.specs.declared.Verdict.{Verdict}
 use Rattle.code.specs.Register.{Register}
 use Rattle.generator.specs.Generator as G
 use Rattle.code.specs.Answers.{leaves-refused, read-as-judge, refused-pos}
-use Rattle.code.specs.Accepted.{Rules, accepted, degree-le, degree-low, degree-of, lawful, q-high, stored-le, stored-room, stored-whole, width-below}
+use Rattle.code.specs.Accepted.{Rules, accepted, degree-le, degree-low, degree-of, lawful, stored-le, stored-room, stored-whole, width-below}
 use Rattle.code.specs.Alter.{Alterable, after-page, alter-13, alter-left, alter-none, altered-eq, altered-fits, altered-is, altered-page, alteredBlocks}
 use Rattle.code.specs.Alter.{bit-alone, bit-fits, bit-none, by-eqb, by-neqb, bytes-stay, changed-least, changed-most, changed-weight, concerned}
 use Rattle.code.specs.Alter.{data-here, data-there, set-alone, set-here, set-there, units}
 use Rattle.code.specs.Blank.{blank-iff, blank-stays, page-ones}
-use Rattle.code.specs.Buffers.{bytes-at, divides-up, divisor-deg, divisor-degree, divisor-times, length-syndromes}
-use Rattle.code.specs.Buffers.{nested-back, remainder-back, row-back, short-back, short-differ, short-lt, syndromes-at}
+use Rattle.code.specs.Buffers.{divides-up, divisor-deg, divisor-degree, divisor-times}
+use Rattle.code.specs.Buffers.{nested-back, remainder-back, row-back, short-back, short-differ, short-lt}
 use Rattle.code.specs.Bursts.{another, apart-pages, apart-places, burst-same, bytes-burst, cyclic, moved-divides, moved-lt, others-same}
 use Rattle.code.specs.Bursts.{single-has, single-is, single-passing, single-unblank, singlePage}
-use Rattle.code.specs.Calls.{Altered, Judged, Mended, QuoteMade, ReadOut, Written, WrittenMany, asBytes, empty, judgeAnswer, leaves, AllMade}
+use Rattle.code.specs.Calls.{Altered, Judged, Mended, QuoteMade, ReadOut, Written, WrittenMany, empty, judgeAnswer, leaves, AllMade}
 use Rattle.code.specs.Calls.{mendingPlaces, nestedOf, nestedSyndromeList, outcome, outcomeNumber, pagesBy, placesOf, quote, statuses, subWordOf, syndromeList}
 use Rattle.code.specs.Chains.{off′, on}
 use Rattle.code.specs.Code.{Flips, IsMember, Near, checkBits, degree, distance, gen, least, nested, newton, remainder, syndromes, verdict, oddSyndromes, allSyndromes}

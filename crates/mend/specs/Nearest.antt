@@ -4,14 +4,13 @@ use mathlib.Core.Path.{_≡_, refl, sym, ap, _∙_}
 use mathlib.Core.Logic.{_↔_}
 use mathlib.Core.List.{List, map}
 use mathlib.Core.Option.{Option, none, some}
-use Prim.Native.Nat.{ℕ, zero, suc, _-_, _*_, _^_, _≤_, _<_, zero-le, _+_}
+use Prim.Native.Nat.{ℕ, suc, _-_, _*_, _^_, _≤_, _<_, zero-le, _+_}
 use native.Mathlib.Nat as Nat
 use native.Mathlib.Decide.{decLe}
-use native.Mathlib.Numerals.{add-one}
 use native.Mathlib.Omega.{arith}
 use lib.Dec.{leb}
 use borrow.Author.Tests.{le-leb}
-use lib.ListN.{length, getD, take, length-map, List·getD-eq-default}
+use lib.ListN.{getD, take, List·getD-eq-default}
 use lib.Pow.{pow-pos}
 use Rattle.polynomial.specs.Multiple.{Multiple}
 use Rattle.polynomial.specs.Xor.{xor, xor-eq-zero, xor-self}
@@ -29,8 +28,6 @@ use Rattle.code.specs.Judge.{multiple-iff}
 use Rattle.code.specs.Mend.{nearest-clean, nearest-iff}
 use Rattle.code.specs.Parameters.{Accepted, stored, strength}
 use Rattle.code.specs.Lists.{range}
-use Rattle.code.specs.Pages.{length-range}
-use Rattle.code.specs.Placement.{getD-map-range}
 use Rattle.code.specs.Theorems.{demand2}
 use Rattle.element.specs.declared.Field.{Field}
 use Rattle.element.specs.Fields.{fieldAt}

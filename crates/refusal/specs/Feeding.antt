@@ -14,7 +14,7 @@ use Rattle.code.specs.Chains.{first-of, last, or-assoc, or-first, or-le, or-non
 use Rattle.code.specs.Code.{degree}
 use Rattle.code.specs.Lists.{_when_, _orElse_, lastRefusal}
 use Rattle.code.specs.Parameters.{Accepted, full, sheetRefusal}
-use Rattle.code.specs.Refusals.{badWidth, feedRefusal, openRefusal}
+use Rattle.code.specs.Refusals.{badWidth, feedRefusal}
 use Rattle.code.specs.Refused.{Width, sheet-le, width-of}
 use Rattle.code.specs.Register.{Register}
 

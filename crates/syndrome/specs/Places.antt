@@ -1,15 +1,15 @@
 -- The places of a word's ones, put down one by one.
 --   Places n c l         the first c entries of l are below n
 --   PutDown e k c l      the first c entries of l are the places below k at which the word e has ones
-use mathlib.Core.Path.{_≡_, refl, sym, ap, ap₂, _∙_}
+use mathlib.Core.Path.{_≡_, sym, ap, ap₂, _∙_}
 use mathlib.Core.Bool.{cond}
 use mathlib.Core.List.{List, [], _∷_, _++_, append-nil}
-use Prim.Native.Nat.{ℕ, zero, suc, _+_, _/_, _%_, _^_, _≤_, _<_, zero-le, min}
+use Prim.Native.Nat.{ℕ, zero, suc, _+_, _/_, _%_, _^_, _≤_, _<_, zero-le}
 use native.Mathlib.Nat as Nat
 use native.Mathlib.Numerals.{add-one}
 use native.Mathlib.Omega.{arith}
 use lib.Dec.{eqb}
-use lib.ListN.{length, getD, set, take, length-set, replicate, length-replicate, length-take}
+use lib.ListN.{length, getD, set, take, length-set}
 use lib.Seq.{getD-set-same, length-take-le, take-set-le, take-suc, getD-take}
 use Rattle.polynomial.specs.Bits.{coefficient}
 use Rattle.polynomial.specs.Digits.{value, value-coefficient}
@@ -27,10 +27,6 @@ pub places-take : {n c : ℕ} {l : List ℕ} → Places n c l → c ≤ length l
 places-take {n} {c} {l} P h = record {
   below = λ i b. let k : i < c = rw (length-take-le c l h) at b in rw (getD-take c l i 0 k) (P .below i k);
 }
-
--- a part of a room
-pub room-length : (k n : ℕ) → k ≤ n → length {A = ℕ} (take k (replicate n 0)) ≡ k
-room-length k n h = length-take k (replicate {A = ℕ} n 0) ∙ ap (min k) (length-replicate {A = ℕ} n 0) ∙ Nat.min-eq-left h
 
 pub rising-at : (k n : ℕ) (R : List ℕ) → Rising k n R → (i : ℕ) → i < length R → getD R i 0 < n
 rising-at k n [] r i h = absurd (Nat.not-suc-le-zero h)

@@ -1,14 +1,14 @@
 -- All syndromes from those of odd number: a square at every second place.
-use mathlib.Core.Path.{_≡_, refl, sym, ap, ap₂, _∙_}
+use mathlib.Core.Path.{_≡_, sym, ap, ap₂, _∙_}
 use mathlib.Core.List.{List, map}
 use Prim.Native.Nat.{ℕ, suc, _+_, _-_, _*_, _/_, _%_, _^_, _≤_, _<_}
 use native.Mathlib.Nat as Nat
 use native.Mathlib.Omega.{arith}
-use lib.ListN.{length, getD, length-map}
+use lib.ListN.{length, length-map}
 use lib.Pow.{pow-add, pow-pos, pow-mono}
 use Rattle.polynomial.specs.Clmul.{clmul, clmul-pow}
 use Rattle.polynomial.specs.Division.{rem, rem-clmul-l, rem-clmul-r, rem-multiple, rem-xor, Deg, deg-mul, lt-of-shr, xor-shr, lt-of-deg}
-use Rattle.polynomial.specs.Xor.{xor, xor-is, xor-zero-r, xor-self}
+use Rattle.polynomial.specs.Xor.{xor, xor-zero-r, xor-self}
 use Rattle.field.specs.Elements.{times, times-eq}
 use Rattle.field.specs.Fields.{Known, fieldPolynomial, polynomial-degree}
 use Rattle.field.specs.Odd.{fromOdd, fromOdd-even, fromOdd-odd}

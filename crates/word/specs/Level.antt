@@ -1,7 +1,7 @@
 -- Remainders and syndromes by a level's generator.
 use mathlib.Core.Path.{_≡_, sym, ap, ap₂, _∙_, refl}
 use mathlib.Core.List.{List, map}
-use Prim.Native.Nat.{ℕ, suc, _-_, _*_, _^_, _≤_, _<_, zero-le, suc-le-suc, _+_}
+use Prim.Native.Nat.{ℕ, _-_, _*_, _^_, _≤_, _<_, _+_}
 use native.Mathlib.Nat as Nat
 use native.Mathlib.Omega.{arith}
 use lib.Seq.{ext-getD}
@@ -14,14 +14,13 @@ use Rattle.field.specs.Fields.{fieldOf}
 use Rattle.generator.specs.Generator.{generator-roots}
 use Rattle.kernels.specs.Row.{D}
 use Rattle.code.specs.declared.Parameters.{Parameters}
-use Rattle.code.specs.Accepted.{Rules, accepted, rising, degree-of, degree-high, width-below}
-use Rattle.code.specs.Buffers.{length-syndromes, syndromes-at}
-use Rattle.code.specs.Code.{gen, degree, remainder, syndromes, oddSyndromes, allSyndromes}
+use Rattle.code.specs.Accepted.{Rules, accepted, degree-of, degree-high, width-below}
+use Rattle.code.specs.Code.{gen, degree, remainder, oddSyndromes, allSyndromes}
 use Rattle.code.specs.Lists.{range}
 use Rattle.code.specs.Parameters.{Accepted, strength, len}
 use Rattle.code.specs.Steps.{gen-eq}
 use Rattle.element.specs.declared.Field.{Field}
-use Rattle.element.specs.Fields.{fieldAt, size-least}
+use Rattle.element.specs.Fields.{fieldAt}
 use Rattle.levels.specs.Ready.{RowOf}
 use Rattle.word.specs.Row.{remainder-room}
 use lib.ListN.{length, getD}

@@ -3,6 +3,7 @@ use mathlib.Core.Path.{_≡_, sym, _∙_}
 use native.Mathlib.Omega.{arith}
 use Prim.Native.Nat.{_≤_}
 use lib.ListN.{length}
+use Rattle.code.specs.Pages.{zeros-length}
 use Rattle.polynomial.specs.Digits.{value}
 use Rattle.polynomial.specs.Sums.{add}
 use Rattle.code.specs.Layout.{IsPage, oneBit, pageOf}
@@ -10,7 +11,6 @@ use Rattle.layout.specs.Sizes.{page-high}
 use Rattle.layout.specs.SubWords.{is-page}
 use Rattle.alter.specs.Spread.{below-stored, bit-high, shortest-beside, spread-sum}
 use Rattle.alter.specs.Sum.{added-blank, added-done, copied}
-use Rattle.alter.specs.Unit.{zeros-length}
 use Rattle.alter.proofs.add_short.Statement.{statement}
 use Rattle.alter.proofs.add_short.Tie as tie
 

@@ -3,8 +3,9 @@ use mathlib.Core.Path.{sym, _∙_}
 use native.Mathlib.Omega.{arith}
 use Prim.Native.Nat.{ℕ, _-_}
 use lib.ListN.{length-replicate}
+use Rattle.code.specs.Pages.{zeros-length}
 use Rattle.polynomial.specs.Digits.{value}
-use Rattle.alter.specs.Unit.{Built, built-next, built-start, room-high, unit-done, zeros-length}
+use Rattle.alter.specs.Unit.{Built, built-next, built-start, room-high, unit-done}
 use Rattle.alter.proofs.block_page.Statement.{statement}
 use Rattle.alter.proofs.block_page.Tie as tie
 

@@ -1,14 +1,15 @@
 use borrow.Author.Needs.{needs}
-use mathlib.Core.Path.{_≡_, sym, ap, _∙_}
+use mathlib.Core.Path.{_≡_, sym, _∙_}
 use mathlib.Core.List.{List}
 use Prim.Native.Nat.{ℕ, _+_, _-_, _*_, _≤_, _<_}
 use native.Mathlib.Nat as Nat
 use native.Mathlib.Omega.{arith}
 use lib.ListN.{length, getD, take}
 use lib.Seq.{length-take-le}
+use Rattle.code.specs.Pages.{zeros-length}
 use Rattle.field.specs.Elements.{syndrome}
 use Rattle.field.specs.Flips.{flips}
-use Rattle.syndrome.specs.Places.{places-take, room-length}
+use Rattle.syndrome.specs.Places.{places-take}
 use Rattle.syndrome.specs.Sum.{map-at, map-length}
 use Rattle.locating.specs.Look.{agree-not-odd, agree-odd, one-more}
 use Rattle.locating.proofs.agrees.Statement.{statement}
@@ -24,7 +25,7 @@ array-borrow-prefix-room : tie.Need-array-borrow-prefix-room Inv-loop μ-loop
 array-borrow-prefix-room c = search needs
 
 slice-aggregate-sums : tie.Need-slice-aggregate-sums Inv-loop μ-loop
-slice-aggregate-sums c = let s = c .before .before .before .before in sym (room-length (s .args .t) 64 (s .pre .5))
+slice-aggregate-sums c = let s = c .before .before .before .before in sym (zeros-length (s .args .t) 64 (s .pre .5))
 
 slice-aggregate-odd-sums : tie.Need-slice-aggregate-odd-sums Inv-loop μ-loop
 slice-aggregate-odd-sums c = let s = c .before .before .before .before .before .before in sym (length-take-le (s .args .c) (s .args .list .now) (s .pre .1))
@@ -47,10 +48,10 @@ module _ (o : tie.After-odd-sums Inv-loop μ-loop) where
   R = take (s .args .c) (s .args .list .now)
 
   size : length (o .odd-sums .last .0) ≡ s .args .t
-  size = map-length _ _ (o .odd-sums .last .0) (o .odd-sums .ensures) ∙ room-length (s .args .t) 64 (s .pre .5)
+  size = map-length _ _ (o .odd-sums .last .0) (o .odd-sums .ensures) ∙ zeros-length (s .args .t) 64 (s .pre .5)
 
   summed : (i : ℕ) → i < s .args .t → getD (o .odd-sums .last .0) i 0 ≡ syndrome q (flips R) (2 * i + 1)
-  summed i h = map-at _ _ (o .odd-sums .last .0) (o .odd-sums .ensures) i (rw (room-length (s .args .t) 64 (s .pre .5)) h)
+  summed i h = map-at _ _ (o .odd-sums .last .0) (o .odd-sums .ensures) i (rw (zeros-length (s .args .t) 64 (s .pre .5)) h)
 
 loop-holds : tie.Need-loop-holds Inv-loop μ-loop
 loop-holds c = (size (c .before .before), omega arith, (λ i h. absurd (Nat.not-suc-le-zero h)))

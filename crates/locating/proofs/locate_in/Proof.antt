@@ -83,8 +83,8 @@ agrees-requires c κs =
       omega (arith, s .pre .6),
       omega (arith, s .pre .2),
       places (s .args .f .q) (s .args .s .now) (s .args .t) (s .args .z) (given r) (c .before .if2 .left) (s .pre .6) (s .pre .5),
-      Nat.le-of-eq (sym (s .pre .11)),
-      s .pre .2,
+      omega (arith, s .pre .11),
+      omega (arith, s .pre .2),
     )
 
 -- the last look, by which all 2 t syndromes agree

@@ -1,14 +1,12 @@
 use borrow.Author.Needs.{needs}
 use mathlib.Core.Path.{_≡_, sym, ap, _∙_}
 use mathlib.Core.List.{List, map}
-use Prim.Native.Nat.{ℕ, _+_, _*_, _≤_}
+use Prim.Native.Nat.{ℕ, _+_, _*_}
 use native.Mathlib.Nat as Nat
-use native.Mathlib.Omega.{arith}
-use lib.ListN.{length, replicate, take}
+use Rattle.code.specs.Pages.{zeros-length}
 use Rattle.polynomial.specs.Digits.{value}
 use Rattle.field.specs.Elements.{syndrome}
 use Rattle.code.specs.Lists.{range}
-use Rattle.syndrome.specs.Places.{room-length}
 use Rattle.syndrome.specs.Sum.{map-length, table-roots}
 use Rattle.mend.specs.Nearest.{locate-odd, odd-below}
 use Rattle.mend.proofs.locate_by.Statement.{statement}
@@ -29,13 +27,13 @@ module _ (a : tie.After-odd-into) where
   odd = a .odd-into .last .0
 
   are : odd ≡ map (λ i. syndrome q c (2 * i + 1)) (range 0 (s .args .t))
-  are = a .odd-into .ensures ∙ ap (λ (k : ℕ). map (λ i. syndrome q c (2 * i + 1)) (range 0 k)) (room-length (s .args .t) 64 (s .pre .5))
+  are = a .odd-into .ensures ∙ ap (λ (k : ℕ). map (λ i. syndrome q c (2 * i + 1)) (range 0 k)) (zeros-length (s .args .t) 64 (s .pre .5))
 
 array-borrow-prefix-room : tie.Need-array-borrow-prefix-room
 array-borrow-prefix-room c = search needs
 
 slice-aggregate-odd : tie.Need-slice-aggregate-odd
-slice-aggregate-odd c = let s = c .before .before .before .before .before in sym (room-length (s .args .t) 64 (s .pre .5))
+slice-aggregate-odd c = let s = c .before .before .before .before .before in sym (zeros-length (s .args .t) 64 (s .pre .5))
 
 odd-into-requires : tie.Need-odd-into-requires
 odd-into-requires c κs =

@@ -1,8 +1,8 @@
 use borrow.Author.Needs.{needs}
-use mathlib.Core.Path.{_≡_, sym, ap, _∙_}
+use mathlib.Core.Path.{_≡_, sym, _∙_}
 use native.Mathlib.Nat as Nat
 use native.Mathlib.Omega.{arith}
-use Prim.Native.Nat.{ℕ, _*_}
+use Prim.Native.Nat.{_*_}
 use Rattle.code.specs.Odd.{all-open, all-none, all-not-odd, all-not-out}
 use Rattle.code.specs.Parameters.{strength}
 use Rattle.code.specs.Refusals.{openRefusal}

@@ -1,15 +1,14 @@
 use borrow.Author.Needs.{needs}
-use mathlib.Core.Path.{_≡_, refl, sym, ap, _∙_}
+use mathlib.Core.Path.{_≡_, sym, ap, _∙_}
 use native.Mathlib.Nat as Nat
 use native.Mathlib.Omega.{arith}
-use Prim.Native.Nat.{ℕ, _+_, _*_, _^_, _≤_, _<_, _-_}
+use Prim.Native.Nat.{ℕ, _+_, _*_, _^_, _≤_, _-_}
 use mathlib.Core.List.{List, map}
-use lib.ListN.{length, replicate, length-replicate, take}
+use lib.ListN.{length, length-replicate, take}
 use Rattle.polynomial.specs.Digits.{value}
 use Rattle.field.specs.Elements.{syndrome}
-use Rattle.field.specs.Flips.{flips}
 use Rattle.code.specs.Lists.{range}
-use Rattle.syndrome.specs.Places.{places-same, PutDown, put-below, put-flips, put-length}
+use Rattle.syndrome.specs.Places.{PutDown, put-below, put-flips, put-length}
 use Rattle.syndrome.proofs.odd_into.Statement.{statement}
 use Rattle.syndrome.proofs.odd_into.Tie as tie
 

@@ -1,14 +1,14 @@
 use borrow.Author.Needs.{needs}
-use mathlib.Core.Path.{_≡_, refl, sym, ap, _∙_}
+use mathlib.Core.Path.{sym, ap, _∙_}
 use native.Mathlib.Nat as Nat
-use native.Mathlib.Omega.{arith}
-use Prim.Native.Nat.{ℕ, _+_, _*_, _^_, _≤_, _<_}
+use Prim.Native.Nat.{ℕ, _+_, _*_}
 use mathlib.Core.List.{List, map}
 use lib.ListN.{length}
+use Rattle.code.specs.Pages.{zeros-length}
 use Rattle.field.specs.Elements.{syndrome}
 use Rattle.field.specs.Flips.{flips}
 use Rattle.code.specs.Lists.{range}
-use Rattle.syndrome.specs.Places.{places-same, room-length}
+use Rattle.syndrome.specs.Places.{places-same}
 use Rattle.syndrome.proofs.odd_sums.Statement.{statement}
 use Rattle.syndrome.proofs.odd_sums.Tie as tie
 
@@ -16,20 +16,20 @@ array-borrow-prefix-room : tie.Need-array-borrow-prefix-room
 array-borrow-prefix-room c = let s = c .before .before .before in s .pre .1
 
 slice-aggregate-e : tie.Need-slice-aggregate-e
-slice-aggregate-e c = let s = c .before .before .before .before in sym (room-length (length (s .args .places .now)) 768 (s .pre .1))
+slice-aggregate-e c = let s = c .before .before .before .before in sym (zeros-length (length (s .args .places .now)) 768 (s .pre .1))
 
 array-borrow-prefix-spare : tie.Need-array-borrow-prefix-spare
 array-borrow-prefix-spare c = let s = c .before .before .before .before in s .pre .1
 
 slice-aggregate-d : tie.Need-slice-aggregate-d
-slice-aggregate-d c = let s = c .before .before .before .before .before in sym (room-length (length (s .args .places .now)) 768 (s .pre .1))
+slice-aggregate-d c = let s = c .before .before .before .before .before in sym (zeros-length (length (s .args .places .now)) 768 (s .pre .1))
 
 copy-requires : tie.Need-copy-requires
-copy-requires c κs = let s = c .before .before .before .before .before .before in room-length (length (s .args .places .now)) 768 (s .pre .1)
+copy-requires c κs = let s = c .before .before .before .before .before .before in zeros-length (length (s .args .places .now)) 768 (s .pre .1)
 
 copy-requires-2 : tie.Need-copy-requires-2
 copy-requires-2 c κs =
-    let s = c .before .before .before .before .before .before .before .before .before .before in room-length (length (s .args .places .now)) 768 (s .pre .1)
+    let s = c .before .before .before .before .before .before .before .before .before .before in zeros-length (length (s .args .places .now)) 768 (s .pre .1)
 
 sums-into-requires : tie.Need-sums-into-requires
 sums-into-requires c κs =

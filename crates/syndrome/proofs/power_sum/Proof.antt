@@ -1,9 +1,9 @@
 use borrow.Author.Needs.{needs}
-use mathlib.Core.Path.{_≡_, refl, sym, ap, _∙_}
+use mathlib.Core.Path.{_≡_, refl, sym}
 use native.Mathlib.Nat as Nat
 use native.Mathlib.Omega.{arith}
-use Prim.Native.Nat.{ℕ, _-_, _≤_, _<_, _+_, _*_}
-use lib.ListN.{length, getD, length-set}
+use Prim.Native.Nat.{_-_, _≤_, _<_}
+use lib.ListN.{length, getD}
 use Rattle.field.specs.Elements.{sumBelow, sumBelow-zero}
 use Rattle.syndrome.specs.Sum.{sum-next}
 use Rattle.syndrome.proofs.power_sum.Statement.{statement}

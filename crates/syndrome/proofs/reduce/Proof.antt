@@ -1,8 +1,7 @@
-use borrow.Author.Needs.{needs}
 use mathlib.Core.Path.{_≡_, refl, sym, ap, _∙_}
 use native.Mathlib.Nat as Nat
 use native.Mathlib.Omega.{arith}
-use Prim.Native.Nat.{ℕ, _+_, _-_, _*_, _^_, _≤_, _<_}
+use Prim.Native.Nat.{_+_, _-_, _^_, _≤_, _<_}
 use Rattle.polynomial.specs.Division.{rem, rem-small}
 use Rattle.field.specs.Fields.{fieldPolynomial, polynomial-degree}
 use Rattle.element.specs.declared.Field.{Field}

@@ -1,9 +1,7 @@
 use borrow.Author.Needs.{needs}
-use mathlib.Core.Path.{_≡_, refl, sym, ap, _∙_}
+use mathlib.Core.Path.{refl, ap, _∙_}
 use native.Mathlib.Nat as Nat
-use native.Mathlib.Omega.{arith}
-use Prim.Native.Nat.{ℕ, _+_, _-_, _*_, _^_, _≤_, _<_, _%_}
-use lib.Bits.{bitXor}
+use Prim.Native.Nat.{ℕ, _-_, _*_, _^_, _%_}
 use Rattle.polynomial.specs.Division.{lt-of-shr}
 use Rattle.polynomial.specs.Xor.{xor, xor-is}
 use Rattle.syndrome.specs.Squares.{taken-off, raised-fits}

@@ -1,9 +1,7 @@
-use borrow.Author.Needs.{needs}
-use mathlib.Core.Path.{_≡_, refl, sym, ap, _∙_}
+use mathlib.Core.Path.{_∙_}
 use native.Mathlib.Nat as Nat
 use native.Mathlib.Omega.{arith}
-use Prim.Native.Nat.{ℕ, _+_, _-_, _*_, _/_, _%_, _^_, _≤_, _<_}
-use Rattle.field.specs.Elements.{times}
+use Prim.Native.Nat.{_-_}
 use Rattle.element.specs.Exponents.{times-lt}
 use Rattle.element.specs.Fields.{size-most}
 use Rattle.syndrome.specs.Squares.{square-reduced}

@@ -1,13 +1,12 @@
 use borrow.Author.Needs.{needs}
-use mathlib.Core.Path.{_≡_, refl, sym, ap, _∙_}
+use mathlib.Core.Path.{_≡_, refl, sym, _∙_}
 use native.Mathlib.Nat as Nat
 use native.Mathlib.Omega.{arith}
-use Prim.Native.Nat.{ℕ, _+_, _-_, _*_, _/_, _%_, _^_, _≤_, _<_}
+use Prim.Native.Nat.{ℕ, _+_, _-_, _*_, _≤_}
 use lib.ListN.{length, length-set}
 use Rattle.field.specs.Elements.{syndrome}
 use Rattle.field.specs.Flips.{flips}
-use Rattle.syndrome.specs.Places.{Places}
-use Rattle.syndrome.specs.Sum.{Filled, Roots, Runs, filled-all, filled-first, filled-next, roots-room, runs-add, runs-below, runs-one, sum-is, runs-two, runs-next}
+use Rattle.syndrome.specs.Sum.{Filled, Runs, filled-all, filled-first, filled-next, roots-room, runs-below, runs-one, sum-is, runs-two, runs-next}
 use mathlib.Core.List.{List}
 use Rattle.element.specs.declared.Field.{Field}
 use Rattle.field.specs.Fields.{Known}
