@@ -20,6 +20,7 @@ use Rattle.code.specs.Register as Value
 use Rattle.refusal.specs.Feeding.{feed-le}
 use Rattle.register.specs.declared.Fed.{Fed}
 use Rattle.register.specs.declared.Register.{Register}
+use Rattle.code.specs.Refused.{open-le}
 
 abbrev pub valueOf : Register → Value.Register
 valueOf r = record { level = r .level; count = r .count; remainder = r .remainder }
