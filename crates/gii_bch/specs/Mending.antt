@@ -3,11 +3,9 @@ use mathlib.Core.Path.{_≡_, sym, ap, _∙_}
 use mathlib.Core.List.{List, [], _∷_}
 use Prim.Native.Nat.{ℕ, _*_, zero-le}
 use native.Mathlib.Nat as Nat
-use native.Mathlib.Omega.{arith}
 use lib.ListN.{length}
 use Rattle.code.specs.declared.Outcome.{Outcome}
 use Rattle.code.specs.declared.Parameters.{Parameters}
-use Rattle.code.specs.Accepted.{Rules, accepted, rising}
 use Rattle.code.specs.Calls.{Mended, MendedC, asBytes, leaves, outcomeNumber, placesOf}
 use Rattle.code.specs.Chains.{or-none}
 use Rattle.code.specs.Layout.{flipped, mending, placeList}
@@ -16,12 +14,10 @@ use Rattle.code.specs.Mend.{mend-chain, mend-le, word-mendable}
 use Rattle.code.specs.Parameters.{Accepted, strength}
 use Rattle.code.specs.Refusals.{mendRefusal, nowhere, wordRefusal}
 use Rattle.gii_bch.specs.List.{numbersIn, numbers-bytes}
-use Rattle.gii_bch.specs.Syndromes.{Many, leaves-alike, list-alike}
+use Rattle.gii_bch.specs.Syndromes.{Many, leaves-alike, level-many, list-alike}
 
 places-many : (p : Parameters) → Accepted p → Many (strength p 0)
-places-many p A =
-    let R : Rules p = accepted p A in
-    record { low = R .t-low; high = omega (arith, R .high, rising p R 0 (p .v) zero-le (Nat.le-refl (p .v))) }
+places-many p A = level-many p A 0 zero-le
 
 -- the refusal by the length of the list is the refusal by the length of its bytes
 mend-alike : (p : Parameters) (x : List ℕ) (i k : ℕ) → mendRefusal 1 p x i (numbersIn k) ≡ mendRefusal 2 p x i k

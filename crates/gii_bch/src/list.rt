@@ -57,7 +57,9 @@ fn number_at(bytes: &[u8], k: usize) -> u16
     requires { ⌜ 2 * k + 2 ≤ length (now bytes) ⌝ }
     ensures { λ r. ⌜ r ≡ numberAt (now (bytes .entry)) k ⌝ }
 {
-    bytes[2 * k + 1] as u16 * 256 + bytes[2 * k] as u16
+    let low = bytes[2 * k] as u16;
+    let high = bytes[2 * k + 1] as u16;
+    high * 256 + low
 }
 
 // The numbers of the bytes, as many as the list takes.
