@@ -24,6 +24,7 @@ pub mod Judge
 pub mod Refused
 pub mod Answers
 pub mod Placement
+pub mod Filled
 pub mod Blank
 pub mod Shortened
 pub mod Registers

@@ -17,8 +17,8 @@ use Rattle.code.specs.Odd.{all-le, all-open, all-zero}
 use Rattle.code.specs.Parameters.{strength}
 use Rattle.code.specs.Refusals.{allRefusal, openRefusal}
 use Rattle.code.specs.Refused.{open-zero}
-use Rattle.syndrome.specs.Sum.{map-length}
-use Rattle.gii_bch.specs.List.{firstNumbers, numbersIn, numbers-all, numbers-bytes, numbers-exact}
+use Rattle.code.specs.Filled.{map-length}
+use Rattle.numbers.specs.List.{firstNumbers, numbersIn, numbers-all, numbers-bytes, numbers-exact}
 use Rattle.gii_bch.specs.Syndromes.{double-many, leaves-alike, level-many}
 
 abbrev pub given : List ℕ → List ℕ

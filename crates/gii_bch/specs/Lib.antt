@@ -1,6 +1,5 @@
--- The C calls: the answers' numbers, a list as bytes, sizes.
+-- The C calls: the answers' numbers, lists as bytes, sizes.
 pub mod Number
-pub mod List
 pub mod Syndromes
 pub mod All
 pub mod Mending

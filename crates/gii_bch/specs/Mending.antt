@@ -13,7 +13,7 @@ use Rattle.code.specs.Lists.{_orElse_, _when_}
 use Rattle.code.specs.Mend.{mend-chain, mend-le, word-mendable}
 use Rattle.code.specs.Parameters.{Accepted, strength}
 use Rattle.code.specs.Refusals.{mendRefusal, nowhere, wordRefusal}
-use Rattle.gii_bch.specs.List.{numbersIn, numbers-bytes}
+use Rattle.numbers.specs.List.{numbersIn, numbers-bytes}
 use Rattle.gii_bch.specs.Syndromes.{Many, leaves-alike, level-many, list-alike}
 
 places-many : (p : Parameters) → Accepted p → Many (strength p 0)

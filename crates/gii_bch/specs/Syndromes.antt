@@ -23,7 +23,7 @@ use Rattle.code.specs.Refusals.{pageRefusal, wordRefusal}
 use Rattle.code.specs.Refused.{word-le}
 use Rattle.refusal.specs.Indexed.{word-page, word-zero}
 use Rattle.refusal.specs.Judging.{page-zero}
-use Rattle.gii_bch.specs.List.{numbersIn, numbers-bytes, numbers-exact}
+use Rattle.numbers.specs.List.{numbersIn, numbers-bytes, numbers-exact}
 
 abbrev pub wordCount : Bool → Parameters → ℕ
 wordCount true p = p .v

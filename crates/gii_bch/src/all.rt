@@ -2,11 +2,11 @@
 ghost use Rattle.code.specs.Calls.{AllMade, AllMadeC};
 ghost use Rattle.gii_bch.specs.All.{given};
 use crate::answers::outcome_number;
-use crate::list::load;
-use crate::list::numbers_in;
-use crate::list::store_when;
 use code::Outcome;
 use code::Parameters;
+use numbers::load;
+use numbers::numbers_in;
+use numbers::store_when;
 
 // As numbers.
 fn all_list(p: Parameters, level: u32, odd: &[u8], list: &mut [u16]) -> Outcome

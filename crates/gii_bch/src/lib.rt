@@ -14,7 +14,6 @@ use code::Parameters;
 
 mod all; // all syndromes in bytes
 mod answers; // answers as numbers
-mod list; // 16-bit numbers in bytes
 mod mending; // places in bytes
 mod quote; // the quote in bytes
 mod syndromes; // odd syndromes in bytes

@@ -1,9 +1,9 @@
 // One sub-word mended, the places that were flipped in bytes.
 ghost use Rattle.code.specs.Calls.{MendedC};
 use crate::answers::outcome_number;
-use crate::list::numbers_in;
-use crate::list::store_when;
 use code::Parameters;
+use numbers::numbers_in;
+use numbers::store_when;
 
 pub fn mend_bytes(p: Parameters, page: &mut [u8], i: usize, list: &mut [u8], flips: &mut u8) -> u32
     ensures { λ n. ⌜ MendedC p (now (page .entry)) (now (page .exit)) i (now (list .entry)) (now (list .exit)) (now (flips .entry)) (now (flips .exit)) n ⌝ }

@@ -1,8 +1,8 @@
 // The quote as bytes: 12 numbers in 24.
 ghost use Rattle.code.specs.Calls.{QuoteMadeC};
 use crate::answers::outcome_number;
-use crate::list::store;
 use code::Parameters;
+use numbers::store;
 
 pub fn quote_bytes(p: Parameters, list: &mut [u8]) -> u32
     ensures { λ n. ⌜ QuoteMadeC p (now (list .entry)) (now (list .exit)) n ⌝ }

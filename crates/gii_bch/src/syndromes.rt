@@ -1,10 +1,10 @@
 // The odd syndromes of sub-word i, or, where `nested`, of nested word i.
 ghost use Rattle.gii_bch.specs.Syndromes.{ListMade, ListMadeC};
 use crate::answers::outcome_number;
-use crate::list::numbers_in;
-use crate::list::store_when;
 use code::Outcome;
 use code::Parameters;
+use numbers::numbers_in;
+use numbers::store_when;
 
 // As numbers.
 fn syndrome_list(nested: bool, p: Parameters, page: &[u8], i: usize, list: &mut [u16]) -> Outcome

@@ -33,7 +33,7 @@ use Rattle.element.specs.declared.Field.{Field}
 use Rattle.element.specs.Fields.{fieldAt}
 use Rattle.massey.specs.Entries.{Below}
 use Rattle.locating.specs.Look.{fromList}
-use Rattle.syndrome.specs.Sum.{map-at, map-length}
+use Rattle.code.specs.Filled.{map-at, map-length}
 use Rattle.word.specs.Level.{level-syndrome}
 
 abbrev pub Knows : Parameters → ℕ → ℕ → (ℕ → ℕ) → Type 0

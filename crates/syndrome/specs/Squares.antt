@@ -16,7 +16,7 @@ use lib.Seq.{ext-getD}
 use Rattle.code.specs.Lists.{range}
 use Rattle.code.specs.Pages.{length-range}
 use Rattle.code.specs.Placement.{getD-map-range}
-use Rattle.syndrome.specs.Sum.{Filled}
+use Rattle.code.specs.Filled.{Filled}
 use lib.Dec.{lit≤}
 
 -- ---- a number modulo the field polynomial

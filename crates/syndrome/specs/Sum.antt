@@ -2,7 +2,6 @@
 --   Roots f p         p begins with the powers of the field f
 --   tableSum p e      Σ p[e_i], the entries of p at the exponents e
 --   Runs q j l e      the exponents e are j times the places l, modulo n
---   Filled f k l      the first k entries of l are f 0, f 1, ..
 use mathlib.Core.Path.{_≡_, refl, sym, ap, ap₂, _∙_}
 use mathlib.Core.List.{List, map}
 use Prim.Native.Nat.{ℕ, zero, suc, _+_, _-_, _*_, _%_, _^_, _≤_, _<_}
@@ -10,8 +9,8 @@ use native.Mathlib.Nat as Nat
 use native.Mathlib.Numerals.{add-one}
 use native.Mathlib.Omega.{arith}
 use lib.Bits.{bitXor}
-use lib.ListN.{length, getD, set, take, length-map, length-take}
-use lib.Seq.{ext-getD, getD-take, take-all}
+use lib.ListN.{length, getD, take, length-take}
+use lib.Seq.{getD-take, take-all}
 use Rattle.polynomial.specs.Xor.{xor, xor-is}
 use Rattle.field.specs.Elements.{evaluate-zero, power, power-num, sumBelow, sumBelow-suc, sumBelow-zero, syndrome, syndrome-eq, syndrome-num, syndrome-xor}
 use Rattle.field.specs.Eval.{eval-monomial}
@@ -19,8 +18,7 @@ use Rattle.field.specs.Field.{pow, pow-mul}
 use Rattle.field.specs.Fields.{Known, fieldOf}
 use Rattle.field.specs.Flips.{flips, flips-nil, flips-take}
 use Rattle.code.specs.Lists.{range}
-use Rattle.code.specs.Pages.{length-range}
-use Rattle.code.specs.Placement.{first-more, getD-map-range}
+use Rattle.code.specs.Filled.{map-at, map-length}
 use Rattle.tables.specs.Tables.{Powers}
 use Rattle.element.specs.declared.Field.{Field}
 use Rattle.element.specs.Exponents.{power-mod}
@@ -47,27 +45,6 @@ tableSum p e = sumBelow (length e) (λ i. getD p (getD e i 0) 0)
 pub record Runs (q j : ℕ) (l e : List ℕ) : Type 0 where
   pub size : length e ≡ length l
   pub is : (i : ℕ) → i < length l → getD e i 0 ≡ j * getD l i 0 % (2 ^ q - 1)
-
--- ---- a list filled from its front
-pub record Filled (f : ℕ → ℕ) (k : ℕ) (l : List ℕ) : Type 0 where
-  pub is : (i : ℕ) → i < k → getD l i 0 ≡ f i
-
-pub filled-first : (f : ℕ → ℕ) (l : List ℕ) → Filled f 0 l
-filled-first f l = record { is = λ i h. absurd (Nat.not-suc-le-zero h) }
-
-pub filled-next : (f : ℕ → ℕ) (k d : ℕ) (l : List ℕ) → Filled f k l → k < length l → d ≡ f k → Filled f (k + 1) (set l k d)
-filled-next f k d l F h e = record { is = first-more f k d l h (F .is) e }
-
-pub filled-all : (f : ℕ → ℕ) (k : ℕ) (l : List ℕ) → Filled f k l → length l ≡ k → l ≡ map f (range 0 k)
-filled-all f k l F e =
-    ext-getD 0 l (map f (range 0 k)) (e ∙ sym (length-map (range 0 k) f ∙ length-range 0 k))
-    (λ i h. let b : i < k = rw e at h in F .is i b ∙ ap f (sym (Nat.zero-add i)) ∙ sym (getD-map-range f 0 k i b))
-
-pub map-at : (f : ℕ → ℕ) (k : ℕ) (l : List ℕ) → l ≡ map f (range 0 k) → (i : ℕ) → i < k → getD l i 0 ≡ f i
-map-at f k l e i h = ap (λ (l : List ℕ). getD l i 0) e ∙ getD-map-range f 0 k i h ∙ ap f (Nat.zero-add i)
-
-pub map-length : (f : ℕ → ℕ) (k : ℕ) (l : List ℕ) → l ≡ map f (range 0 k) → length l ≡ k
-map-length f k l e = ap length e ∙ length-map (range 0 k) f ∙ length-range 0 k
 
 -- ---- exponents
 module _ (q : ℕ) (known : Known q) (l : List ℕ) where

@@ -10,7 +10,7 @@ use Rattle.code.specs.Pages.{zeros-length}
 use Rattle.field.specs.Elements.{syndrome}
 use Rattle.field.specs.Flips.{flips}
 use Rattle.syndrome.specs.Places.{places-take}
-use Rattle.syndrome.specs.Sum.{map-at, map-length}
+use Rattle.code.specs.Filled.{map-at, map-length}
 use Rattle.locating.specs.Look.{agree-not-odd, agree-odd, one-more}
 use Rattle.locating.proofs.agrees.Statement.{statement}
 use Rattle.locating.proofs.agrees.Tie as tie

@@ -7,7 +7,8 @@ use Rattle.code.specs.Pages.{zeros-length}
 use Rattle.polynomial.specs.Digits.{value}
 use Rattle.field.specs.Elements.{syndrome}
 use Rattle.code.specs.Lists.{range}
-use Rattle.syndrome.specs.Sum.{map-length, table-roots}
+use Rattle.code.specs.Filled.{map-length}
+use Rattle.syndrome.specs.Sum.{table-roots}
 use Rattle.mend.specs.Nearest.{locate-odd, odd-below}
 use Rattle.mend.proofs.locate_by.Statement.{statement}
 use Rattle.mend.proofs.locate_by.Tie as tie

@@ -5,7 +5,7 @@ use native.Mathlib.Omega.{arith}
 use Prim.Native.Nat.{ℕ, _-_, _≤_, _<_, _+_, _%_, _^_}
 use lib.ListN.{length, getD, length-set}
 use lib.Seq.{getD-set-other}
-use Rattle.syndrome.specs.Sum.{Filled, filled-first, filled-next, filled-all}
+use Rattle.code.specs.Filled.{Filled, filled-first, filled-next, filled-all}
 use Rattle.syndrome.proofs.advance.Statement.{statement}
 use Rattle.syndrome.proofs.advance.Tie as tie
 

@@ -5,7 +5,7 @@ use native.Mathlib.Omega.{arith}
 use Prim.Native.Nat.{_+_, _-_, _*_, _≤_}
 use lib.ListN.{length, getD, length-set}
 use Rattle.field.specs.Odd.{fromOdd}
-use Rattle.syndrome.specs.Sum.{Filled, filled-first, filled-next}
+use Rattle.code.specs.Filled.{Filled, filled-first, filled-next}
 use Rattle.syndrome.specs.Squares.{all-filled}
 use Rattle.syndrome.proofs.all_into.Statement.{statement}
 use Rattle.syndrome.proofs.all_into.Tie as tie

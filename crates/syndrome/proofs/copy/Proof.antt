@@ -5,7 +5,7 @@ use native.Mathlib.Omega.{arith}
 use Prim.Native.Nat.{_-_, _≤_}
 use lib.ListN.{length, getD, length-set}
 use lib.Seq.{ext-getD}
-use Rattle.syndrome.specs.Sum.{Filled, filled-first, filled-next}
+use Rattle.code.specs.Filled.{Filled, filled-first, filled-next}
 use Rattle.syndrome.proofs.copy.Statement.{statement}
 use Rattle.syndrome.proofs.copy.Tie as tie
 

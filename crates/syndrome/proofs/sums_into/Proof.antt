@@ -6,7 +6,8 @@ use Prim.Native.Nat.{ℕ, _+_, _-_, _*_, _≤_}
 use lib.ListN.{length, length-set}
 use Rattle.field.specs.Elements.{syndrome}
 use Rattle.field.specs.Flips.{flips}
-use Rattle.syndrome.specs.Sum.{Filled, Runs, filled-all, filled-first, filled-next, roots-room, runs-below, runs-one, sum-is, runs-two, runs-next}
+use Rattle.code.specs.Filled.{Filled, filled-all, filled-first, filled-next}
+use Rattle.syndrome.specs.Sum.{Runs, roots-room, runs-below, runs-one, sum-is, runs-two, runs-next}
 use mathlib.Core.List.{List}
 use Rattle.element.specs.declared.Field.{Field}
 use Rattle.field.specs.Fields.{Known}

@@ -6,7 +6,7 @@ use Prim.Native.Nat.{ℕ}
 use native.Mathlib.Nat as Nat
 use lib.ListN.{length, length-take}
 use lib.Seq.{take-at}
-use Rattle.gii_bch.specs.List.{numbers-most, front-room}
+use Rattle.numbers.specs.List.{numbers-most, front-room}
 use Rattle.gii_bch.specs.All.{all-room, all-made}
 use Rattle.gii_bch.proofs.all.all_bytes.Statement.{statement}
 use Rattle.gii_bch.proofs.all.all_bytes.Tie as tie

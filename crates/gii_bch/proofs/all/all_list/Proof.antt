@@ -7,7 +7,7 @@ use native.Mathlib.Nat as Nat
 use lib.ListN.{length, length-take}
 use lib.Seq.{take-at}
 use Rattle.gii_bch.specs.All.{given}
-use Rattle.gii_bch.specs.List.{firstNumbers, numbers-fit, numbers-most, front-room}
+use Rattle.numbers.specs.List.{firstNumbers, numbers-fit, numbers-most, front-room}
 use Rattle.gii_bch.proofs.all.all_list.Statement.{statement}
 use Rattle.gii_bch.proofs.all.all_list.Tie as tie
 

@@ -4,10 +4,10 @@ use native.Mathlib.Omega.{arith}
 use Prim.Native.Nat.{ℕ, _-_, _≤_}
 use lib.ListN.{length, length-set}
 use Rattle.code.specs.Calls.{numberAt}
-use Rattle.syndrome.specs.Sum.{Filled, filled-first, filled-next, filled-all}
-use Rattle.gii_bch.specs.List.{firstNumbers}
-use Rattle.gii_bch.proofs.list.load.Statement.{statement}
-use Rattle.gii_bch.proofs.list.load.Tie as tie
+use Rattle.code.specs.Filled.{Filled, filled-first, filled-next, filled-all}
+use Rattle.numbers.specs.List.{firstNumbers}
+use Rattle.numbers.proofs.load.Statement.{statement}
+use Rattle.numbers.proofs.load.Tie as tie
 
 abbrev Inv-loop : tie.InvT-loop
 Inv-loop numbers₀ bytes i₀ numbers i = (length numbers ≡ length numbers₀) × (i ≤ length numbers₀) × Filled (numberAt bytes) i numbers

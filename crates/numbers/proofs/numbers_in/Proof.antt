@@ -1,6 +1,6 @@
-use Rattle.gii_bch.specs.List.{numbers-long, numbers-odd, numbers-half}
-use Rattle.gii_bch.proofs.list.numbers_in.Statement.{statement}
-use Rattle.gii_bch.proofs.list.numbers_in.Tie as tie
+use Rattle.numbers.specs.List.{numbers-long, numbers-odd, numbers-half}
+use Rattle.numbers.proofs.numbers_in.Statement.{statement}
+use Rattle.numbers.proofs.numbers_in.Tie as tie
 
 returns : tie.Need-returns
 returns c = numbers-long _ (c .if1 .taken)

@@ -1,9 +1,9 @@
 use borrow.Author.Needs.{needs}
 use Prim.Native.Nat.{_-_}
 use lib.ListN.{length}
-use Rattle.gii_bch.specs.List.{Stored, stored-start, stored-next, stored-all}
-use Rattle.gii_bch.proofs.list.store.Statement.{statement}
-use Rattle.gii_bch.proofs.list.store.Tie as tie
+use Rattle.numbers.specs.List.{Stored, stored-start, stored-next, stored-all}
+use Rattle.numbers.proofs.store.Statement.{statement}
+use Rattle.numbers.proofs.store.Tie as tie
 
 abbrev Inv-loop : tie.InvT-loop
 Inv-loop list₀ numbers i₀ list i = Stored numbers i list

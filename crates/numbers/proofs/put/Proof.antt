@@ -2,9 +2,9 @@
 use borrow.Author.Needs.{needs}
 use native.Mathlib.Omega.{arith}
 use lib.ListN.{length-set}
-use Rattle.gii_bch.specs.List.{put-law}
-use Rattle.gii_bch.proofs.list.put.Statement.{statement}
-use Rattle.gii_bch.proofs.list.put.Tie as tie
+use Rattle.numbers.specs.List.{put-law}
+use Rattle.numbers.proofs.put.Statement.{statement}
+use Rattle.numbers.proofs.put.Tie as tie
 
 cast-list : tie.Need-cast-list
 cast-list c = search needs

@@ -4,8 +4,8 @@ use Prim.Native.Nat.{ℕ}
 use native.Mathlib.Nat as Nat
 use Rattle.code.specs.Answers.{leaves-refused}
 use Rattle.code.specs.Calls.{asBytes, leaves}
-use Rattle.gii_bch.proofs.list.store_when.Statement.{statement}
-use Rattle.gii_bch.proofs.list.store_when.Tie as tie
+use Rattle.numbers.proofs.store_when.Statement.{statement}
+use Rattle.numbers.proofs.store_when.Tie as tie
 
 returns : tie.Need-returns
 returns c = sym (leaves-refused _ _ _ (Nat.pos-of-ne-zero (c .if1 .taken)))

@@ -5,7 +5,7 @@ ghost use Prim.Native.Nat.{_+_, _*_, _≤_};
 ghost use lib.ListN.{length, take, drop};
 ghost use Rattle.polynomial.specs.Digits.{digits};
 ghost use Rattle.code.specs.Calls.{asBytes, leaves, numberAt};
-ghost use Rattle.gii_bch.specs.List.{firstNumbers, numbersIn};
+ghost use Rattle.numbers.specs.List.{firstNumbers, numbersIn};
 
 // How many numbers so many bytes hold; 0, which is no list's length, where they are odd or more than 256.
 pub fn numbers_in(bytes: usize) -> usize

@@ -3,9 +3,9 @@ use borrow.Author.Needs.{needs}
 use native.Mathlib.Omega.{arith}
 use Prim.Native.Nat.{_+_, _*_, _^_, _<_}
 use lib.ListN.{getD}
-use Rattle.gii_bch.specs.List.{number-law}
-use Rattle.gii_bch.proofs.list.number_at.Statement.{statement}
-use Rattle.gii_bch.proofs.list.number_at.Tie as tie
+use Rattle.numbers.specs.List.{number-law}
+use Rattle.numbers.proofs.number_at.Statement.{statement}
+use Rattle.numbers.proofs.number_at.Tie as tie
 
 mul-low : tie.Need-mul-low
 mul-low c = search needs

@@ -1,0 +1,2 @@
+-- Lists of 16-bit numbers as bytes.
+pub mod List
