@@ -278,11 +278,12 @@ pub fn all_refusal(p: Parameters, level: u32, odd: usize, out: usize) -> u8
         return k;
     }
     let t = sheet::strength_at(p, level) as usize;
+    let list: u8 = 10;
     if odd != t {
-        return 10;
+        return list;
     }
     if out != 2 * t {
-        return 10;
+        return list;
     }
     0
 }
