@@ -87,7 +87,11 @@ agrees-requires c κs =
       omega (arith, s .pre .2),
     )
 
--- the last look, by which all 2 t syndromes agree
+-- the last look, at the t odd syndromes, by which all 2 t agree
+odd-looked : (a : tie.After-agrees) → (let r = a .before .before .before .before .before in
+    a .agrees .result ≡ agree (q (m r)) (fromList (q (m r)) (s (m r) .args .odd .now)) (take (r .roots .result) (r .roots .last .1 .1 .1 .1 .1 .1 .0)) (2 * s (m r) .args .t))
+odd-looked a = a .agrees .ensures
+
 looked : (a : tie.After-agrees) → (let r = a .before .before .before .before .before in
     a .agrees .result ≡ agree (q (m r)) (listed (S (m r))) (take (r .roots .result) (r .roots .last .1 .1 .1 .1 .1 .1 .0)) (2 * s (m r) .args .t))
 looked a =
@@ -95,7 +99,7 @@ looked a =
     let u = s (m r) in
     let o = u .args .odd .now in
     let e = listed-is (q (m r)) (u .pre .0 .field .known) o (S (m r)) (u .args .t) (u .pre .12) in
-    a .agrees .ensures ∙ sym (agree-same (q (m r)) (listed (S (m r))) _ (fromList (q (m r)) o) (2 * u .args .t) e)
+    odd-looked a ∙ sym (agree-same (q (m r)) (listed (S (m r))) _ (fromList (q (m r)) o) (2 * u .args .t) e)
 
 same-length-6 : tie.Need-same-length-6
 same-length-6 c = search needs

@@ -12,6 +12,8 @@ use Rattle.word.specs.Level.{level-lt, level-made, degree-few}
 use Rattle.word.specs.WordBytes.{nested-syndromes-made}
 use Rattle.oneword.proofs.nested_syndromes.Statement.{statement}
 use Rattle.oneword.proofs.nested_syndromes.Tie as tie
+use Rattle.code.specs.Code.{remainder}
+use Rattle.polynomial.specs.Digits.{value}
 
 level-of-requires : tie.Need-level-of-requires
 level-of-requires c κs = search needs
@@ -76,6 +78,11 @@ level-remainder-requires c κs =
     let i = s .before in
     (free i .accepted, low i, search needs, rw (s .nested-of .ensures .is) (s .nested-of .ensures .below))
 
+-- the remainder, by the generator of the word's level
+by-level : (k : tie.After-level-remainder) → (let n = k .before .before .before in
+    value 64 (k .level-remainder .last .0) ≡ remainder (a (n .before) .args .p) (level (n .before)) (value 8 (n .nested-of .result)))
+by-level k = k .level-remainder .ensures .1
+
 slice-aggregate-odd-from : tie.Need-slice-aggregate-odd-from
 slice-aggregate-odd-from c = search needs
 
@@ -103,7 +110,7 @@ returns-2 c =
     let i = s .before in
     word-done _ _ _ _ _ _ _ _ _ _ (chain (i .before)) (i .if1 .left)
     (nested-syndromes-made _ _ _ _ (s .nested-of .ensures) (level i) _ (level-is i)
-    (level-made _ (free i .accepted) (level i) (low i) _ _ _ _ (k .level-remainder .ensures .1) (many i) (r .odd-from .ensures)))
+    (level-made _ (free i .accepted) (level i) (low i) _ _ _ _ (by-level k) (many i) (r .odd-from .ensures)))
 
 pub nested-syndromes-spec : {M : Type 1} → statement M
 nested-syndromes-spec =
