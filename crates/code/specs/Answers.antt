@@ -150,9 +150,9 @@ module _ (p : Parameters) (cs : List ℕ) where
   unfolding verdict failingValues
   verdict-values = values-of (ltb (failing p cs) (p .m)) (ltb (failingNested p cs) (p .v)) (failing p cs) (failingNested p cs)
 
-  verdict-member : failingNumber p cs ≡ 0 → verdict p cs ≡ Verdict.Member
+  pub number-member : failingNumber p cs ≡ 0 → verdict p cs ≡ Verdict.Member
   unfolding verdict failingNumber
-  verdict-member e = member-of (ltb (failing p cs) (p .m)) (ltb (failingNested p cs) (p .v)) (failing p cs) (failingNested p cs) e
+  number-member e = member-of (ltb (failing p cs) (p .m)) (ltb (failingNested p cs) (p .v)) (failing p cs) (failingNested p cs) e
 
   pub named : (r : Verdict) → r ≡ verdict p cs → Named p cs r
   named r e = record { answers = e; number = ap verdictNumber e ∙ verdict-number; values = ap verdictValues e ∙ verdict-values }
@@ -185,7 +185,7 @@ module _ (p : Parameters) (x : List ℕ) where
 
   page-member : pageNumber p x ≡ 0 → pageVerdict p x ≡ Verdict.Member
   unfolding pageVerdict pageNumber
-  page-member = blank-member (blank p x) (verdict p (wordsOf p x)) (failingNumber p (wordsOf p x)) (verdict-member p (wordsOf p x))
+  page-member = blank-member (blank p x) (verdict p (wordsOf p x)) (failingNumber p (wordsOf p x)) (number-member p (wordsOf p x))
 
   -- ---- behind a refusal r
   unless-number : (r : ℕ) → verdictNumber (unlessRefused r (pageVerdict p x)) ≡ (r orElse pageNumber p x)

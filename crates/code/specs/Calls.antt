@@ -7,7 +7,7 @@
 --   judgeNumber, judgeValues, readNumber, readValues    the same behind the refusals of judge and of read out
 --   statuses, pagesBy                              the list of a write of many pages, and the pages afterwards
 --   quote p                                        the 12 numbers of the quote
---   mendingPlaces o                                the places of flips, if there are such
+--   listOf o                                       the list that was found, or an empty one
 --   sizeUnless r x                                 the size x or, under the refusal r, 0
 --   Made, Named, Judged, ReadOut, ..               what a call promises, of its answer and of the buffer after it;
 --                                                  the ..C ones are the C calls'
@@ -30,8 +30,8 @@ use Rattle.code.specs.Register.{Register, Fed}
 use Rattle.code.specs.Lists.{range, part, runs, _orElse_, valuesBy, lastRefusal}
 use Rattle.code.specs.Parameters.{nestedBytes, strength, sheetRefusal}
 use Rattle.code.specs.Code.{gen, degree, remainder, nested, N, shortRemainder, oddSyndromes, allSyndromes, verdict, failingNumber, failingValues}
-use Rattle.code.specs.Layout.{altered, flipped, mending, placeList, wordsOf, blank, pageBytes, pageOf, dataBits, dataBytes, dataOf}
-use Rattle.code.specs.Refusals.{writeRefusal, manyRefusal, alterRefusal, mendRefusal, readRefusal, judgeRefusal, remainderRefusal, shortRefusal, nestedRefusal}
+use Rattle.code.specs.Layout.{altered, flipped, mendedPage, mending, placeList, wordsOf, blank, pageBytes, pageOf, dataBits, dataBytes, dataOf}
+use Rattle.code.specs.Refusals.{writeRefusal, manyRefusal, alterRefusal, mendPageRefusal, mendRefusal, readRefusal, judgeRefusal, remainderRefusal, shortRefusal, nestedRefusal}
 use Rattle.code.specs.Refusals.{syndromesRefusal, nestedSyndromesRefusal, allRefusal, openRefusal, feedRefusal, quoteRefusal, nestingRefusal}
 
 -- ---- numbers and values of the answers
@@ -229,18 +229,22 @@ abbrev pub AllMade : Parameters → ℕ → List ℕ → List ℕ → List ℕ �
 AllMade p level odd out after r = Made (allRefusal 1 p level (length odd) (length out)) (allSyndromes p odd) out after r
 
 -- ---- mend: sub-word i with the places R flipped, the list of these places, and their number
-abbrev pub mendingPlaces : Option (List ℕ) → List ℕ
-mendingPlaces none = []
-mendingPlaces (some R) = R
+abbrev pub listOf : Option (List ℕ) → List ℕ
+listOf none = []
+listOf (some R) = R
 
 abbrev pub placesOf : Parameters → List ℕ → ℕ → List ℕ
-placesOf p page i = mendingPlaces (mending p page i)
+placesOf p page i = listOf (mending p page i)
 
 abbrev pub Mended : Parameters → List ℕ → List ℕ → ℕ → List ℕ → List ℕ → ℕ → ℕ → Outcome → Type 0
 Mended p page after i list listed count counted r =
     Made (mendRefusal 1 p page i (length list)) (flipped p page i (placesOf p page i)) page after r
     × Made (mendRefusal 1 p page i (length list)) (placeList (strength p 0) (placesOf p page i)) list listed r
     × Made (mendRefusal 1 p page i (length list)) (length (placesOf p page i) ∷ []) (count ∷ []) (counted ∷ []) r
+
+-- ---- mend a page through its nested words
+abbrev pub PageMended : Parameters → List ℕ → List ℕ → Outcome → Type 0
+PageMended p page after r = Made (mendPageRefusal p page) (listOf (mendedPage p page)) page after r
 
 -- ---- the C calls: the answer is the number, and a list of 16-bit numbers is bytes, two a number, low byte first
 unfoldable pub asBytes : List ℕ → List ℕ
@@ -277,6 +281,9 @@ MendedC p page after i list listed count counted r =
     MadeC (mendRefusal 2 p page i (length list)) (flipped p page i (placesOf p page i)) page after r
     × MadeC (mendRefusal 2 p page i (length list)) (asBytes (placeList (strength p 0) (placesOf p page i))) list listed r
     × MadeC (mendRefusal 2 p page i (length list)) (length (placesOf p page i) ∷ []) (count ∷ []) (counted ∷ []) r
+
+abbrev pub PageMendedC : Parameters → List ℕ → List ℕ → ℕ → Type 0
+PageMendedC p page after r = MadeC (mendPageRefusal p page) (listOf (mendedPage p page)) page after r
 
 pub record ReadOutC (p : Parameters) (page blocks after : List ℕ) (r : ℕ) : Type 0 where
   pub answers : r ≡ readNumber p page blocks

@@ -39,7 +39,7 @@ some-of P i k x h l t = go (any P (range i k)) refl
     go true e = tt
     go false e = absurd (against (P x) t (any-none P i k (rw e tt) x h l))
 
-of-some : (P : ℕ → Bool) (i k : ℕ) → T (any P (range i k)) → (x : ℕ) × (i ≤ x) × (x < i + k) × T (P x)
+pub of-some : (P : ℕ → Bool) (i k : ℕ) → T (any P (range i k)) → (x : ℕ) × (i ≤ x) × (x < i + k) × T (P x)
 unfolding any range
 of-some P i zero t = absurd t
 of-some P i (suc k) t = go (either (P i) (any P (range (suc i) k)) t) (λ u. of-some P (suc i) k u)

@@ -17,11 +17,12 @@
 --   mending p x i         the places of the flips that mend sub-word i of the page x, at level 0; or none
 --   flipped p x i R       the page x with the places R of sub-word i flipped
 --   placeList k R         the places R in a list of k numbers: 65535 from their end on
+--   mendedPage p x        the page x mended through its nested words; or none
 --   differences p x y     the number of pairs of a sub-word i and a place k at which the coefficients of two pages differ
 use mathlib.Core.Path.{_≡_}
 use mathlib.Core.Bool.{Bool, not, cond}
 use mathlib.Core.List.{List, _++_, map}
-use mathlib.Core.Option.{Option}
+use mathlib.Core.Option.{Option, none, some}
 use Prim.Native.Nat.{ℕ, _+_, _-_, _*_, _/_, _%_, _^_, _<_}
 use lib.Dec.{T, eqb}
 use lib.ListN.{length, getD, set, replicate, take}
@@ -33,6 +34,7 @@ use Rattle.code.specs.declared.Parameters.{Parameters}
 use Rattle.code.specs.Lists.{range, sum, split, join, each, fitsIn, onesIn, addBelow, countBelow}
 use Rattle.code.specs.Parameters.{stored, subWordBytes}
 use Rattle.code.specs.Code.{degree, checkBits, encode, dataWords, nearest}
+use Rattle.code.specs.Nest.{mendPage}
 
 -- ---- pages: m sub-words of (n - s + 7) / 8 bytes, the stored coefficients and above them 0 to 7 spare bits
 abbrev pub wordSizes : Parameters → List ℕ
@@ -158,6 +160,15 @@ noPlace = 65535
 
 unfoldable pub placeList : ℕ → List ℕ → List ℕ
 placeList k R = R ++ replicate (k - length R) noPlace
+
+-- ---- a page mended through its nested words
+abbrev pub inBytes : Parameters → Option (List ℕ) → Option (List ℕ)
+inBytes p none = none
+inBytes p (some cs) = some (join (wordSizes p) cs)
+
+unfoldable pub mendedPage : Parameters → List ℕ → Option (List ℕ)
+unfolding mendPage wordsOf join
+mendedPage p page = inBytes p (mendPage p (wordsOf p page))
 
 unfoldable pub differences : Parameters → List ℕ → List ℕ → ℕ
 unfolding addBelow countBelow

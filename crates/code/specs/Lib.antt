@@ -3,6 +3,7 @@
 pub mod Lists
 pub mod Parameters
 pub mod Code
+pub mod Nest
 pub mod Layout
 pub mod Register
 pub mod Refusals
@@ -38,5 +39,7 @@ pub mod Demands
 pub mod Bursts
 pub mod Alter
 pub mod Mend
+pub mod Rounds
+pub mod Recovery
 pub mod Theorems
 pub mod Firmware

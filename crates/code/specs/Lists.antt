@@ -88,4 +88,4 @@ valuesBy zero l = l
 valuesBy (suc r) l = []
 
 abbrev pub lastRefusal : ℕ
-lastRefusal = 15
+lastRefusal = 17

@@ -37,10 +37,10 @@ use Rattle.code.specs.Refusals.{mendRefusal, notExact, nowhere, pageRefu
 use Rattle.code.specs.Refused.{page-links, word-le}
 
 -- ---- options
-some-inj : (R Q : List ℕ) → some R ≡ some Q → R ≡ Q
+pub some-inj : (R Q : List ℕ) → some R ≡ some Q → R ≡ Q
 some-inj R Q e = cc
 
-none-some : (R : List ℕ) → none ≡ some R → ⊥
+pub none-some : (R : List ℕ) → none ≡ some R → ⊥
 none-some R e = let z : _≡_ {A = ℕ} 0 1 = cc in Nat.suc-ne-zero 0 (sym z)
 
 unflipped-some : (b : Bool) (R : List ℕ) → unflipped b ≡ some R → T b × ([] ≡ R)

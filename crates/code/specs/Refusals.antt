@@ -12,7 +12,7 @@ use Rattle.code.specs.Register.{Register}
 use Rattle.code.specs.Lists.{_when_, _orElse_}
 use Rattle.code.specs.Parameters.{full, nestedBytes, strength, sheetRefusal}
 use Rattle.code.specs.Code.{degree}
-use Rattle.code.specs.Layout.{altered, mending, pageBytes, dataBits, dataBytes, pageClear, blank, blocksClear, pageOf}
+use Rattle.code.specs.Layout.{altered, mendedPage, mending, pageBytes, dataBits, dataBytes, pageClear, blank, blocksClear, pageOf}
 
 -- 5: the width L is not 1 to 64
 abbrev pub badWidth : ℕ → Bool
@@ -127,6 +127,11 @@ nowhere (some R) = false
 unfoldable pub mendRefusal : ℕ → Parameters → List ℕ → ℕ → ℕ → ℕ
 unfolding wordRefusal mending
 mendRefusal size p page i out = wordRefusal p page i (p .m) out (size * strength p 0) orElse 15 when nowhere (mending p page i)
+
+-- ---- mend a page through its nested words: 17 where no member comes of it
+unfoldable pub mendPageRefusal : Parameters → List ℕ → ℕ
+unfolding pageRefusal mendedPage
+mendPageRefusal p page = pageRefusal p page orElse 17 when nowhere (mendedPage p page)
 
 -- ---- the register
 unfoldable pub openRefusal : Parameters → ℕ → ℕ

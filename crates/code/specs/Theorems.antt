@@ -41,7 +41,7 @@ use Rattle.code.specs.Buffers.{nested-back, remainder-back, row-back, sh
 use Rattle.code.specs.Bursts.{another, apart-pages, apart-places, burst-same, bytes-burst, cyclic, moved-divides, moved-lt, others-same}
 use Rattle.code.specs.Bursts.{single-has, single-is, single-passing, single-unblank, singlePage}
 use Rattle.code.specs.Calls.{Altered, Judged, Mended, QuoteMade, ReadOut, Written, WrittenMany, empty, judgeAnswer, leaves, AllMade}
-use Rattle.code.specs.Calls.{mendingPlaces, nestedOf, nestedSyndromeList, outcome, outcomeNumber, pagesBy, placesOf, quote, statuses, subWordOf, syndromeList}
+use Rattle.code.specs.Calls.{listOf, nestedOf, nestedSyndromeList, outcome, outcomeNumber, pagesBy, placesOf, quote, statuses, subWordOf, syndromeList}
 use Rattle.code.specs.Chains.{off′, on}
 use Rattle.code.specs.Code.{Flips, IsMember, Near, checkBits, degree, distance, gen, least, nested, newton, remainder, syndromes, verdict, oddSyndromes, allSyndromes}
 use Rattle.code.specs.Degrees.{degree-exact}
@@ -956,7 +956,7 @@ module _ (p : Parameters) (A : Accepted p) where
         (g, (s .1 .0, s .1 .1, mending-iff x i (g .page) (g .sub-word) (s .1 .0) .0 (s .1 .1)))
 
   places-of : (x : List ℕ) (i : ℕ) (Q : List ℕ) → mending p x i ≡ some Q → placesOf p x i ≡ Q
-  places-of x i Q e = ap mendingPlaces e
+  places-of x i Q e = ap listOf e
 
   pub number-of : (n k : ℕ) → n ∷ [] ≡ k ∷ [] → n ≡ k
   number-of n k e = ap (λ (l : List ℕ). getD l 0 0) e

@@ -11,3 +11,5 @@ pub mod Fields
 pub mod Powers
 pub mod Elements
 pub mod Odd
+pub mod Inverse
+pub mod Unmix

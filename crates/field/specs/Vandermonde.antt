@@ -41,7 +41,7 @@ module _ (F : Field2) where
   sum-less x [] j = simp (sum-nil, ring)
   sum-less x (p ∷ l) j = simp (sum-cons, sum-less x l j, pow-suc, ring)
 
-  all-less : (x : K) (P : K → Type 0) (l : List (K × K)) → All (λ q. P (q .0)) l → All (λ q. P (q .0)) (map (less x) l)
+  pub all-less : (x : K) (P : K → Type 0) (l : List (K × K)) → All (λ q. P (q .0)) l → All (λ q. P (q .0)) (map (less x) l)
   all-less x P [] h = tt
   all-less x P (p ∷ l) h = (h .0, all-less x P l (h .1))
 

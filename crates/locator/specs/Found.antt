@@ -19,7 +19,7 @@ use Rattle.field.specs.Irreducible.{both}
 use Rattle.field.specs.Powers.{pow-inj, α≢0}
 use Rattle.field.specs.Roots.{Apart, few-roots, value, value-zeros}
 use Rattle.field.specs.Vandermonde.{Distinct, sum, sum-cons, sum-nil}
-use Rattle.locator.specs.Inverse.{recip, recip-inj}
+use Rattle.field.specs.Inverse.{recip, recip-inj}
 use Rattle.locator.specs.Kept.{kept}
 use Rattle.locator.specs.Locate as L
 use Rattle.locator.specs.Locate.{Located, agree, agree-suc, agree-zero, candidate, candidate-eq, isRoot, locate, locate-eq, locatorOf, locatorOf-eq, rootPlaces, rootPlaces-eq}

@@ -1,6 +1,5 @@
 -- Errors found by their syndromes: Berlekamp's and Massey's locator and its roots.
 -- The definitions:
-pub mod Inverse
 pub mod Series
 pub mod Massey
 pub mod Locate

@@ -15,7 +15,7 @@ use Rattle.field.specs.Elements.{element, syndrome}
 use Rattle.field.specs.Field.{Field2, pow}
 use Rattle.field.specs.Fields.{BinaryField, fieldOf}
 use Rattle.field.specs.Roots.{value}
-use Rattle.locator.specs.Inverse.{recip}
+use Rattle.field.specs.Inverse.{recip}
 use Rattle.locator.specs.Massey.{massey}
 use Rattle.field.specs.Flips.{Rising, flips, passing}
 

@@ -16,7 +16,7 @@ use Rattle.field.specs.Field.{Field2, ring, mul-zero, add-zero, mul-eq-zero, po
 use Rattle.field.specs.Fields.{BinaryField}
 use Rattle.field.specs.Roots.{value, value-nil, value-cons}
 use Rattle.field.specs.Vandermonde.{Distinct, sum, sum-nil, sum-cons, sum-zero, vandermonde}
-use Rattle.locator.specs.Inverse.{recip, recip-is}
+use Rattle.field.specs.Inverse.{recip, recip-is}
 use Rattle.locator.specs.Kept.{Kept, Says, kept, says-zero}
 use Rattle.locator.specs.Massey.{State, turn, massey, massey-zero, massey-suc}
 use Rattle.locator.specs.Series.{conv, conv-nil, conv-zero, conv-suc, conv-agree}

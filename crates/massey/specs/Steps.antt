@@ -19,7 +19,7 @@ use Rattle.element.specs.Exponents.{times-power, times-zero-r}
 use Rattle.element.specs.Fields.{size-least}
 use Rattle.element.specs.Lent.{LogOf}
 use Rattle.locator.specs.Follow.{discrepancy, entry-plus, entry-scale, terms, terms-agree}
-use Rattle.locator.specs.Inverse.{recip, recip-unique}
+use Rattle.field.specs.Inverse.{recip, recip-unique}
 use Rattle.locator.specs.Kept.{Says, kept, says-le, says-zero}
 use Rattle.locator.specs.Massey.{State, massey, massey-suc, massey-zero, turn}
 use Rattle.locator.specs.Series.{conv, plus, scale}

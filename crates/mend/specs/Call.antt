@@ -19,7 +19,7 @@ use Rattle.code.specs.declared.Outcome.{Outcome}
 use Rattle.code.specs.declared.Parameters.{Parameters}
 use Rattle.code.specs.Accepted.{Rules, accepted}
 use Rattle.code.specs.Answers.{made-done, made-refused}
-use Rattle.code.specs.Calls.{Mended, mendingPlaces, placesOf}
+use Rattle.code.specs.Calls.{Mended, listOf, placesOf}
 use Rattle.code.specs.Chains.{or-first}
 use Rattle.code.specs.Code.{Flips, nearest}
 use Rattle.code.specs.Layout.{IsPage, flipped, mending, placeList, wordsOf}
@@ -112,7 +112,7 @@ module _ (p : Parameters) (x : List ℕ) (i : ℕ) (l : List ℕ) (n : ℕ) wher
     mend-made Q after listed counted e a b c =
         let m : mending p x i ≡ some Q = mending-eq p x i ∙ e in
         let f : refusal ≡ 0 = left ∙ ap (λ (o : Option (List ℕ)). 15 when nowhere o) m in
-        let t : placesOf p x i ≡ Q = ap mendingPlaces m in (
+        let t : placesOf p x i ≡ Q = ap listOf m in (
           made-done refusal _ x after f (a ∙ ap (flipped p x i) (sym t)),
           made-done refusal _ l listed f (b ∙ ap (placeList (strength p 0)) (sym t)),
           made-done refusal _ (n ∷ []) (counted ∷ []) f (ap (λ (k : ℕ). k ∷ []) (c ∙ ap length (sym t))),

@@ -26,7 +26,7 @@ use Rattle.field.specs.Roots.{value, value-cons, value-nil}
 use Rattle.tables.specs.Powers.{power-lt}
 use Rattle.element.specs.declared.Field.{Field}
 use Rattle.element.specs.Lent.{Tables, exponent-lt, power-room, root-in}
-use Rattle.locator.specs.Inverse.{recip, recip-eq, recip-is, recip-unique}
+use Rattle.field.specs.Inverse.{recip, recip-eq, recip-is, recip-unique}
 use Rattle.massey.specs.Entries.{Below, F, K, at, below-set, el, el-xor, el-zero, mul2, plus2}
 use Rattle.massey.specs.Steps.{Zeroed, zeroed-below}
 
