@@ -41,5 +41,6 @@ pub mod Alter
 pub mod Mend
 pub mod Rounds
 pub mod Recovery
+pub mod Mending
 pub mod Theorems
 pub mod Firmware

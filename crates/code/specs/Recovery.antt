@@ -13,26 +13,30 @@ use native.Mathlib.Omega.{arith}
 use lib.Dec.{T, eqb, eqb→eq, leb, leb→le, le→leb, ltb, lt→ltb, ltb→lt, not-T}
 use lib.ListN.{length, getD, length-append}
 use lib.Seq.{ext-getD}
+use Rattle.polynomial.specs.Division.{xor-lt}
 use Rattle.polynomial.specs.Sums.{all-at}
-use Rattle.polynomial.specs.Xor.{xor}
-use Rattle.field.specs.Bch.{weight}
+use Rattle.polynomial.specs.Xor.{xor, xor-cancel, xor-self}
+use Rattle.field.specs.Bch.{weight, weight-zero}
+use Rattle.field.specs.Flips.{flips-ones}
 use Rattle.code.specs.declared.Parameters.{Parameters}
 use Rattle.code.specs.declared.Verdict.{Verdict}
 use Rattle.code.specs.Accepted.{Rules, accepted}
 use Rattle.code.specs.Answers.{number-member, verdict-number}
 use Rattle.code.specs.Calls.{verdictNumber}
-use Rattle.code.specs.Code.{IsMember, failingNumber, verdict}
+use Rattle.code.specs.Code.{IsMember, Near, failingNumber, verdict}
 use Rattle.code.specs.Distance.{Passing}
 use Rattle.code.specs.Judge.{member-passing, multiple-iff, verdict-member}
 use Rattle.code.specs.Lists.{addBelow, countBelow, range}
-use Rattle.code.specs.Mend.{nearest-none, none-some, some-inj}
-use Rattle.code.specs.Nest.{Mem, Work, after, after-suc, after-zero, allOnes, alone, end, end-eq, keptBy, mendPage, mendPage-eq, round, roundLevel}
-use Rattle.code.specs.Nest.{rounds, rounds-suc, rounds-zero, start, start-broken, unfound, unfound-nil}
+use Rattle.code.specs.Mend.{nearest-none, nearest-word, none-some, some-inj}
+use Rattle.code.specs.Nest.{Mem, Work, after, after-suc, after-zero, allOnes, alone, end, end-eq, found, keptBy, mendAll, mendAll-nil, mendBy, mendPage, mendPage-eq}
+use Rattle.code.specs.Nest.{round, round-broken, round-words, roundLevel, rounds, rounds-suc, rounds-zero, start, start-broken, start-words, unfound, unfound-nil}
 use Rattle.code.specs.Pages.{IsWords}
-use Rattle.code.specs.Parameters.{Accepted, strength}
-use Rattle.code.specs.Places.{addBelow-suc, addBelow-zero, countBelow-eq}
-use Rattle.code.specs.Rounds.{IsWork, Sound, decMem, fault, range-last, round-falls, round-le, round-stays, round-work, start-stays, start-work, unfound-append, unfound-one, words-low}
+use Rattle.code.specs.Parameters.{Accepted, stored, strength}
+use Rattle.code.specs.Places.{addBelow-none, addBelow-suc, addBelow-zero, countBelow-eq}
+use Rattle.code.specs.Rounds.{IsWork, Sound, decMem, fault, mendAll-at, none-left, range-last, range-mem, range-rising, round-falls, round-le, round-stays, round-work}
+use Rattle.code.specs.Rounds.{start-stays, start-work, unfound-append, unfound-one, words-low}
 use Rattle.code.specs.Steps.{Divides}
+use borrow.Author.Tests.{le-ltb}
 
 abbrev pub heavy : Parameters → List ℕ → List ℕ → ℕ
 heavy p ys cs = countBelow (p .m) (λ i. ltb (strength p 0) (weight (xor (getD ys i 0) (getD cs i 0))))
@@ -82,8 +86,14 @@ unfolding range
 count-unfound f P zero h = rw (unfound-nil f) zero-le
 count-unfound f P (suc n) h =
     rw (range-last 0 n, Nat.zero-add n, unfound-append f (range 0 n) (n ∷ []), length-append (unfound f (range 0 n)) (unfound f (n ∷ [])), unfound-one f n)
-    (omega (arith, countBelow-eq (suc n) P, addBelow-suc n (λ k. cond (P k) 1 0), countBelow-eq n P, count-unfound f P n (λ i l. h i (Nat.le-step l)),
-    kept-count (f n) n (P n) (h n (Nat.le-refl (suc n)))))
+    (omega (
+      arith,
+      countBelow-eq (suc n) P,
+      addBelow-suc n (λ k. cond (P k) 1 0),
+      countBelow-eq n P,
+      count-unfound f P n (λ i l. h i (Nat.le-step l)),
+      kept-count (f n) n (P n) (h n (Nat.le-refl (suc n))),
+    ))
 
 module _ (p : Parameters) (A : Accepted p) where
   R : Rules p
@@ -163,17 +173,61 @@ module _ (p : Parameters) (A : Accepted p) where
       go (no n) = rounds-many (suc (p .v + d)) (start p ys) (Nat.lt-of-not-le n) ∙ sym (rounds-many (p .v + d) (start p ys) (Nat.lt-of-not-le n))
 
   -- ---- the first pass leaves no more than the heavy words
+  word-near : (ys cs : List ℕ) → IsWords p cs → Passing p cs → (i : ℕ) → i < p .m → weight (xor (getD ys i 0) (getD cs i 0)) ≤ strength p 0
+      → Near p 0 (getD ys i 0) (getD cs i 0)
+  word-near ys cs C M i l h = record {
+    stores = words-low p cs C i;
+    multiple = multiple-iff p R 0 zero-le (getD cs i 0) .0 (all-at (λ c. Divides p 0 c) cs (M .words) i (rw (C .many) l));
+    near = h;
+  }
+
   pub start-few : (ys cs : List ℕ) → IsWords p ys → IsWords p cs → Passing p cs → length (start p ys .broken) ≤ heavy p ys cs
   start-few ys cs w C M =
       rw (start-broken p ys) (count-unfound (alone p ys) (λ i. ltb (strength p 0) (weight (xor (getD ys i 0) (getD cs i 0)))) (p .m) far)
     where
       far : (i : ℕ) → i < p .m → alone p ys i ≡ none → T (ltb (strength p 0) (weight (xor (getD ys i 0) (getD cs i 0))))
       far i l e = lt→ltb (strength p 0) (weight (xor (getD ys i 0) (getD cs i 0))) (Nat.lt-of-not-le (λ h.
-          nearest-none p R 0 zero-le (getD ys i 0) (words-low p ys w i) .0 e (getD cs i 0) (record {
-            stores = words-low p cs C i;
-            multiple = multiple-iff p R 0 zero-le (getD cs i 0) .0 (all-at (λ c. Divides p 0 c) cs (M .words) i (rw (C .many) l));
-            near = h;
-          })))
+          nearest-none p R 0 zero-le (getD ys i 0) (words-low p ys w i) .0 e (getD cs i 0) (word-near ys cs C M i l h)))
+
+  -- ---- at most t_0 flips in each word: the first pass mends them all
+  module _ (ys cs : List ℕ) (w : IsWords p ys) (C : IsWords p cs) (M : Passing p cs)
+      (h : (i : ℕ) → i < p .m → weight (xor (getD ys i 0) (getD cs i 0)) ≤ strength p 0) where
+    none-heavy : heavy p ys cs ≡ 0
+    none-heavy =
+        countBelow-eq (p .m) (λ i. ltb (strength p 0) (weight (xor (getD ys i 0) (getD cs i 0))))
+        ∙ addBelow-none (p .m) (λ i. cond (ltb (strength p 0) (weight (xor (getD ys i 0) (getD cs i 0)))) 1 0)
+        (λ i l. simp (le-ltb (strength p 0) (weight (xor (getD ys i 0) (getD cs i 0))) (h i l)))
+
+    pass-none : start p ys .broken ≡ []
+    pass-none = none-left (start p ys .broken) (λ b. Nat.not-suc-le-zero (Nat.le-trans b (rw none-heavy at (start-few ys cs w C M))))
+
+    pass-is : (i : ℕ) → i < p .m → getD (start p ys .words) i 0 ≡ getD cs i 0
+    pass-is i l =
+        let y = getD ys i 0 in
+        let c = getD cs i 0 in
+        ap (λ (l : List ℕ). getD l i 0) (start-words p ys)
+        ∙ mendAll-at (alone p ys) 0 (p .m) (range 0 (p .m)) ys i (range-rising 0 (p .m) (p .m) (Nat.zero-add (p .m)))
+        (range-mem 0 (p .m) i zero-le (rw (Nat.zero-add (p .m)) l)) (rw (w .many) l)
+        ∙ ap (mendBy y) (nearest-word p R 0 zero-le y (words-low p ys w i) c (word-near ys cs C M i l (h i l)))
+        ∙ ap (xor y) (flips-ones (stored p) (xor y c) (xor-lt (stored p) y c (words-low p ys w i) (words-low p cs C i))) ∙ xor-cancel y c
+
+    -- and no round changes anything
+    after-none : (k : ℕ) → (after p ys k .broken ≡ []) × ((i : ℕ) → i < p .m → getD (after p ys k .words) i 0 ≡ getD cs i 0)
+    after-none zero = rw (after-zero p ys) (pass-none, pass-is)
+    after-none (suc k) =
+        let W = after p ys k in
+        let n = after-none k in
+        rw (after-suc p ys k) (
+          round-broken p W ∙ ap (unfound (found p W)) (n .0) ∙ unfound-nil (found p W),
+          λ i l. ap (λ (l : List ℕ). getD l i 0) (round-words p W ∙ ap (λ (js : List ℕ). mendAll (found p W) js (W .words)) (n .0) ∙ mendAll-nil (found p W) (W .words)) ∙ n .1 i l,
+        )
+
+    pub near-hopeful : Hopeful p ys cs
+    near-hopeful = record {
+      few = rw none-heavy zero-le;
+      right = λ k. record { is = λ i l m. after-none k .1 i l };
+      light = λ k b. absurd (Nat.not-suc-le-zero (rw (after-none k .0) at b));
+    }
 
   -- ---- THE MEMBER COMES BACK
   module _ (cs ys : List ℕ) (C : IsWords p cs) (M : IsMember p cs) (u : T (not (allOnes p cs))) (w : IsWords p ys) (H : Hopeful p ys cs) where
@@ -232,3 +286,9 @@ module _ (p : Parameters) (A : Accepted p) where
     comes-back =
         let b : length (start p ys .broken) ≤ p .v = Nat.le-trans (start-few ys cs w C P) (H .few) in
         mendPage-eq p ys ∙ ap (rounds p (p .v)) (sym (after-zero p ys)) ∙ back (p .v) 0 (rw (after-zero p ys) b) (rw (after-zero p ys) b)
+
+  -- a member stays as it is
+  pub mendPage-member : (ws : List ℕ) → IsWords p ws → IsMember p ws → T (not (allOnes p ws)) → mendPage p ws ≡ some ws
+  mendPage-member ws w M u =
+      comes-back ws ws w M u w
+      (near-hopeful ws ws w w (member-passing p R ws M (w .many)) (λ i l. rw (xor-self (getD ws i 0), weight-zero) zero-le))

@@ -396,7 +396,7 @@ pub record IsWork (p : Parameters) (W : Work) : Type 0 where
 pub record Sound (p : Parameters) (W : Work) (cs : List ℕ) : Type 0 where
   pub is : (i : ℕ) → i < p .m → ¬ Mem i (W .broken) → getD (W .words) i 0 ≡ getD cs i 0
 
-none-left : (l : List ℕ) → ¬ (1 ≤ length l) → l ≡ []
+pub none-left : (l : List ℕ) → ¬ (1 ≤ length l) → l ≡ []
 none-left [] n = refl
 none-left (x ∷ l) n = absurd (n (suc-le-suc zero-le))
 
