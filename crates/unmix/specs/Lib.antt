@@ -1,0 +1,2 @@
+-- One weight out of power sums, in numbers.
+pub mod Nodes
