@@ -4,7 +4,7 @@
 --   Apart q t i ks         at α, α^3, .., t of them, the nodes of ks are others than that of i
 --   Divided q a d r        r is a / d
 --   TakenOut q y a b       b are the sums a with the node y taken out
-use mathlib.Core.Path.{_≡_}
+use mathlib.Core.Path.{_≡_, refl}
 use mathlib.Core.Logic.{_≢_}
 use mathlib.Core.List.{List, map}
 use Prim.Native.Nat.{ℕ, suc, _+_, _*_, _^_, _<_}
@@ -21,6 +21,11 @@ use Rattle.massey.specs.Entries.{Below, el, mul2}
 unfoldable pub weightAt : ℕ → ℕ → ℕ → List ℕ → (ℕ → ℕ) → ℕ
 unfolding unmix element fieldOf
 weightAt q j i ks N = let B = fieldOf q in B .num (unmix B (node B j i) (map (node B j) ks) (λ l. element B (N l)))
+
+pub weightAt-eq : (q j i : ℕ) (ks : List ℕ) (N : ℕ → ℕ)
+    → weightAt q j i ks N ≡ fieldOf q .num (unmix (fieldOf q) (node (fieldOf q) j i) (map (node (fieldOf q) j) ks) (λ l. el q (N l)))
+unfolding weightAt
+weightAt-eq q j i ks N = refl
 
 abbrev pub unmixedAt : ℕ → List ℕ → List ℕ → ℕ → ℕ → ℕ
 unmixedAt q rows ks i k = weightAt q (2 * k + 1) i ks (λ l. getD rows (64 * l + k) 0)
