@@ -53,9 +53,9 @@ module _ {i : ℕ} {ks : List ℕ} {k c : ℕ} {l : List ℕ} (K : Kept i ks k c
   kept-else b n = record {
     few = omega (arith, K .few);
     are = rw (add-one k, add-one c) (
-      take-suc (set l c (getD ks k 0)) c 0 (rw (length-set l c (getD ks k 0)) b)
-      ∙ ap₂ (λ (m : List ℕ) (x : ℕ). m ++ (x ∷ [])) (take-set-le c l c (getD ks k 0) (Nat.le-refl c) ∙ K .are) (getD-set-same l c (getD ks k 0) 0 b)
-      ∙ sym (one-more ∙ ap (λ (m : List ℕ). others i (take k ks) ++ m) (one-else i (getD ks k 0) n)));
+        take-suc (set l c (getD ks k 0)) c 0 (rw (length-set l c (getD ks k 0)) b)
+        ∙ ap₂ (λ (m : List ℕ) (x : ℕ). m ++ (x ∷ [])) (take-set-le c l c (getD ks k 0) (Nat.le-refl c) ∙ K .are) (getD-set-same l c (getD ks k 0) 0 b)
+        ∙ sym (one-more ∙ ap (λ (m : List ℕ). others i (take k ks) ++ m) (one-else i (getD ks k 0) n)));
   }
 
 pub kept-last : {i : ℕ} {ks : List ℕ} {k c : ℕ} {l : List ℕ} → Kept i ks k c l → k ≤ length ks → length ks ≤ k

@@ -22,9 +22,6 @@ use Rattle.element.specs.Exponents.{times-lt}
 use Rattle.massey.specs.Entries.{Below, Product, below-set, el-times, number}
 use Rattle.unmix.specs.Nodes.{TakenOut}
 
-pub below-xor : (q a b : ℕ) → a < 2 ^ q → b < 2 ^ q → bitXor a b < 2 ^ q
-below-xor q a b ha hb = rw (xor-is a b) (xor-lt q a b ha hb)
-
 -- a list that is filled with elements' numbers
 pub below-map : (q : ℕ) (f : ℕ → ℕ) (n : ℕ) (l : List ℕ) → ((i : ℕ) → f i < 2 ^ q) → l ≡ map f (range 0 n) → Below q l
 below-map q f n l h e = record { lt = λ i. go i (decLe (suc i) n) }
@@ -54,7 +51,7 @@ pub taking-next : {q y : ℕ} {a : List ℕ} {l : ℕ} {b : List ℕ} → Known 
 taking-next {q} {y} {a} {l} {b} known hy T h x P = record {
   size = length-set b l z ∙ T .size;
   within = Nat.le-of-lt h;
-  small = below-set l z here (T .small) (below-xor q (getD b (l + 1) 0) x (T .small .lt (l + 1)) (P .small));
+  small = below-set l z here (T .small) (rw (xor-is (getD b (l + 1) 0) x) (xor-lt q (getD b (l + 1) 0) x (T .small .lt (l + 1)) (P .small)));
   done = λ k m. go k (Nat.eq-or-lt-of-le (omega arith));
   rest = λ k m. getD-set-other b l k z 0 (omega arith) ∙ T .rest k (omega arith);
 }

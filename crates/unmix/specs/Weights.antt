@@ -2,7 +2,7 @@
 --   Unmixing q j i ks a c b d    b are the sums a with the first c nodes of ks taken out, and d is the product of the node of i plus each
 use mathlib.Core.Path.{_≡_, refl, sym, ap, ap₂, _∙_}
 use mathlib.Core.Logic.{_≢_}
-use mathlib.Core.List.{List, [], _∷_, map}
+use mathlib.Core.List.{List, map}
 use Prim.Native.Nat.{ℕ, zero, suc, _+_, _-_, _*_, _%_, _^_, _≤_, _<_, zero-le}
 use native.Mathlib.Nat as Nat
 use native.Mathlib.Numerals.{add-one}
@@ -11,20 +11,22 @@ use lib.Bits.{bitXor}
 use lib.ListN.{length, getD, drop, length-drop, length-map, drop-of-length-le}
 use lib.Pow.{pow-pos}
 use lib.Seq.{drop-cons}
-use Rattle.polynomial.specs.Xor.{xor, xor-is}
+use Rattle.polynomial.specs.Xor.{xor-is}
 use Rattle.field.specs.Elements.{element-num, power, power-num, times}
-use Rattle.field.specs.Field.{Field2, ring, add-eq-zero, mul-eq-zero, mul-one, mul-pow, pow, pow-mul, zero-mul}
+use Rattle.field.specs.Field.{Field2, ring, add-eq-zero, mul-eq-zero, mul-one, mul-pow, pow-mul, zero-mul}
 use Rattle.field.specs.Fields.{BinaryField, Known, fieldOf}
 use Rattle.field.specs.Inverse.{recip, recip-eq, recip-is, recip-unique}
 use Rattle.field.specs.Unmix.{unmix, unmix-agree, unmix-cons, unmix-nil}
 use Rattle.tables.specs.Powers.{power-lt}
+use Rattle.code.specs.Filled.{map-at}
+use Rattle.code.specs.Lists.{range}
 use Rattle.code.specs.Nest.{node}
 use Rattle.element.specs.declared.Field.{Field}
 use Rattle.element.specs.Exponents.{power-mod, times-power}
 use Rattle.element.specs.Fields.{size-least}
-use Rattle.element.specs.Lent.{LogOf, Tables, exponent-lt, root-in}
+use Rattle.element.specs.Lent.{LogOf, Tables, exponent-lt, power-room, root-in}
 use Rattle.massey.specs.Entries.{Below, Product, at, el, el-one, el-small, el-times, el-xor, el-zero, number, plus2}
-use Rattle.unmix.specs.Nodes.{Divided, TakenOut, weightAt, weightAt-eq}
+use Rattle.unmix.specs.Nodes.{Divided, TakenOut, unmixedAt, weightAt, weightAt-eq}
 
 -- ---- inverses
 module _ (B : BinaryField) where
@@ -45,8 +47,20 @@ weight-agree q j i ks N M h =
     ∙ ap (B .num) (unmix-agree B (node B j i) (map (node B j) ks) (λ l. el q (N l)) (λ l. el q (M l)) (λ l b. ap (el q) (h l (rw (length-map ks (node B j)) at b))))
     ∙ sym (weightAt-eq q j i ks M)
 
+-- the sums of a column of rows
+pub unmixed-is : (q : ℕ) (rows ks : List ℕ) (i k : ℕ) (a : List ℕ) (r : ℕ) → a ≡ map (λ l. getD rows (64 * l + k) 0) (range 0 (length ks + 1))
+    → r ≡ weightAt q (2 * k + 1) i ks (λ l. getD a l 0) → r ≡ unmixedAt q rows ks i k
+unmixed-is q rows ks i k a r e w =
+    let N : ℕ → ℕ = λ l. getD rows (64 * l + k) 0 in
+    w ∙ weight-agree q (2 * k + 1) i ks (λ l. getD a l 0) N (λ l h. map-at N (length ks + 1) a e l (omega arith))
+
 pub node-small : (j i : ℕ) → j < 128 → i < 8 → j * i ≤ 1024
 node-small j i hj hi = Nat.mul-le-mul (Nat.le-of-lt hj) (Nat.le-of-lt hi)
+
+pub node-room : {f : Field} {p l : List ℕ} → Tables f p l → (e : ℕ) → e % f .order < length p
+node-room {f} {p} {l} T e =
+    let o : f .order ≡ 2 ^ f .q - 1 = T .field .order in
+    Nat.lt-of-lt-of-le (Nat.mod-lt e (omega (arith, size-least (f .q) (T .field .known)))) (rw o (power-room f p l T))
 
 -- the entry j i, counted modulo the order, of the powers
 pub node-is : {f : Field} {p l : List ℕ} → Tables f p l → (j i : ℕ) → (getD p (j * i % f .order) 0 ≡ power (f .q) (j * i)) × (getD p (j * i % f .order) 0 < 2 ^ f .q)
@@ -175,9 +189,9 @@ module _ (q : ℕ) (known : Known q) (j i : ℕ) (ks a : List ℕ) where
         above = Nat.pos-of-ne-zero nonzero;
         below = P .small;
         is = rw (add-one c) (U .is
-          ∙ ap (λ (u : K). u ⊗ recip (fieldOf q) (el q d)) (ap (λ (l : List ℕ). unmix (fieldOf q) X (Ys l) (at q b)) (drop-cons ks c 0 h)
-          ∙ unmix-cons (fieldOf q) X Y (Ys (drop (suc c) ks)) (at q b)
-          ∙ ap (λ (u : K). u ⊗ recip (fieldOf q) (X ⊕ Y)) (unmix-agree (fieldOf q) X (Ys (drop (suc c) ks)) (λ l. at q b (suc l) ⊕ Y ⊗ at q b l) (at q b′) entry))
-          ∙ regroup (unmix (fieldOf q) X (Ys (drop (suc c) ks)) (at q b′)) (recip (fieldOf q) (X ⊕ Y)) (recip (fieldOf q) (el q d))
-          ∙ ap (λ (u : K). unmix (fieldOf q) X (Ys (drop (suc c) ks)) (at q b′) ⊗ u) (sym (ap (recip (fieldOf q)) factor ∙ recip-mul (fieldOf q) (el q d) (X ⊕ Y))));
+            ∙ ap (λ (u : K). u ⊗ recip (fieldOf q) (el q d)) (ap (λ (l : List ℕ). unmix (fieldOf q) X (Ys l) (at q b)) (drop-cons ks c 0 h)
+            ∙ unmix-cons (fieldOf q) X Y (Ys (drop (suc c) ks)) (at q b)
+            ∙ ap (λ (u : K). u ⊗ recip (fieldOf q) (X ⊕ Y)) (unmix-agree (fieldOf q) X (Ys (drop (suc c) ks)) (λ l. at q b (suc l) ⊕ Y ⊗ at q b l) (at q b′) entry))
+            ∙ regroup (unmix (fieldOf q) X (Ys (drop (suc c) ks)) (at q b′)) (recip (fieldOf q) (X ⊕ Y)) (recip (fieldOf q) (el q d))
+            ∙ ap (λ (u : K). unmix (fieldOf q) X (Ys (drop (suc c) ks)) (at q b′) ⊗ u) (sym (ap (recip (fieldOf q)) factor ∙ recip-mul (fieldOf q) (el q d) (X ⊕ Y))));
       }

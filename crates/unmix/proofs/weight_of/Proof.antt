@@ -4,9 +4,10 @@ use mathlib.Core.Logic.{_≢_}
 use Prim.Native.Nat.{_*_, _-_, _<_}
 use native.Mathlib.Omega.{arith}
 use lib.ListN.{length, getD}
+use Rattle.polynomial.specs.Division.{xor-lt}
 use Rattle.polynomial.specs.Sums.{all-at}
+use Rattle.polynomial.specs.Xor.{xor-is}
 use Rattle.field.specs.Elements.{power}
-use Rattle.unmix.specs.Sums.{below-xor}
 use Rattle.unmix.specs.Weights.{Unmixing, unmixing-first, unmixing-last, unmixing-next}
 use Rattle.unmix.proofs.weight_of.Statement.{statement}
 use Rattle.unmix.proofs.weight_of.Tie as tie
@@ -66,7 +67,7 @@ product-requires c κs =
     let t = c .before .before .before .before in
     let i = t .before .before in
     let x = l i .before .node in
-    (s i .pre .0, l i .loop .inv .1 .below, below-xor (s i .args .f .q) (x .result) (t .node2 .result) (x .ensures .1) (t .node2 .ensures .1))
+    (s i .pre .0, l i .loop .inv .1 .below, rw (xor-is (x .result) (t .node2 .result)) (xor-lt (s i .args .f .q) (x .result) (t .node2 .result) (x .ensures .1) (t .node2 .ensures .1)))
 
 add-c : tie.Need-add-c Inv-loop μ-loop
 add-c c = search needs
