@@ -3,7 +3,7 @@
 use mathlib.Core.Path.{_≡_, refl, sym, ap, ap₂, _∙_}
 use mathlib.Core.Logic.{_≢_}
 use mathlib.Core.List.{List, map}
-use Prim.Native.Nat.{ℕ, zero, suc, _+_, _-_, _*_, _%_, _^_, _≤_, _<_, zero-le}
+use Prim.Native.Nat.{ℕ, suc, _+_, _-_, _*_, _%_, _^_, _≤_, _<_, zero-le}
 use native.Mathlib.Nat as Nat
 use native.Mathlib.Numerals.{add-one}
 use native.Mathlib.Omega.{arith}
@@ -54,6 +54,7 @@ unmixed-is q rows ks i k a r e w =
     let N : ℕ → ℕ = λ l. getD rows (64 * l + k) 0 in
     w ∙ weight-agree q (2 * k + 1) i ks (λ l. getD a l 0) N (λ l h. map-at N (length ks + 1) a e l (omega arith))
 
+-- ---- nodes, by the table of powers
 pub node-small : (j i : ℕ) → j < 128 → i < 8 → j * i ≤ 1024
 node-small j i hj hi = Nat.mul-le-mul (Nat.le-of-lt hj) (Nat.le-of-lt hi)
 
@@ -76,7 +77,7 @@ module _ (q : ℕ) (known : Known q) where
   abbrev B : BinaryField
   B = fieldOf q
 
-  open Field2 (fieldOf q .field) using (K, 𝟘, 𝟙, _⊕_, _⊗_)
+  open Field2 (fieldOf q .field) using (K, 𝟘, _⊕_, _⊗_)
 
   infixl 65 _⊕_
   infixl 70 _⊗_
@@ -131,7 +132,7 @@ pub record Unmixing (q j i : ℕ) (ks a : List ℕ) (c : ℕ) (b : List ℕ) (d 
       ≡ fieldOf q .field ._⊗_ (unmix (fieldOf q) (node (fieldOf q) j i) (map (node (fieldOf q) j) (drop c ks)) (at q b)) (recip (fieldOf q) (el q d))
 
 module _ (q : ℕ) (known : Known q) (j i : ℕ) (ks a : List ℕ) where
-  open Field2 (fieldOf q .field) using (K, 𝟘, 𝟙, _⊕_, _⊗_)
+  open Field2 (fieldOf q .field) using (K, _⊕_, _⊗_)
 
   infixl 65 _⊕_
   infixl 70 _⊗_

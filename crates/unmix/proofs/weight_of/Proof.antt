@@ -19,7 +19,7 @@ abbrev μ-loop : tie.MeasureT-loop
 μ-loop sums₀ others powers logs f j i x n d₀ c₀ sums d c = n - c
 
 node-requires : tie.Need-node-requires Inv-loop μ-loop
-node-requires c κs = let s = c .before .before .before .before in (s .pre .0, s .pre .3, s .pre .4)
+node-requires c κs = search needs
 
 loop-holds : tie.Need-loop-holds Inv-loop μ-loop
 loop-holds c =
@@ -54,7 +54,7 @@ cast-node : tie.Need-cast-node Inv-loop μ-loop
 cast-node c = omega (arith, below (c .before))
 
 node-requires-2 : tie.Need-node-requires-2 Inv-loop μ-loop
-node-requires-2 c κs = let s = s (c .before) in (s .pre .0, s .pre .3, below (c .before))
+node-requires-2 c κs = (s (c .before) .pre .0, search needs, below (c .before))
 
 take-out-requires : tie.Need-take-out-requires Inv-loop μ-loop
 take-out-requires c κs =
