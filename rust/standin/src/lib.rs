@@ -4,7 +4,7 @@
 //! `faults.sh` has the list and asks that the tests find each.
 
 use reference::calls::BLANK;
-use reference::decode::locate;
+use reference::decode::{locate, syndromes as syndromes_of};
 use reference::generator::{Level, odd};
 use reference::layout::{add, bit, flip, set};
 use reference::parameters::Sheet;
@@ -694,7 +694,7 @@ fn mend_places(sheet: &Sheet, word: &[u64], i: usize) -> Option<Vec<usize>> {
     let by_level = |level| Sheet { field, m, v, s, levels: vec![level] }.mending(word).filter(|found| found.len() <= t);
     match () {
         _ if fault("mend-no-last-look") => {
-            locate(field, t, word).filter(|found| found.iter().all(|&place| place < stored))
+            locate(field, &syndromes_of(field, t, word)).filter(|found| found.iter().all(|&place| place < stored))
         }
         _ if fault("mend-one-more") && found.is_none() && field.q == 4 => (0..stored).find_map(|k| {
             let mut other = word.to_vec();
