@@ -166,8 +166,9 @@ impl Run {
         assert!(mended.is_none(), "{p:?}: mended, {rounds:?} broken");
     }
 
-    /// A member with b sub-words damaged in this way, and all others within t_0 flips.
-    fn damaged(&mut self, p: &Parameters, b: usize, kind: Damage) {
+    /// A member, the page of it with b sub-words damaged in this way and all others within t_0 flips, and how many sub-words are
+    /// broken before and after each round if none is taken for another.
+    fn damage(&mut self, p: &Parameters, b: usize, kind: Damage) -> (Vec<u8>, Vec<u8>, Vec<usize>) {
         let sheet = Sheet::of(p);
         let member = member(&mut self.random, p);
         let mut page = member.clone();
@@ -187,12 +188,18 @@ impl Run {
             })
             .collect();
         damage(&mut self.random, &sheet, &mut page, &named);
+        let flips: Vec<usize> = named.into_iter().map(|(_, flips)| flips).collect();
+        (member, page, ideal(&sheet, &flips))
+    }
+
+    /// Such a page: the member is found again where none is taken for another, unless a round mends none.
+    fn damaged(&mut self, p: &Parameters, b: usize, kind: Damage) {
+        let (member, page, expected) = self.damage(p, b, kind);
         let (mended, rounds) = self.mend_and_ask(p, &page);
-        let expected = ideal(&sheet, &named.iter().map(|&(_, flips)| flips).collect::<Vec<usize>>());
         let found = mended.as_ref() == Some(&member);
-        assert_eq!(found, rounds == expected && expected.ends_with(&[0]), "{p:?}, {named:?}: {rounds:?} broken");
+        assert_eq!(found, rounds == expected && expected.ends_with(&[0]), "{p:?}, {kind:?}, {b}: {rounds:?} broken");
         // Where the levels are so strong, none is taken for another.
-        assert!(p.q < 12 || p.t[0] < 10 || rounds == expected, "{p:?}, {named:?}: {rounds:?} broken");
+        assert!(p.q < 12 || p.t[0] < 10 || rounds == expected, "{p:?}, {kind:?}, {b}: {rounds:?} broken");
         self.found += usize::from(found);
         self.kinds.insert((p.s > 0, b, kind, found));
     }
@@ -437,6 +444,31 @@ fn wrong_at_first() {
     run.say("wrong at first");
     assert!(others > 20 && run.refused > others, "{others} other members");
     run.met(17, &[&[0], &[1, 0], &[1, 1]]);
+}
+
+/// Of several sub-words one is taken for another in the round in which others are found: all errors of a round are of the page
+/// as it finds it, and so the page is not the member that it was, which it would be if the one were found from the others.
+#[test]
+fn taken_for_another_in_a_round() {
+    let mut run = Run::new(69);
+    let mut met = BTreeMap::new();
+    let sheets = [Parameters::full(8, 4, 2, [2, 3, 9, 0]), Parameters::full(8, 8, 3, [2, 3, 4, 12])];
+    for p in sheets.into_iter().flat_map(|p| [p, p.shortened(9)]) {
+        run.sheets += 1;
+        for k in 0..600 {
+            let b = 2 + k % (p.v as usize - 1);
+            let (member, page, expected) = run.damage(&p, b, Damage::Steps);
+            let sheet = Sheet::of(&p);
+            let rounds = sheet.rounds(&sheet.words_of(&page)).broken;
+            if rounds[0] == b && rounds != expected {
+                let (mended, _) = run.mend_and_ask(&p, &page);
+                assert!(mended.as_ref() != Some(&member), "{p:?}: found, {rounds:?} broken");
+                *met.entry((p.s > 0, b)).or_insert(0) += 1;
+            }
+        }
+    }
+    run.say("taken for another in a round");
+    assert!(met.len() == 4 && met.values().all(|&times| times > 10), "{met:?}");
 }
 
 /// Where s is 0, a blank page, and what comes to be blank, is refused by 17; what is ones but for the page of one bit, or in some
