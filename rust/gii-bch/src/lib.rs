@@ -594,7 +594,7 @@ impl Sheet {
     /// # use gii_bch::{Refusal, Sheet};
     /// let sheet = Sheet::new(8, 4, 2, [4, 8, 16, 0]);
     /// let mut page = [0; 128];
-    /// sheet.write(64, &vec![0x35; sheet.data_bytes()?], &mut page)?;
+    /// sheet.write(64, &vec![0x05; sheet.data_bytes()?], &mut page)?;
     /// let written = page;
     ///
     /// // 16 places of sub-word 0, 8 of sub-word 3, and one of sub-word 1.
