@@ -455,7 +455,7 @@ fn taken_for_another_in_a_round() {
     let sheets = [Parameters::full(8, 4, 2, [2, 3, 9, 0]), Parameters::full(8, 8, 3, [2, 3, 4, 12])];
     for p in sheets.into_iter().flat_map(|p| [p, p.shortened(9)]) {
         run.sheets += 1;
-        for k in 0..600 {
+        for k in 0..2000 {
             let b = 2 + k % (p.v as usize - 1);
             let (member, page, expected) = run.damage(&p, b, Damage::Steps);
             let sheet = Sheet::of(&p);
@@ -468,7 +468,7 @@ fn taken_for_another_in_a_round() {
         }
     }
     run.say("taken for another in a round");
-    assert!(met.len() == 4 && met.values().all(|&times| times > 10), "{met:?}");
+    assert!(met.len() == 4 && met.values().all(|&times| times > 5), "{met:?}");
 }
 
 /// Where s is 0, a blank page, and what comes to be blank, is refused by 17; what is ones but for the page of one bit, or in some
