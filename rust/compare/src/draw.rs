@@ -5,7 +5,7 @@ use reference::calls::{BLANK, MOST_PAGES, QUOTE_BYTES};
 use reference::generator::odd;
 use reference::layout::{add, bit, flip, set};
 use reference::parameters::Sheet;
-use reference::sample::Random;
+use reference::sample::{Random, all_parameters, all_shortened};
 use reference::{Parameters, linear};
 use std::collections::BTreeSet;
 use std::io::Write;
@@ -46,6 +46,14 @@ pub fn alike(random: &mut Random, call: &Call) -> Outcome {
 /// A sheet with full sub-words, and shortened by half of the greatest s and by the greatest.
 pub fn with_shortened(p: &Parameters) -> [Parameters; 3] {
     [*p, p.shortened(p.most().div_ceil(2)), p.shortened(p.most())]
+}
+
+/// A sheet without spare bits.
+pub const WHOLE_BYTES: Parameters = Parameters::full(12, 4, 1, [4, 12, 0, 0]).shortened(3071);
+
+/// Every sheet of q = 4 with every s, or one in so many of them.
+pub fn sheets_of_q_4() -> impl Iterator<Item = Parameters> {
+    all_parameters(4, 8).into_iter().flat_map(|p| all_shortened(&p)).step_by(one_in())
 }
 
 /// The length of the lent list of odd syndromes.

@@ -5,13 +5,13 @@
 
 use compare::call::{Call, Outcome, sheet};
 use compare::draw::{
-    alike, any_page, break_nested, count, damage, flip_some, member, next_to_blank, one_in, put_multiple, say, seed,
-    some_sub_words, with_shortened, writable,
+    WHOLE_BYTES, alike, any_page, break_nested, count, damage, flip_some, member, next_to_blank, one_in, put_multiple,
+    say, seed, sheets_of_q_4, some_sub_words, with_shortened, writable,
 };
 use gii_bch::{Refusal, Verdict};
 use reference::layout::{bit, flip, set};
 use reference::parameters::Sheet;
-use reference::sample::{Random, all_parameters, all_shortened};
+use reference::sample::Random;
 use reference::{Parameters, linear};
 use std::collections::{BTreeMap, BTreeSet};
 
@@ -31,9 +31,6 @@ const SHEETS_OF_Q_12: [Parameters; 4] = [
     Parameters::full(12, 3, 2, [10, 40, 64, 0]),
     Parameters::full(12, 8, 3, [1, 2, 3, 4]),
 ];
-
-/// A sheet without spare bits.
-const WHOLE_BYTES: Parameters = Parameters::full(12, 4, 1, [4, 12, 0, 0]).shortened(3071);
 
 /// So many sets of flips of a sub-word are gone through; of more so many are drawn.
 const SETS: usize = 600;
@@ -289,7 +286,7 @@ fn every_page_of_the_smallest_sheet() {
 #[test]
 fn mended_on_every_sheet_of_q_4() {
     let mut run = Run::new(61);
-    for p in all_parameters(4, 8).iter().flat_map(all_shortened).step_by(one_in()) {
+    for p in sheets_of_q_4() {
         let sheet = Sheet::of(&p);
         run.sheet(&p);
         let most = sheet.nested_level(0).t + 1;
@@ -403,10 +400,9 @@ fn written_damaged_mended_and_read_out() {
 fn wrong_at_first() {
     let mut run = Run::new(65);
     let mut others = 0;
-    let small = all_parameters(4, 8).into_iter().flat_map(|p| all_shortened(&p)).step_by(one_in());
     let drawn: Vec<Parameters> = [8, 8, 8, 12].map(|q| run.random.shortened_parameters(q)).into();
     let large = SHEETS_OF_Q_8.iter().chain(&SHEETS_OF_Q_12).flat_map(with_shortened);
-    for p in small.chain(large).chain(drawn) {
+    for p in sheets_of_q_4().chain(large).chain(drawn) {
         run.sheets += 1;
         let sheet = Sheet::of(&p);
         let [i, k] = some_sub_words(&mut run.random, &sheet, 2)[..] else { panic!("two sub-words") };
@@ -478,8 +474,7 @@ fn taken_for_another_in_a_round() {
 fn blank_in_the_end() {
     let mut run = Run::new(66);
     let mut blank = BTreeSet::new();
-    let small = all_parameters(4, 8).into_iter().flat_map(|p| all_shortened(&p)).step_by(one_in());
-    for p in small.chain(SHEETS_OF_Q_8.iter().chain(&SHEETS_OF_Q_12).flat_map(with_shortened)) {
+    for p in sheets_of_q_4().chain(SHEETS_OF_Q_8.iter().chain(&SHEETS_OF_Q_12).flat_map(with_shortened)) {
         run.sheets += 1;
         let sheet = Sheet::of(&p);
         let erased = sheet.erased(0);
@@ -563,8 +558,9 @@ fn broken_sub_words_anywhere() {
 fn spare_bits_and_lengths() {
     let mut run = Run::new(68);
     let mut spare_bits = BTreeSet::new();
-    let small = all_parameters(4, 8).into_iter().flat_map(|p| all_shortened(&p)).step_by(one_in());
-    for p in small.chain(SHEETS_OF_Q_8.iter().chain(&SHEETS_OF_Q_12[..1]).flat_map(with_shortened)).chain([WHOLE_BYTES])
+    for p in sheets_of_q_4()
+        .chain(SHEETS_OF_Q_8.iter().chain(&SHEETS_OF_Q_12[..1]).flat_map(with_shortened))
+        .chain([WHOLE_BYTES])
     {
         run.sheets += 1;
         let sheet = Sheet::of(&p);
