@@ -10,9 +10,10 @@ ghost use Rattle.polynomial.specs.Sums.{All};
 ghost use Rattle.code.specs.Lists.{range};
 ghost use Rattle.code.specs.Nest.{others};
 ghost use Rattle.element.specs.Lent.{Tables};
-ghost use Rattle.massey.specs.Entries.{Below, Product};
+ghost use Rattle.massey.specs.Entries.{Below};
 ghost use Rattle.unmix.specs.Nodes.{Apart, Divided, TakenOut, unmixedAt, weightAt};
 use element::Field;
+use massey::product;
 
 // The numbers but for i: how many, and they stand first in the list.
 pub fn others_into(list: &mut [u16], ks: &[u16], i: u16) -> usize
@@ -39,15 +40,6 @@ fn node(powers: &[u16], logs: &[u16], f: Field, j: usize, i: usize) -> u16
 {
     let n = f.order as usize;
     powers[j * i % n]
-}
-
-// The product of two elements.
-fn product(powers: &[u16], logs: &[u16], f: Field, a: u16, b: u16) -> u16
-    requires { ⌜ Tables f (now powers) (now logs) × (a < 2 ^ f .q) × (b < 2 ^ f .q) ⌝ }
-    ensures { λ r. ⌜ Product (f .q) a b r ⌝ }
-{
-    let r = element::times_lent(powers, logs, f, a as u32, b as u32);
-    r as u16
 }
 
 // a / d, d being above 0.
