@@ -43,6 +43,12 @@ some-inj R Q e = cc
 pub none-some : (R : List ℕ) → none ≡ some R → ⊥
 none-some R e = let z : _≡_ {A = ℕ} 0 1 = cc in Nat.suc-ne-zero 0 (sym z)
 
+-- options that hold the same lists are the same
+pub same-option : (o u : Option (List ℕ)) → ((Q : List ℕ) → o ≡ some Q → u ≡ some Q) → ((Q : List ℕ) → u ≡ some Q → o ≡ some Q) → o ≡ u
+same-option (some Q) u f g = sym (f Q refl)
+same-option none none f g = refl
+same-option none (some Q) f g = g Q refl
+
 unflipped-some : (b : Bool) (R : List ℕ) → unflipped b ≡ some R → T b × ([] ≡ R)
 unflipped-some true R e = (tt, some-inj [] R e)
 unflipped-some false R e = absurd (none-some R e)
@@ -277,7 +283,7 @@ module _ (p : Parameters) (R : Rules p) (x : List ℕ) (h : IsPage p x) (i : ℕ
     pub flipped-page : IsPage p (flipped p x i Q)
     flipped-page = rw flipped-eq (words-page p R words words-are)
 
-    flipped-words : wordsOf p (flipped p x i Q) ≡ words
+    pub flipped-words : wordsOf p (flipped p x i Q) ≡ words
     flipped-words = ap (wordsOf p) flipped-eq ∙ words-join p R words words-are
 
     pub flipped-here : getD (wordsOf p (flipped p x i Q)) i 0 ≡ xor word (flips Q)

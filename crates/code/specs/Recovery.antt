@@ -162,6 +162,44 @@ module _ (p : Parameters) (A : Accepted p) where
       rounds-suc p f W ∙ no-is (leb (length (W .broken)) 0) (end p (W .words)) (cond (leb (length (W .broken)) (p .v)) next none) (over (length (W .broken)) 0 (Nat.not-le-of-lt (omega arith)))
       ∙ no-is (leb (length (W .broken)) (p .v)) next none (over (length (W .broken)) (p .v) (Nat.not-le-of-lt h))
 
+  -- ---- with v rounds: none broken, a round that leaves fewer, and one that does not
+  pub rounds-end : (W : Work) → length (W .broken) ≡ 0 → rounds p (p .v) W ≡ end p (W .words)
+  rounds-end W e = go (p .v)
+    where
+      t : T (leb (length (W .broken)) 0)
+      t = le→leb (length (W .broken)) 0 (Nat.le-of-eq e)
+
+      go : (f : ℕ) → rounds p f W ≡ end p (W .words)
+      go zero = rounds-zero p W ∙ yes-is (leb (length (W .broken)) 0) (end p (W .words)) none t
+      go (suc f) = rounds-suc p f W ∙ yes-is (leb (length (W .broken)) 0) (end p (W .words)) _ t
+
+  one-round : (W : Work) (f : ℕ) → 0 < length (W .broken) → length (W .broken) ≤ p .v
+      → rounds p (suc f) W ≡ cond (ltb (length (round p W .broken)) (length (W .broken))) (rounds p f (round p W)) none
+  one-round W f o b =
+      rounds-suc p f W ∙ no-is (leb (length (W .broken)) 0) (end p (W .words)) _ (over (length (W .broken)) 0 (Nat.not-le-of-lt o))
+      ∙ yes-is (leb (length (W .broken)) (p .v)) (cond (ltb (length (round p W .broken)) (length (W .broken))) (rounds p f (round p W)) none) none (le→leb (length (W .broken)) (p .v) b)
+
+  pub rounds-next : (W : Work) → 0 < length (W .broken) → length (W .broken) ≤ p .v → length (round p W .broken) < length (W .broken)
+      → rounds p (p .v) W ≡ rounds p (p .v) (round p W)
+  rounds-next W o b d = go (p .v) b
+    where
+      go : (f : ℕ) → length (W .broken) ≤ f → rounds p f W ≡ rounds p f (round p W)
+      go zero h = absurd (Nat.not-le-of-lt o h)
+      go (suc f) h =
+          one-round W f o b
+          ∙ yes-is (ltb (length (round p W .broken)) (length (W .broken))) (rounds p f (round p W)) none (lt→ltb (length (round p W .broken)) (length (W .broken)) d)
+          ∙ sym (rounds-enough f (round p W) (omega arith))
+
+  pub rounds-stop : (W : Work) → 0 < length (W .broken) → length (W .broken) ≤ p .v → length (W .broken) ≤ length (round p W .broken) → rounds p (p .v) W ≡ none
+  rounds-stop W o b d = go (p .v) b
+    where
+      go : (f : ℕ) → length (W .broken) ≤ f → rounds p f W ≡ none
+      go zero h = absurd (Nat.not-le-of-lt o h)
+      go (suc f) h =
+          one-round W f o b
+          ∙ no-is (ltb (length (round p W .broken)) (length (W .broken))) (rounds p f (round p W)) none
+          (not-T (ltb (length (round p W .broken)) (length (W .broken))) (λ t. Nat.not-le-of-lt (ltb→lt (length (round p W .broken)) (length (W .broken)) t) d))
+
   -- v rounds are enough: as many more as one likes give the same
   pub v-enough : (d : ℕ) (ys : List ℕ) → rounds p (p .v + d) (start p ys) ≡ mendPage p ys
   v-enough zero ys = ap (λ (f : ℕ). rounds p f (start p ys)) (Nat.add-zero (p .v)) ∙ sym (mendPage-eq p ys)

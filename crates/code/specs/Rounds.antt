@@ -35,7 +35,7 @@ use Rattle.code.specs.Degrees.{of-some}
 use Rattle.code.specs.Distance.{Passing, eval-nested-root, nested-add, pow-differ, root-apart, root≢zero}
 use Rattle.code.specs.Judge.{multiple-iff}
 use Rattle.code.specs.Lists.{any, range}
-use Rattle.code.specs.Mend.{flips-once, nearest-sound, tried-none, tried-sound}
+use Rattle.code.specs.Mend.{flips-once, nearest-sound, same-option, tried-none, tried-sound}
 use Rattle.code.specs.Nest.{ErrorBy, Mem, Work, agrees, agrees-eq, alone, errorOf, errorOf-eq, errorSyndrome, errorSyndrome-eq, found, found-eq}
 use Rattle.code.specs.Nest.{keptBy, mendAll, mendAll-cons, mendAll-nil, mendBy, node, others, others-cons, others-nil, round, round-broken, round-words}
 use Rattle.code.specs.Nest.{roundLevel, start, start-broken, start-words, unfound, unfound-cons, unfound-nil}
@@ -225,6 +225,18 @@ module _ (f : ℕ → Option (List ℕ)) where
       go k (yes e) (yes l) = rw (e, getD-set-same ws j x 0 l) (mendBy-lt z (getD ws j 0) (f j) (r j) (h j))
       go k (yes e) (no l) = rw (List·getD-eq-default (set ws j x) 0 {n = k} (omega (arith, length-set ws j x))) (pow-pos z)
 
+-- what is found alike is done alike
+pub unfound-agree : (f g : ℕ → Option (List ℕ)) (js : List ℕ) → ((i : ℕ) → Mem i js → f i ≡ g i) → unfound f js ≡ unfound g js
+unfound-agree f g [] h = unfound-nil f ∙ sym (unfound-nil g)
+unfound-agree f g (i ∷ js) h =
+    unfound-cons f i js ∙ ap₂ (λ (o : Option (List ℕ)) (l : List ℕ). keptBy o i l) (h i (inl refl)) (unfound-agree f g js (λ k m. h k (inr m))) ∙ sym (unfound-cons g i js)
+
+pub mendAll-agree : (f g : ℕ → Option (List ℕ)) (js ws : List ℕ) → ((i : ℕ) → Mem i js → f i ≡ g i) → mendAll f js ws ≡ mendAll g js ws
+mendAll-agree f g [] ws h = mendAll-nil f ws ∙ sym (mendAll-nil g ws)
+mendAll-agree f g (i ∷ js) ws h =
+    mendAll-cons f i js ws ∙ ap (λ (o : Option (List ℕ)). mendAll f js (set ws i (mendBy (getD ws i 0) o))) (h i (inl refl))
+    ∙ mendAll-agree f g js (set ws i (mendBy (getD ws i 0) (g i))) (λ k m. h k (inr m)) ∙ sym (mendAll-cons g i js ws)
+
 pub words-low : (p : Parameters) (ws : List ℕ) → IsWords p ws → (i : ℕ) → getD ws i 0 < 2 ^ stored p
 words-low p ws w i = go (decLe (suc i) (length ws))
   where
@@ -312,6 +324,15 @@ module _ (p : Parameters) (R : Rules p) where
             few = rw (length-ones (stored p) e low) h;
             sums = λ j o b. rw (flips-ones (stored p) e low) (sym (is j o b));
           })
+
+    -- syndromes that agree have the same error
+    error-same : (S N : ℕ → ℕ) → ((j : ℕ) → 0 < j → j ≤ 2 * strength p a → S j ≡ N j) → (Q : List ℕ) → errorOf p a S ≡ some Q → errorOf p a N ≡ some Q
+    error-same S N h Q e =
+        let g = error-sound S Q e in
+        error-iff N Q .1 (record { rising = g .rising; few = g .few; sums = λ j o b. g .sums j o b ∙ h j o b })
+
+    pub error-agree : (S N : ℕ → ℕ) → ((j : ℕ) → 0 < j → j ≤ 2 * strength p a → S j ≡ N j) → errorOf p a S ≡ errorOf p a N
+    error-agree S N h = same-option (errorOf p a S) (errorOf p a N) (error-same S N h) (error-same N S (λ j o b. sym (h j o b)))
 
   pub found-rising : (W : Work) → roundLevel p (length (W .broken)) ≤ p .v → (i : ℕ) (Q : List ℕ) → found p W i ≡ some Q → Rising 0 (stored p) Q
   found-rising W l i Q e =

@@ -33,6 +33,15 @@ module _ (B : BinaryField) where
   unfolding unmix
   unmix-cons x y ys N = refl
 
+  -- as many sums are asked for as there are nodes
+  pub unmix-agree : (x : K) (ys : List K) (N M : ℕ → K) → ((l : ℕ) → l ≤ length ys → N l ≡ M l) → unmix x ys N ≡ unmix x ys M
+  unmix-agree x [] N M h = unmix-nil x N ∙ h 0 zero-le ∙ sym (unmix-nil x M)
+  unmix-agree x (y ∷ ys) N M h =
+      unmix-cons x y ys N
+      ∙ ap (λ (u : K). u ⊗ recip B (x ⊕ y)) (unmix-agree x ys (λ l. N (suc l) ⊕ y ⊗ N l) (λ l. M (suc l) ⊕ y ⊗ M l)
+      (λ l b. ap₂ (λ (u v : K). u ⊕ y ⊗ v) (h (suc l) (suc-le-suc b)) (h l (Nat.le-step b))))
+      ∙ sym (unmix-cons x y ys M)
+
   abbrev F : Field2
   F = B .field
 

@@ -1,10 +1,11 @@
 // The levels of a sheet: their generators, read from the constant tables, their degrees, and tables for remainders.
 ghost use mathlib.Core.Path.{_≡_};
-ghost use Prim.Native.Nat.{_+_, _≤_};
+ghost use Prim.Native.Nat.{_+_, _^_, _<_, _≤_};
 ghost use lib.ListN.{length};
 ghost use Rattle.code.specs.Calls.{generators};
 ghost use Rattle.code.specs.Parameters.{Accepted};
-ghost use Rattle.code.specs.Code.{degree};
+ghost use Rattle.code.specs.Code.{degree, remainder};
+ghost use Rattle.polynomial.specs.Digits.{value};
 ghost use Rattle.layout.specs.Sizes.{Degrees};
 ghost use Rattle.levels.specs.Ready.{Prepared};
 use code::Parameters;
@@ -77,4 +78,12 @@ pub fn prepare(t: &mut [u64], p: Parameters, rows: [[u64; 13]; 4], a: usize, w: 
     let mut r = [0u64; 13];
     kernels::row::align(&mut r, &g, w);
     kernels::table::build(t, &r);
+}
+
+// The remainder of the word s, of n places at most, by level a's generator, whose table is t.
+pub fn remainder_at(r: &mut [u64], t: &[u64], s: &[u8], n: usize, p: Parameters, a: usize, w: usize)
+    requires { ⌜ Accepted p × (a ≤ p .v) × (w ≡ degree p a) × Prepared p a (now t) × (n < 4096) × (value 8 (now s) < 2 ^ n) × (length (now r) ≡ 13) ⌝ }
+    ensures { λ x. ⌜ value 64 (now (r .exit)) ≡ remainder p a (value 8 (now (s .entry))) ⌝ }
+{
+    kernels::remainder::remainder_of(r, t, s, n, 64, 768 - w);
 }

@@ -2,3 +2,4 @@
 pub mod Nearest
 pub mod Left
 pub mod Call
+pub mod Settled

@@ -25,7 +25,7 @@ use Rattle.code.specs.Accepted.{Rules, accepted, rising, stored-le}
 use Rattle.code.specs.Code.{Flips, gen, nearest, remainder}
 use Rattle.code.specs.Demands.{Vanishes}
 use Rattle.code.specs.Judge.{multiple-iff}
-use Rattle.code.specs.Mend.{nearest-clean, nearest-iff}
+use Rattle.code.specs.Mend.{nearest-clean, nearest-iff, same-option}
 use Rattle.code.specs.Parameters.{Accepted, stored, strength}
 use Rattle.code.specs.Lists.{range}
 use Rattle.code.specs.Theorems.{demand2}
@@ -38,12 +38,6 @@ use Rattle.word.specs.Level.{level-syndrome}
 
 abbrev pub Knows : Parameters → ℕ → ℕ → (ℕ → ℕ) → Type 0
 Knows p a y S = (j : ℕ) → 0 < j → j ≤ 2 * strength p a → S j ≡ syndrome (p .q) y j
-
--- options that hold the same lists are the same
-same-option : (o u : Option (List ℕ)) → ((Q : List ℕ) → o ≡ some Q → u ≡ some Q) → ((Q : List ℕ) → u ≡ some Q → o ≡ some Q) → o ≡ u
-same-option (some Q) u f g = sym (f Q refl)
-same-option none none f g = refl
-same-option none (some Q) f g = g Q refl
 
 module _ (p : Parameters) (A : Accepted p) (a : ℕ) (av : a ≤ p .v) (y : ℕ) (low : y < 2 ^ stored p) (S : ℕ → ℕ) (knows : Knows p a y S) where
   R : Rules p

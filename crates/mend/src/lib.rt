@@ -7,18 +7,19 @@ ghost use lib.ListN.{length, getD, take};
 ghost use Rattle.polynomial.specs.Digits.{value};
 ghost use Rattle.polynomial.specs.Xor.{xor};
 ghost use Rattle.field.specs.Elements.{syndrome};
-ghost use Rattle.field.specs.Flips.{flips};
+ghost use Rattle.field.specs.Flips.{Rising, flips};
 ghost use Rattle.locator.specs.Locate as L;
 ghost use Rattle.locator.specs.Locate.{kept};
 ghost use Rattle.code.specs.Calls.{Mended};
 ghost use Rattle.code.specs.Code.{nearest};
-ghost use Rattle.code.specs.Layout.{pageBytes, placeList, wordsOf};
+ghost use Rattle.code.specs.Layout.{IsPage, pageBytes, placeList, wordsOf};
 ghost use Rattle.code.specs.Parameters.{Accepted, len, stored, strength};
 ghost use Rattle.element.specs.Lent.{Tables};
 ghost use Rattle.layout.specs.Written.{written};
 ghost use Rattle.syndrome.specs.Places.{Places};
 ghost use Rattle.refusal.specs.Indexed.{Unrefused};
 ghost use Rattle.mend.specs.Left.{placeAt};
+ghost use Rattle.mend.specs.Settled.{Settled};
 use code::Outcome;
 use code::Parameters;
 use element::Field;
@@ -34,7 +35,7 @@ use word::level_remainder;
 
 // By lent tables: the places, rising and below z, of the error of at most t places with the syndromes of the polynomial in r, which has w
 // coefficients at most: their number, and they stand first in the list; more than t: none.
-fn locate_by(
+pub fn locate_by(
     powers: &[u16],
     logs: &[u16],
     f: Field,
@@ -104,7 +105,7 @@ fn flip_all(s: &mut [u8], list: &[u16], c: usize)
 }
 
 // The same in sub-word i of the page.
-fn flip_in(p: Parameters, page: &mut [u8], i: usize, list: &[u16], c: usize)
+pub fn flip_in(p: Parameters, page: &mut [u8], i: usize, list: &[u16], c: usize)
     requires { ⌜ Accepted p × (length (now page) ≡ pageBytes p) × (i < p .m) × (c ≤ length (now list)) × Places (stored p) c (now list) ⌝ }
     ensures { λ x. ⌜ now (page .exit) ≡ written p (now (page .entry)) i (xor (getD (wordsOf p (now (page .entry))) i 0) (flips (take c (now (list .entry))))) ⌝ }
 {
@@ -112,6 +113,18 @@ fn flip_in(p: Parameters, page: &mut [u8], i: usize, list: &[u16], c: usize)
     let at = i * b;
     let end = at + b;
     flip_all(&mut page[at..end], list, c);
+}
+
+// What is found for sub-word i is done to it: c of the list's places are flipped; more than k: nothing was found. Whether something was.
+pub fn settle(p: Parameters, page: &mut [u8], i: usize, list: &[u16], c: usize, k: usize) -> bool
+    requires { ⌜ Accepted p × IsPage p (now page) × (i < p .m) × (k ≤ length (now list)) × (c ≤ k → Rising 0 (stored p) (take c (now list))) ⌝ }
+    ensures { λ b. ⌜ Settled p (now (page .entry)) i (kept (leb c k) (take c (now (list .entry)))) (now (page .exit)) × (b ≡ leb c k) ⌝ }
+{
+    if k < c {
+        return false;
+    }
+    flip_in(p, page, i, list, c);
+    true
 }
 
 // Place j of the list, of which c count, or 65535.

@@ -1,7 +1,8 @@
-// A list of 16-bit numbers as bytes: two a number, low byte first.
+// Lists of 16-bit numbers: filled from the front, and as bytes, two a number, low byte first.
+ghost use mathlib.Core.Bool.{cond};
 ghost use mathlib.Core.Path.{_≡_};
-ghost use mathlib.Core.List.{_++_};
-ghost use Prim.Native.Nat.{_+_, _*_, _≤_};
+ghost use mathlib.Core.List.{[], _∷_, _++_};
+ghost use Prim.Native.Nat.{_+_, _*_, _<_, _≤_};
 ghost use lib.ListN.{length, take, drop};
 ghost use Rattle.polynomial.specs.Digits.{digits};
 ghost use Rattle.code.specs.Calls.{asBytes, leaves, numberAt};
@@ -72,4 +73,16 @@ pub fn load(numbers: &mut [u16], bytes: &[u8])
         numbers[i] = number_at(bytes, i);
         i += 1;
     }
+}
+
+// The number i put down behind the first b of the list, unless it is to be left out: how many there are then.
+pub fn note(list: &mut [u16], b: usize, i: u16, out: bool) -> usize
+    requires { ⌜ b < length (now list) ⌝ }
+    ensures { λ c. ⌜ (c ≤ b + 1) × (take c (now (list .exit)) ≡ take b (now (list .entry)) ++ cond out [] (i ∷ [])) ⌝ }
+{
+    if out {
+        return b;
+    }
+    list[b] = i;
+    b + 1
 }
