@@ -9,7 +9,8 @@
  *   machine   x86-64 with SSE2, which every x86-64 has, and the System V calling convention, its red zone included; the
  *             code is position-independent
  *   symbols   memcpy and memset, from the C library or the firmware; nothing else is left undefined
- *   stack     at most 128 KiB for gii_write_many, at most 64 KiB for gii_mend, and at most 32 KiB for every other function
+ *   stack     at most 128 KiB for gii_write_many, at most 64 KiB for gii_mend, at most 64 KiB for gii_mend_page, and at most
+ *             32 KiB for every other function
  *   threads   calls may run at once in several threads, each on buffers of its own
  *
  * Parameters (every function): the sheet, struct gii_sheet
@@ -64,16 +65,17 @@
  *
  * The bytes behind a pointer to const are never altered. A lent buffer is altered only by a call that is not refused, and
  * then wholly: what it held before is of no account. Only gii_write_many leaves some of the pages lent to it: those that
- * it lists as refused. And only gii_alter and gii_mend read the page that is lent to them, and leave of it what the bit or
- * the sub-word does not concern.
+ * it lists as refused. And only gii_alter, gii_mend and gii_mend_page read the page that is lent to them, and leave of it
+ * what the bit, the sub-word or the faults do not concern.
  *
- * Results are of enum gii_answer. Conditions are tested in the order 1, 2, 3, 4, 14, 5, 6, 7, 8, 9, 10, 13, 15: of the
+ * Results are of enum gii_answer. Conditions are tested in the order 1, 2, 3, 4, 14, 5, 6, 7, 8, 9, 10, 13, 15, 17: of the
  * refusals whose conditions a call meets the first of these is given, and a refusal leaves every byte of every buffer as it
  * was. In gii_write_many 9 is for the count of pages and comes before 6; 8 and 13 are listed, page by page, and refuse no
  * call. In gii_alter 9 is for the block, the bit and the value, 13 for the page as it would be altered. Only gii_mend gives
- * 15, and it never gives 13: what it leaves may be blank. In gii_all_syndromes 9 is for the level, 10 for both lists.
- * gii_judge and gii_read_out know a blank page after 7 and before 8, which is for stray bits; no other function answers
- * GII_BLANK. gii_page_bytes, gii_data_bytes and gii_distance give a size, or 0 where the sheet is refused.
+ * 15, and it never gives 13: what it leaves may be blank. Only gii_mend_page gives 17, also for a page that would be blank.
+ * In gii_all_syndromes 9 is for the level, 10 for both lists. gii_judge and gii_read_out know a blank page after 7 and
+ * before 8, which is for stray bits; no other function answers GII_BLANK. gii_page_bytes, gii_data_bytes and gii_distance
+ * give a size, or 0 where the sheet is refused.
  */
 #ifndef GII_BCH_H
 #define GII_BCH_H
@@ -83,9 +85,9 @@
 
 /* The version. A function or a number that goes or is given a new meaning moves the first number on. */
 #define GII_BCH_VERSION_MAJOR 5
-#define GII_BCH_VERSION_MINOR 0
+#define GII_BCH_VERSION_MINOR 1
 #define GII_BCH_VERSION_PATCH 0
-#define GII_BCH_VERSION "5.0.0"
+#define GII_BCH_VERSION "5.1.0"
 
 /* Bytes of a list of the t odd syndromes, S_1, S_3, .., S_(2t-1), and of one of all 2t: t is t0 for a sub-word, t_(v-l) for
  * nested word l. */
@@ -117,22 +119,23 @@ enum gii_answer {
     GII_DONE = 0,   /* done */
     GII_MEMBER = 0, /* the page is a member of the code */
 
-    /* Refusals. The functions here give 1 to 10 and 13 to 15; 14 is tested after 4 and before 5. */
-    GII_FIELD = 1,         /* q is not 4, 8 or 12 */
-    GII_SHAPE = 2,         /* v or m is out of range */
-    GII_STRENGTHS = 3,     /* a rule on t0 to t_v is broken, or a place past t_v is not 0 */
-    GII_CLASH = 4,         /* some d * j is a multiple of n */
-    GII_WIDTH = 5,         /* the width is not 1 to 64 */
-    GII_BLOCKS = 6,        /* the blocks' length is not exact */
-    GII_PAGE = 7,          /* the page's length, or that of many pages, is not exact */
-    GII_STRAY = 8,         /* a spare bit of a page, or an unused bit of the blocks, that is read is 1 */
-    GII_INDEX = 9,         /* no such sub-word, nested word, block, bit or level; a value is above 1; not 1 to 16 pages */
-    GII_LIST = 10,         /* a list's length, or that of the places, is not exact */
-    GII_FULL = 11,         /* a register would take more than n - s coefficients */
-    GII_REGISTER = 12,     /* a register's level or remainder is out of range */
-    GII_BLANK_BLOCKS = 13, /* the page of the blocks, where s is 0 and every data bit 1, or the altered page would be blank */
-    GII_SHORTENING = 14,   /* s is above n - w_v - 1 */
-    GII_UNMENDED = 15,     /* no multiple of g_0 with zeros in its top s places is within t0 flips of the sub-word */
+    /* Refusals. The functions here give 1 to 10, 13 to 15 and 17; 14 is tested after 4 and before 5. */
+    GII_FIELD = 1,          /* q is not 4, 8 or 12 */
+    GII_SHAPE = 2,          /* v or m is out of range */
+    GII_STRENGTHS = 3,      /* a rule on t0 to t_v is broken, or a place past t_v is not 0 */
+    GII_CLASH = 4,          /* some d * j is a multiple of n */
+    GII_WIDTH = 5,          /* the width is not 1 to 64 */
+    GII_BLOCKS = 6,         /* the blocks' length is not exact */
+    GII_PAGE = 7,           /* the page's length, or that of many pages, is not exact */
+    GII_STRAY = 8,          /* a spare bit of a page, or an unused bit of the blocks, that is read is 1 */
+    GII_INDEX = 9,          /* no such sub-word, nested word, block, bit or level; a value is above 1; not 1 to 16 pages */
+    GII_LIST = 10,          /* a list's length, or that of the places, is not exact */
+    GII_FULL = 11,          /* a register would take more than n - s coefficients */
+    GII_REGISTER = 12,      /* a register's level or remainder is out of range */
+    GII_BLANK_BLOCKS = 13,  /* the page of the blocks, where s is 0 and every data bit 1, or the altered page would be blank */
+    GII_SHORTENING = 14,    /* s is above n - w_v - 1 */
+    GII_UNMENDED = 15,      /* no multiple of g_0 with zeros in its top s places is within t0 flips of the sub-word */
+    GII_UNMENDED_PAGE = 17, /* the page cannot be mended through its nested words */
 
     /* Verdicts on a page. */
     GII_SUB_WORD = 32,    /* 32 + i: sub-word i is the lowest that is no multiple of g_0 */
@@ -220,6 +223,25 @@ uint32_t gii_alter(uint32_t q, uint32_t m, uint32_t v, uint32_t t0, uint32_t t1,
  */
 uint32_t gii_mend(uint32_t q, uint32_t m, uint32_t v, uint32_t t0, uint32_t t1, uint32_t t2, uint32_t t3, uint32_t s,
                   uint8_t *page, size_t page_len, uint32_t index, uint8_t *places, size_t places_len, uint8_t *flips);
+
+/*
+ * Mend page: a stored page made a member, also where up to v of its sub-words have more than t0 faults.
+ *
+ * First every sub-word is mended as by gii_mend; b is how many could not be. While b is 1 to v there is a round, at level
+ * a = v - b + 1: from the syndromes S_1 to S_(2 t_a) of nested words 0 to b - 1, of the page as the round finds it, those of
+ * the b unknown errors are worked out; each broken sub-word whose syndromes are those of an error of at most t_a stored
+ * places has these flipped, the others stay broken. There are no more than v rounds. In the end every sub-word is mended and
+ * the page is a member, or the call is refused by 17: where b is above v, where a round mends none, and where the page that
+ * comes of it is no member, or blank.
+ *
+ * A member with up to t0 faults in a sub-word and, in b of them, up to t_(v-b+1), b at most v, is always found again, if no
+ * sub-word with more than t0 is near another multiple of g_0. Where one is, it may be taken for that: what comes of it is
+ * another member, or the call is refused. A member stays as it is.
+ *
+ * Returns GII_DONE, or refuses: 1 to 4, 14, 7, 8 (a spare bit anywhere in the page, blank or not), 17.
+ */
+uint32_t gii_mend_page(uint32_t q, uint32_t m, uint32_t v, uint32_t t0, uint32_t t1, uint32_t t2, uint32_t t3, uint32_t s,
+                       uint8_t *page, size_t page_len);
 
 /*
  * Read out: the data bits of the page, member or not, blank or not, into `blocks`. Nothing is corrected. Of a blank page
@@ -345,6 +367,12 @@ static inline uint32_t gii_sheet_mend(const struct gii_sheet *sheet, uint8_t *pa
                     page, page_len, index, places, places_len, flips);
 }
 
+static inline uint32_t gii_sheet_mend_page(const struct gii_sheet *sheet, uint8_t *page, size_t page_len)
+{
+    return gii_mend_page(sheet->q, sheet->m, sheet->v, sheet->t[0], sheet->t[1], sheet->t[2], sheet->t[3], sheet->s,
+                         page, page_len);
+}
+
 static inline uint32_t gii_sheet_read_out(const struct gii_sheet *sheet, const uint8_t *page, size_t page_len,
                                           uint8_t *blocks, size_t blocks_len)
 {
@@ -426,6 +454,7 @@ static inline const char *gii_answer_text(uint32_t number)
     case GII_BLANK_BLOCKS: return "blank: the page would be all ones";
     case GII_SHORTENING: return "shortening: s is above n - w_v - 1";
     case GII_UNMENDED: return "unmended: no multiple of g_0 within t0 flips of the sub-word";
+    case GII_UNMENDED_PAGE: return "unmended page: it cannot be mended through its nested words";
     case GII_SUB_WORD + 0: return "sub-word 0 fails";
     case GII_SUB_WORD + 1: return "sub-word 1 fails";
     case GII_SUB_WORD + 2: return "sub-word 2 fails";

@@ -1,8 +1,8 @@
 #!/usr/bin/env bash
 # All that surrounds the archive, in one run: what it exports and needs, the header in C and C++, the installed library under the
 # C program, the stack of the calls, any calls from C, the Rust crate's examples, the reference, the comparison, the time that
-# shortened sub-words and many pages in one call save and an altered bit, a mended sub-word and odd syndromes take, any calls
-# beside the reference. The archive is that of GII_ARCHIVE (a path from rust/), or ../target/staticlib/libgii_bch.a; FUZZ sets the number
+# shortened sub-words and many pages in one call save and an altered bit, a mended sub-word, a mended page and odd syndromes take,
+# any calls beside the reference. The archive is that of GII_ARCHIVE (a path from rust/), or ../target/staticlib/libgii_bch.a; FUZZ sets the number
 # of any calls.
 set -euo pipefail
 cd "$(dirname "$0")"
@@ -18,7 +18,7 @@ if [ -z "${GII_ARCHIVE:-}" ]; then
     nm -u "$archive" | awk 'NF == 2 { print $2 }' | sort -u | comm -23 - target/exported > target/undefined
     exported=$(xargs < target/exported)
     undefined=$(xargs < target/undefined)
-    expected="gii_all_syndromes gii_alter gii_data_bytes gii_distance gii_judge gii_mend gii_nested_syndromes gii_page_bytes gii_quote gii_read_out gii_syndromes gii_write gii_write_many"
+    expected="gii_all_syndromes gii_alter gii_data_bytes gii_distance gii_judge gii_mend gii_mend_page gii_nested_syndromes gii_page_bytes gii_quote gii_read_out gii_syndromes gii_write gii_write_many"
     [ "$exported" = "$expected" ] || { echo "the archive exports $exported"; exit 1; }
     [ "$undefined" = "memcpy memset" ] || { echo "the archive needs $undefined"; exit 1; }
     echo "the archive exports $exported and needs $undefined"

@@ -90,7 +90,27 @@ faults=(data-high zero-page level-0-only write-touches-nothing width-37 one-stre
     all-from-next all-odd-masked all-odd-reduced all-odd-first all-one-strength all-last-left all-high-byte-first \
     all-low-byte-alone all-overrun all-alters-odd all-answers-count \
     odd-even-listed@s odd-list-either@s odd-nested-past-g-0@s all-level-inverted@s all-masked@s \
-    all-squares-in-order@s all-refusal-clears@s)
+    all-squares-in-order@s all-refusal-clears@s \
+    rounds-page-before-14 rounds-full-page rounds-length-longer rounds-length-modulo-2-8 rounds-stray-missed \
+    rounds-stray-of-the-first rounds-stray-of-the-last rounds-erased-taken rounds-stray-before-page \
+    rounds-17-before-stray rounds-13-before-stray rounds-13-of-the-lent rounds-blank-of-the-lent \
+    rounds-no-first-pass rounds-first-one-fewer rounds-first-by-level-1 rounds-first-by-own-level \
+    rounds-first-unstored rounds-last-sub-word-passed rounds-nested-folded rounds-nested-not-turned rounds-level-v \
+    rounds-level-1 rounds-level-of-the-first rounds-level-by-b rounds-level-lower rounds-level-higher rounds-t-more \
+    rounds-from-nested-1 rounds-nodes-i rounds-nodes-of-the-next rounds-nodes-by-order rounds-nodes-inverse \
+    rounds-no-last-look rounds-unstored-dropped rounds-unstored-flipped rounds-t-fewer rounds-place-0-missed \
+    rounds-last-place-missed rounds-into-the-next rounds-all-or-none rounds-first-pass-only rounds-one-round \
+    rounds-two-rounds rounds-v-fewer rounds-nested-of-the-lent rounds-nested-of-the-first rounds-same-round \
+    rounds-clears-only rounds-blank-passed rounds-blank-lent-alone rounds-blank-by-one-sub-word \
+    rounds-blank-by-sub-word-0 rounds-blank-by-the-last rounds-no-end-test rounds-end-nested-0-alone \
+    rounds-end-last-alone rounds-end-last-missed rounds-end-level-1 rounds-refusal-writes rounds-none-found-done \
+    rounds-v-more-done rounds-written-afresh rounds-members-refused rounds-17-half-written rounds-17-first-written \
+    rounds-17-clears rounds-no-17 rounds-17-as-15 rounds-17-as-16 rounds-17-as-verdict rounds-15-of-a-sub-word \
+    rounds-13-of-the-mended rounds-blank-of-the-mended rounds-page-left rounds-sub-word-0-left rounds-broken-left \
+    rounds-last-byte-left rounds-spare-set rounds-one-strength rounds-overrun rounds-answers-broken \
+    rounds-answers-verdict rounds-stray-missed@s rounds-first-pass-only@s rounds-level-v@s \
+    rounds-nested-of-the-lent@s rounds-no-end-test@s rounds-17-half-written@s rounds-nodes-by-order@s \
+    rounds-v-fewer@s)
 [ $# = 0 ] || faults=("$@")
 tried=0 missed=0
 for fault in "${faults[@]}"; do

@@ -5,8 +5,9 @@
  * pages are known, read out as ones and never written. Many pages in one call are listed and written as each is alone. A
  * page is altered by the page that is written of the bit alone, and never into a blank one. A sub-word is mended by the flips
  * that are listed, no more than t0 of stored places, into one whose syndromes are 0; where it had been such a one before so
- * few flips, into that. Of all syndromes the odd ones are those that are given, the others squares; those of a page are the
- * sums that define them.
+ * few flips, into that. A page is mended into a member, by what mend gives of its sub-words and, of no more than v, others; one
+ * with so few flips in each into the member that it was. Of all syndromes the odd ones are those that are given, the others
+ * squares; those of a page are the sums that define them.
  * Usage: fuzz CALLS SEED. It is built with the sanitizers, and without them for valgrind, which sees every access of the
  * archive.
  */
@@ -515,12 +516,12 @@ static int without_syndromes(const struct gii_sheet *s, const uint8_t *page, siz
     return 1;
 }
 
-/* Flips some places of a sub-word, none, few or more than t0; the number of those that are flipped in the end. */
-static uint32_t damage(const struct gii_sheet *s, struct buffer page, uint32_t index)
+/* Flips some places of a sub-word, none, few or more than t; the number of those that are flipped in the end. */
+static uint32_t damage(const struct gii_sheet *s, struct buffer page, uint32_t index, uint32_t t)
 {
     uint8_t flipped[GII_PAGE_MAX] = {0}, *word = page.bytes + index * (page.length / s->m);
     uint32_t count = 0;
-    for (uint32_t k = once_in(4) ? 0 : once_in(3) ? s->t[0] : below(s->t[0] + 3); k; k--) {
+    for (uint32_t k = once_in(4) ? 0 : once_in(3) ? t : below(t + 3); k; k--) {
         uint32_t at = below(stored(s)), bit = 1u << at % 8;
         count += flipped[at / 8] & bit ? (uint32_t)-1 : 1;
         flipped[at / 8] ^= (uint8_t)bit;
@@ -562,7 +563,7 @@ static uint32_t mend(const struct gii_sheet *s, struct sizes is, unsigned long *
         if (index < s->m && !stray(s, page)) {
             known = without_syndromes(s, page.bytes, page.length, index);
             memcpy(undamaged, page.bytes, page.length);
-            known = damage(s, page, index) <= s->t[0] && known;
+            known = damage(s, page, index, s->t[0]) <= s->t[0] && known;
         }
     }
     note(page);
@@ -593,6 +594,62 @@ static uint32_t mend(const struct gii_sheet *s, struct sizes is, unsigned long *
     return r;
 }
 
+/* Whether a page that was mended, or refused by 17, is what mend gives of its sub-words, but for those that it refuses: none of
+ * them, or no more than v, where it is mended. */
+static int as_alone_mended(const struct gii_sheet *s, struct buffer page, uint32_t r)
+{
+    uint8_t alone[GII_PAGE_MAX], places[GII_PLACES_MAX], flips;
+    size_t word = page.length / s->m;
+    uint32_t broken = 0, i, number;
+    int alike = 1;
+    memcpy(alone, page.before, page.length);
+    for (i = 0; i < s->m; i++) {
+        number = gii_sheet_mend(s, alone, page.length, i, places, GII_PLACES_BYTES(s->t[0]), &flips);
+        broken += number == GII_UNMENDED;
+        alike = alike && (number == GII_DONE || number == GII_UNMENDED);
+        alike = alike && (r != GII_DONE || (memcmp(page.bytes + i * word, alone + i * word, word) == 0) == (number == GII_DONE));
+    }
+    if (broken == 0)
+        alike = alike && (r == GII_DONE) == (gii_sheet_judge(s, alone, page.length) == GII_MEMBER);
+    return alike && (r != GII_DONE || (broken <= s->v && gii_sheet_judge(s, page.bytes, page.length) == GII_MEMBER));
+}
+
+/* A call of gii_mend_page, on sizes that are in range or 0: its answer, and whether all is as it is to be; counts the pages
+ * that are without a flip, and those with some. */
+static uint32_t mend_page(const struct gii_sheet *s, struct sizes is, unsigned long *mended, int *good)
+{
+    struct buffer page = lend(is.page ? is.page : below(5000));
+    uint8_t undamaged[GII_PAGE_MAX];
+    int exact = is.page && page.length == is.page, known = 0;
+    uint32_t r, first, i, t;
+    if (exact) {
+        fill_page(s, is, NULL, page);
+        if (!stray(s, page)) {
+            known = gii_sheet_judge(s, page.bytes, page.length) == GII_MEMBER;
+            memcpy(undamaged, page.bytes, page.length);
+            /* In some sub-words as many as a higher level corrects. */
+            for (i = 0; i < s->m; i++) {
+                t = once_in(3) ? s->t[below(s->v + 1)] : s->t[0];
+                known = damage(s, page, i, t) <= s->t[0] && known;
+            }
+        }
+    }
+    note(page);
+    /* What is to come, where the sheet is accepted; done, or refused by 17, where none of these is. */
+    first = !exact ? GII_PAGE : stray(s, page) ? GII_STRAY : GII_DONE;
+    r = gii_sheet_mend_page(s, page.bytes, page.length);
+    if (!is.page)
+        *good = r >= GII_FIELD && (r <= GII_CLASH || r == GII_SHORTENING);
+    else
+        *good = r == first || (first == GII_DONE && r == GII_UNMENDED_PAGE && !known);
+    *good = *good && (r == GII_DONE || kept(page)) && (first != GII_DONE || as_alone_mended(s, page, r));
+    *good = *good && (!known || memcmp(page.bytes, undamaged, page.length) == 0);
+    if (r == GII_DONE)
+        mended[!kept(page)]++;
+    give_back(page);
+    return r;
+}
+
 static int has_text(uint32_t r)
 {
     return strcmp(gii_answer_text(r), gii_answer_text(UINT32_MAX)) != 0;
@@ -602,14 +659,14 @@ int main(int argc, char **argv)
 {
     unsigned long calls = argc > 1 ? strtoul(argv[1], NULL, 10) : 10000;
     uint64_t seed = argc > 2 ? strtoull(argv[2], NULL, 10) : 1;
-    unsigned long answers[128] = {0}, listed[GII_BLANK_BLOCKS + 1] = {0}, altered[2] = {0}, mended[2] = {0};
+    unsigned long answers[128] = {0}, listed[GII_BLANK_BLOCKS + 1] = {0}, altered[2] = {0}, mended[2] = {0}, pages[2] = {0};
     state = seed * 0x9E3779B97F4A7C15u + 1;
     for (unsigned long k = 0; k < calls; k++) {
         struct gii_sheet s = any_sheet();
         struct sizes is = {gii_sheet_page_bytes(&s), gii_sheet_data_bytes(&s), gii_sheet_distance(&s)};
         size_t exact = is.page ? is.page : below(5000);
         uint32_t index = below(10), level = s.t[index <= s.v && s.v < 4 ? s.v - index : 0] % 100;
-        int call = (int)below(10), sized = in_range(&s, is), good;
+        int call = (int)below(11), sized = in_range(&s, is), good;
         size_t list = call == 5 ? GII_QUOTE_BYTES : GII_LIST_BYTES(call == 3 ? s.t[0] % 100 : level);
         struct buffer page = lend(exact), other = lend(call < 2 ? is.data : list);
         uint32_t r;
@@ -666,6 +723,9 @@ int main(int argc, char **argv)
         case 8:
             r = mend(&s, is, mended, &good);
             break;
+        case 9:
+            r = mend_page(&s, is, pages, &good);
+            break;
         default:
             r = all_syndromes(&s, is, &good);
             break;
@@ -694,6 +754,7 @@ int main(int argc, char **argv)
         if (listed[i])
             printf(" %d: %lu", i, listed[i]);
     printf("; altered pages %lu, left as they were %lu", altered[0], altered[1]);
-    printf("; mended sub-words %lu, without a flip %lu\n", mended[1], mended[0]);
+    printf("; mended sub-words %lu, without a flip %lu", mended[1], mended[0]);
+    printf("; mended pages %lu, without a flip %lu\n", pages[1], pages[0]);
     return 0;
 }

@@ -110,7 +110,7 @@ def main():
         sys.exit(__doc__)
     with open(sys.argv[1], newline="", encoding="utf-8") as file:
         every = list(csv.DictReader(file))
-    # Of the altered bits those that take longest, of the mended sub-words those with most flips; sheets with all calls.
+    # Of the altered bits those that take longest, of the mended sub-words those with most flips, no mended pages; sheets with all calls.
     kinds = {"alter": "block m - 1", "mend": "mend t0 flips"}
     written = {row["sheet"] for row in every if row["call"] == "write"}
     rows = [row for row in every if row["sheet"] in written and int(row["bytes"]) and all(row["call"].endswith(end) for kind, end in kinds.items() if row["call"].startswith(kind))]

@@ -1,8 +1,8 @@
 /*
  * The C functions at work: a sheet is quoted, a page is written, judged, damaged, judged and read out, its odd syndromes are
  * listed and all made of them, it is scratched and judged, an erased page is known as blank, many pages are written in one
- * call, one bit of a stored page is altered, damaged sub-words are mended, all that with full and with shortened sub-words,
- * and every refusal is shown to leave its buffers.
+ * call, one bit of a stored page is altered, damaged sub-words are mended, and so is a page through its nested words, all that
+ * with full and with shortened sub-words, and every refusal is shown to leave its buffers.
  * Every length comes from the calls. Prints what it does; the first surprise ends it with status 1.
  *
  *   rt staticlib gii_bch
@@ -370,6 +370,23 @@ static void altered_bit(const struct gii_sheet *s)
     must(gii_sheet_alter(s, page, page_len, 0, 0, 1) == GII_BLANK_BLOCKS, "not made blank again");
 }
 
+/* Place k of the so many of sub-word i that are flipped, evenly apart. */
+static uint32_t flipped_place(const struct gii_sheet *s, uint32_t i, uint32_t k, uint32_t flips)
+{
+    return (k * stored(s) + i) / flips;
+}
+
+static void flip_places(const struct gii_sheet *s, uint8_t *page, uint32_t i, uint32_t flips)
+{
+    size_t sub_word = gii_sheet_page_bytes(s) / s->m;
+    uint32_t k, at;
+
+    for (k = 0; k < flips; k++) {
+        at = flipped_place(s, i, k, flips);
+        page[i * sub_word + at / 8] ^= (uint8_t)(1u << at % 8);
+    }
+}
+
 /*
  * A stored page damaged in t0 places of every sub-word: each is mended by the places that were flipped, the page is what was
  * written, and its blocks come back. A sub-word without faults has no flips.
@@ -380,7 +397,7 @@ static void mended_sub_words(const struct gii_sheet *s)
     size_t blocks_len = gii_sheet_data_bytes(s), page_len = gii_sheet_page_bytes(s), sub_word = page_len / s->m;
     size_t places_len = GII_PLACES_BYTES(s->t[0]);
     uint8_t quote[GII_QUOTE_BYTES], places[GII_PLACES_MAX], flips;
-    uint32_t i, k, at;
+    uint32_t i, k;
     int found;
 
     printf("  sub-words mended\n");
@@ -389,10 +406,7 @@ static void mended_sub_words(const struct gii_sheet *s)
     must(gii_sheet_write(s, 64, blocks, blocks_len, written, page_len) == GII_DONE, "written");
     memcpy(page, written, page_len);
     for (i = 0; i < s->m; i++)
-        for (k = 0; k < s->t[0]; k++) {
-            at = (k * stored(s) + i) / s->t[0];
-            page[i * sub_word + at / 8] ^= (uint8_t)(1u << at % 8);
-        }
+        flip_places(s, page, i, s->t[0]);
     must(gii_sheet_judge(s, page, page_len) == GII_SUB_WORD, "t0 places of every sub-word flipped: sub-word 0 fails");
     for (i = 0; i < s->m; i++) {
         memset(places, 0xA5, sizeof places);
@@ -400,7 +414,7 @@ static void mended_sub_words(const struct gii_sheet *s)
         printf("  sub-word %u: %u flips, places", (unsigned)i, (unsigned)flips);
         for (k = 0, found = flips == s->t[0]; k < flips; k++) {
             printf(" %u", (unsigned)gii_number(places, k));
-            found = found && gii_number(places, k) == (k * stored(s) + i) / s->t[0];
+            found = found && gii_number(places, k) == flipped_place(s, i, k, s->t[0]);
         }
         printf("\n");
         must(found, "these were flipped");
@@ -426,6 +440,58 @@ static void mended_sub_words(const struct gii_sheet *s)
              "without them, and with one coefficient 0: mended");
         must(gii_sheet_judge(s, page, page_len) == GII_BLANK, "it is blank");
     }
+}
+
+/*
+ * A stored page damaged beyond t0 in v sub-words, in t_v places of the first, t_(v-1) of the next and so on, and in t0 places of
+ * every other: the v cannot be mended alone, but are through the nested words, and the blocks come back. With one more sub-word
+ * beyond t0 the page is refused. Where t0 is 1, words beyond it are mostly near other multiples of g_0: there no sub-word is.
+ */
+static void mended_page(const struct gii_sheet *s)
+{
+    static uint8_t blocks[GII_BLOCKS_MAX], written[GII_PAGE_MAX], page[GII_PAGE_MAX], before[GII_PAGE_MAX], out[GII_BLOCKS_MAX];
+    size_t blocks_len = gii_sheet_data_bytes(s), page_len = gii_sheet_page_bytes(s), sub_word = page_len / s->m;
+    size_t places_len = GII_PLACES_BYTES(s->t[0]);
+    uint8_t quote[GII_QUOTE_BYTES], places[GII_PLACES_MAX], flips;
+    uint32_t beyond = s->t[0] > 1 ? s->v : 0, i;
+
+    printf("  a page mended through its nested words\n");
+    must(gii_sheet_quote(s, quote, sizeof quote) == GII_DONE, "quoted");
+    fill_blocks(s, quote, 1, blocks);
+    must(gii_sheet_write(s, 64, blocks, blocks_len, written, page_len) == GII_DONE, "written");
+    memcpy(page, written, page_len);
+    must(gii_sheet_mend_page(s, page, page_len) == GII_DONE && memcmp(page, written, page_len) == 0, "without damage: it stays");
+    printf("  places flipped:");
+    for (i = 0; i < s->m; i++) {
+        flip_places(s, page, i, i < beyond ? s->t[s->v - i] : s->t[0]);
+        printf(" %u", (unsigned)(i < beyond ? s->t[s->v - i] : s->t[0]));
+    }
+    printf("\n");
+    memcpy(before, page, page_len);
+    for (i = 0; i < beyond; i++)
+        must(gii_sheet_mend(s, page, page_len, i, places, places_len, &flips) == GII_UNMENDED, "a sub-word that cannot be mended alone");
+    must(gii_sheet_mend_page(s, page, page_len) == GII_DONE, "the page is mended");
+    must(memcmp(page, written, page_len) == 0, "it is what was written");
+    must(gii_sheet_judge(s, page, page_len) == GII_MEMBER, "a member");
+    must(gii_sheet_read_out(s, page, page_len, out, blocks_len) == GII_MEMBER, "read out");
+    must(memcmp(out, blocks, blocks_len) == 0, "the blocks come back");
+
+    if (beyond) {
+        memcpy(page, before, page_len);
+        memcpy(page + beyond * sub_word, written + beyond * sub_word, sub_word);
+        flip_places(s, page, beyond, s->t[s->v]);
+        memcpy(before, page, page_len);
+        must(gii_sheet_mend_page(s, page, page_len) == GII_UNMENDED_PAGE, "one more sub-word beyond t0: refused");
+        must(memcmp(page, before, page_len) == 0, "every byte stays");
+    }
+    memset(page, 0xFF, page_len);
+    if (spare_bits(s))
+        must(gii_sheet_mend_page(s, page, page_len) == GII_STRAY, "an erased page is refused: its spare bits are 1");
+    for (i = 0; i < s->m; i++)
+        page[(i + 1) * sub_word - 1] = (uint8_t)(0xFFu >> spare_bits(s));
+    page[0] ^= 0x01;
+    if (s->s == 0)
+        must(gii_sheet_mend_page(s, page, page_len) == GII_UNMENDED_PAGE, "without them, and with one coefficient 0: it would be blank");
 }
 
 /* A quote that is known number for number, with data bits less s, and known sizes. */
@@ -479,6 +545,7 @@ static void known_pages(void)
     static const uint8_t many[12] = {0x01, 0x01, 0x00, 0x81, 0x01, 0x00, 0x7F, 0xFF, 0x07, 0x00, 0x01, 0x00};
     static const uint8_t all[16] = {0xC2, 0x01, 0x13, 0x00, 0xA5, 0xA5, 0xA5, 0xA5, 0xA5, 0xA5, 0xA5, 0xA5, 0x13, 0x00, 0x13, 0x00};
     static const uint8_t damaged[4] = {0xC2, 0x01, 0x33, 0x00}, cut[4] = {0xC0, 0x00, 0x00, 0x00};
+    static const uint8_t zeros[4] = {0x00, 0x00, 0x00, 0x00};
     uint8_t out[4], list[8], few[4], pages[16], flips;
 
     printf("known pages of q 4, m 2, v 1, t 1, 2\n");
@@ -496,6 +563,12 @@ static void known_pages(void)
     must(gii_sheet_mend(&a, out, sizeof out, 1, list, GII_PLACES_BYTES(a.t[0]), &flips) == GII_DONE && memcmp(out, page, sizeof page) == 0,
          "sub-word 1 of C2 01 33 00 mended: C2 01 13 00");
     must(flips == 1 && gii_number(list, 0) == 5, "by one flip, of place 5");
+    memcpy(out, damaged, sizeof damaged);
+    must(gii_sheet_mend_page(&a, out, sizeof out) == GII_DONE && memcmp(out, page, sizeof page) == 0, "the page C2 01 33 00 mended: C2 01 13 00");
+    memcpy(out, multiple, sizeof multiple);
+    must(gii_sheet_mend_page(&a, out, sizeof out) == GII_UNMENDED_PAGE, "13 00 00 00: nested word 0 fails, and no sub-word is broken: refused");
+    memcpy(out, clear, sizeof clear);
+    must(gii_sheet_mend_page(&a, out, sizeof out) == GII_UNMENDED_PAGE, "FF 7F FF 7F: blank, and so refused");
     must(gii_sheet_judge(&a, erased, sizeof erased) == GII_BLANK, "FF FF FF FF is blank");
     must(gii_sheet_judge(&a, clear, sizeof clear) == GII_BLANK, "FF 7F FF 7F is blank");
     must(gii_sheet_read_out(&a, erased, sizeof erased, out, sizeof ones) == GII_BLANK, "FF FF FF FF read out");
@@ -525,6 +598,8 @@ static void known_pages(void)
     must(gii_sheet_mend(&shorter, out, sizeof out, 0, list, GII_PLACES_BYTES(a.t[0]), &flips) == GII_UNMENDED,
          "C0 00 is near x^6 + x^7 + x^10 alone, and place 10 is not stored: not mended");
     must(memcmp(out, cut, sizeof cut) == 0 && memcmp(list, syndromes, sizeof list) == 0, "every byte stays");
+    must(gii_sheet_mend_page(&shorter, out, sizeof out) == GII_DONE && memcmp(out, zeros, sizeof zeros) == 0,
+         "but through nested word 0, by two flips: C0 00 00 00 comes to be 00 00 00 00");
 }
 
 /* One call of each function, with buffers of the given lengths and contents; a refusal must leave all of them. */
@@ -533,7 +608,7 @@ struct lent {
 };
 
 /* The odd list of ALL_SYNDROMES is in the place of blocks. */
-enum call { WRITE, READ_OUT, JUDGE, SYNDROMES, NESTED_SYNDROMES, QUOTE, WRITE_MANY, ALTER, MEND, ALL_SYNDROMES };
+enum call { WRITE, READ_OUT, JUDGE, SYNDROMES, NESTED_SYNDROMES, QUOTE, WRITE_MANY, ALTER, MEND, ALL_SYNDROMES, MEND_PAGE };
 
 /* The pages that WRITE_MANY is told, the bit and the value that ALTER is. */
 static uint32_t count = 1, bit = 0, value = 1;
@@ -542,7 +617,7 @@ static void refused(enum call call, const struct gii_sheet *s, uint32_t number, 
                     size_t list_len, const struct lent *holds, uint32_t expected, const char *what)
 {
     static const char *const names[] = {"write", "read out", "judge", "syndromes", "nested syndromes", "quote", "write many", "alter", "mend",
-                                        "all syndromes"};
+                                        "all syndromes", "mend page"};
     struct lent lent = *holds;
     char line[240];
     uint32_t answer = 0;
@@ -577,6 +652,9 @@ static void refused(enum call call, const struct gii_sheet *s, uint32_t number, 
         break;
     case ALL_SYNDROMES:
         answer = gii_sheet_all_syndromes(s, number, lent.blocks, blocks_len, lent.list, list_len);
+        break;
+    case MEND_PAGE:
+        answer = gii_sheet_mend_page(s, lent.page, page_len);
         break;
     }
     sprintf(line, "%s, %s: refused by %u (%s), every byte stays", names[call], what, (unsigned)expected,
@@ -626,7 +704,7 @@ static void refusals(void)
     cut.page[0] = 0xC0;
 
     printf("refusals\n");
-    for (call = WRITE; call <= ALL_SYNDROMES; call++) {
+    for (call = WRITE; call <= MEND_PAGE; call++) {
         enum call c = (enum call)call;
         uint32_t number = c == WRITE || c == WRITE_MANY ? 8 : 0;
         size_t list = c == WRITE_MANY ? 1 : c == QUOTE ? GII_QUOTE_BYTES : GII_LIST_BYTES(c == SYNDROMES ? a.t[0] : a.t[1]);
@@ -718,6 +796,10 @@ static void refusals(void)
     value = UINT32_MAX;
     refused(ALTER, &a, 1, 0, page, 0, &fits, GII_INDEX, "value 4294967295");
 
+    refused(MEND_PAGE, &a, 0, 0, page, 0, &blank, GII_UNMENDED_PAGE, "a blank page");
+    refused(MEND_PAGE, &a, 0, 0, page, 0, &erased, GII_STRAY, "an erased page");
+    refused(MEND_PAGE, &a, 0, 0, page, 0, &cut, GII_UNMENDED_PAGE, "a multiple of g_0 near, and none of g_1");
+
     refused(MEND, &shorter, 0, 0, page, GII_PLACES_BYTES(a.t[0]), &cut, GII_UNMENDED, "s 5, a multiple cut short");
     refused(MEND, &shorter, 0, 0, page, GII_ALL_BYTES(a.t[0]), &cut, GII_LIST, "the same, and a list as long as all syndromes");
     refused(MEND, &shorter, UINT32_MAX, 0, page, 0, &cut, GII_INDEX, "the same, list and index 4294967295");
@@ -761,7 +843,9 @@ static void header(void)
     must(GII_LIST_BYTES(64) == GII_LIST_MAX && GII_ALL_BYTES(64) == GII_ALL_MAX, "the longest lists of syndromes");
     must(GII_PLACES_BYTES(63) == GII_PLACES_MAX, "the most places");
     must(GII_COUNT_MAX == 16, "the most pages of one call");
-    must(GII_IS_REFUSAL(GII_FIELD) && GII_IS_REFUSAL(GII_SHORTENING) && GII_IS_REFUSAL(GII_UNMENDED), "refusals");
+    must(GII_IS_REFUSAL(GII_FIELD) && GII_IS_REFUSAL(GII_SHORTENING) && GII_IS_REFUSAL(GII_UNMENDED) &&
+             GII_IS_REFUSAL(GII_UNMENDED_PAGE),
+         "refusals");
     must(!GII_IS_REFUSAL(GII_DONE) && !GII_IS_REFUSAL(GII_SUB_WORD) && !GII_IS_REFUSAL(GII_BLANK) && !GII_IS_REFUSAL(UINT32_MAX),
          "no refusals");
 }
@@ -788,6 +872,7 @@ int main(void)
         many_pages(&sheets[k]);
         altered_bit(&sheets[k]);
         mended_sub_words(&sheets[k]);
+        mended_page(&sheets[k]);
     }
     refusals();
     printf("all as expected\n");

@@ -10,7 +10,7 @@ ghost use Rattle.massey.specs.Steps.{Zeroed, After, Turned, Done};
 use element::Field;
 
 // The product of two elements.
-fn product(powers: &[u16], logs: &[u16], f: Field, a: u16, b: u16) -> u16
+pub fn product(powers: &[u16], logs: &[u16], f: Field, a: u16, b: u16) -> u16
     requires { ⌜ Tables f (now powers) (now logs) × (a < 2 ^ f .q) × (b < 2 ^ f .q) ⌝ }
     ensures { λ r. ⌜ Product (f .q) a b r ⌝ }
 {

@@ -61,6 +61,12 @@ module _ (p : Parameters) (A : Accepted p) (x : List ℕ) (h : IsPage p x) (i : 
       go j l (no n) =
           written-there p x i new (h .exact) li j n ∙ old-part j l ∙ ap (digits 8 (subWordBytes p)) (sym (flipped-else p R x h i li Q r j n))
 
+-- places that rise
+pub rising-places : (n c : ℕ) (l : List ℕ) → c ≤ length l → Rising 0 n (take c l) → Places n c l
+rising-places n c l b r = record {
+  below = λ j k. rw (getD-take c l j 0 k) at (rising-at 0 n (take c l) r j (rw (length-take c l ∙ Nat.min-eq-left b) k));
+}
+
 -- ---- the places: what is found where c of t places stand first in the list l
 module _ (p : Parameters) (A : Accepted p) (y : ℕ) (low : y < 2 ^ stored p) (c t : ℕ) (l : List ℕ) (e : nearest p 0 y ≡ kept (leb c t) (take c l)) where
   pub found-none : t < c → nearest p 0 y ≡ none
@@ -76,9 +82,7 @@ module _ (p : Parameters) (A : Accepted p) (y : ℕ) (low : y < 2 ^ stored p) (c
   found-long b = length-take c l ∙ Nat.min-eq-left b
 
   pub found-places : c ≤ t → c ≤ length l → Places (stored p) c l
-  found-places h b = record {
-    below = λ j k. rw (getD-take c l j 0 k) at (rising-at 0 (stored p) (take c l) (found-flips h .rising) j (rw (found-long b) k));
-  }
+  found-places h b = rising-places (stored p) c l b (found-flips h .rising)
 
 -- ---- the answer
 module _ (p : Parameters) (x : List ℕ) (i : ℕ) (l : List ℕ) (n : ℕ) where

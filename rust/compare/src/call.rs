@@ -9,6 +9,7 @@ pub enum Name {
     WriteMany,
     Alter,
     Mend,
+    MendPage,
     ReadOut,
     Judge,
     Syndromes,
@@ -20,11 +21,12 @@ pub enum Name {
     Distance,
 }
 
-pub const NAMES: [Name; 13] = [
+pub const NAMES: [Name; 14] = [
     Name::Write,
     Name::WriteMany,
     Name::Alter,
     Name::Mend,
+    Name::MendPage,
     Name::ReadOut,
     Name::Judge,
     Name::Syndromes,
@@ -47,12 +49,12 @@ impl Name {
         !matches!(self, Name::AllSyndromes | Name::Quote) && !self.is_size()
     }
 
-    /// Whether the call reads the page that it is lent, and gives it back changed: alter and mend.
+    /// Whether the call reads the page that it is lent, and gives it back changed: alter, mend and mend page.
     pub fn changes_page(self) -> bool {
-        matches!(self, Name::Alter | Name::Mend)
+        matches!(self, Name::Alter | Name::Mend | Name::MendPage)
     }
 
-    /// Whether the call is given bytes that are only read: all but alter, mend, the quote and the sizes.
+    /// Whether the call is given bytes that are only read: all but alter, mend, mend page, the quote and the sizes.
     pub fn reads(self) -> bool {
         self.has_page() && !self.changes_page() || self == Name::AllSyndromes
     }
@@ -91,10 +93,10 @@ pub struct Call {
     pub bit: u32,
     pub value: u32,
     /// The bytes that are only read: the blocks of write and of write many, the odd list of all syndromes, else the page; none
-    /// for alter, mend, the quote and the sizes.
+    /// for alter, mend, mend page, the quote and the sizes.
     pub read: Vec<u8>,
-    /// The bytes lent to be written: page or pages, blocks or list; none for judge and the sizes. Alter and mend read their
-    /// page first.
+    /// The bytes lent to be written: page or pages, blocks or list; none for judge and the sizes. Alter, mend and mend page
+    /// read their page first.
     pub lent: Vec<u8>,
     /// The list of write many, or the places of mend, lent beside the pages or the page; none for the others.
     pub list: Vec<u8>,
@@ -131,6 +133,11 @@ impl Call {
         Call { list: places, flips, ..Call::new(Name::Mend, p, index, Vec::new(), page) }
     }
 
+    /// A call of mend page.
+    pub fn mend_page(p: &Parameters, page: Vec<u8>) -> Call {
+        Call::new(Name::MendPage, p, 0, Vec::new(), page)
+    }
+
     /// What the call gives where it is refused by this number: every byte stays.
     pub fn refused(&self, number: u32) -> Outcome {
         Outcome { number, lent: self.lent.clone(), list: self.list.clone(), flips: self.flips }
@@ -152,6 +159,7 @@ impl Call {
             Name::WriteMany => calls::write_many(p, *number, *count, read, lent, list),
             Name::Alter => calls::alter(p, lent, *number, *bit, *value),
             Name::Mend => calls::mend(p, lent, *number, list, flips),
+            Name::MendPage => calls::mend_page(p, lent),
             Name::ReadOut => calls::read_out(p, read, lent),
             Name::Judge => calls::judge(p, read),
             Name::Syndromes => calls::syndromes(p, read, *number, lent),
@@ -176,6 +184,7 @@ impl Call {
             Name::WriteMany => answer(sheet.write_many(*number, *count, read, lent, list).map(done)),
             Name::Alter => answer(sheet.alter(lent, *number, *bit, *value).map(done)),
             Name::Mend => answer(sheet.mend(lent, *number, list, flips).map(done)),
+            Name::MendPage => answer(sheet.mend_page(lent).map(done)),
             Name::ReadOut => answer(sheet.read_out(read, lent)),
             Name::Judge => answer(sheet.judge(read)),
             Name::Syndromes => answer(sheet.syndromes(read, *number, lent).map(done)),

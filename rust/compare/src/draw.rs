@@ -5,7 +5,7 @@ use reference::calls::{BLANK, MOST_PAGES, QUOTE_BYTES};
 use reference::generator::odd;
 use reference::layout::{add, bit, flip, set};
 use reference::parameters::Sheet;
-use reference::sample::Random;
+use reference::sample::{Random, all_parameters, all_shortened};
 use reference::{Parameters, linear};
 use std::collections::BTreeSet;
 use std::io::Write;
@@ -46,6 +46,14 @@ pub fn alike(random: &mut Random, call: &Call) -> Outcome {
 /// A sheet with full sub-words, and shortened by half of the greatest s and by the greatest.
 pub fn with_shortened(p: &Parameters) -> [Parameters; 3] {
     [*p, p.shortened(p.most().div_ceil(2)), p.shortened(p.most())]
+}
+
+/// A sheet without spare bits.
+pub const WHOLE_BYTES: Parameters = Parameters::full(12, 4, 1, [4, 12, 0, 0]).shortened(3071);
+
+/// Every sheet of q = 4 with every s, or one in so many of them.
+pub fn sheets_of_q_4() -> impl Iterator<Item = Parameters> {
+    all_parameters(4, 8).into_iter().flat_map(|p| all_shortened(&p)).step_by(one_in())
 }
 
 /// The length of the lent list of odd syndromes.
@@ -252,6 +260,69 @@ pub fn flip_some(random: &mut Random, sheet: &Sheet, page: &mut [u8], i: usize, 
     places
 }
 
+/// So many drawn sub-words, in a drawn order.
+pub fn some_sub_words(random: &mut Random, sheet: &Sheet, count: usize) -> Vec<usize> {
+    let mut left: Vec<usize> = (0..sheet.m).collect();
+    (0..count).map(|_| left.remove(random.from_to(0, left.len() - 1))).collect()
+}
+
+/// Flips coefficients of a page: in the sub-words that are named as many as are given with them, in each other up to t_0,
+/// often none or the most.
+pub fn damage(random: &mut Random, sheet: &Sheet, page: &mut [u8], named: &[(usize, usize)]) {
+    let t = sheet.levels[0].t;
+    for i in 0..sheet.m {
+        let few = [0, t, random.from_to(0, t)][random.from_to(0, 2)];
+        let flips = named.iter().find(|&&(k, _)| k == i).map_or(few, |&(_, flips)| flips);
+        flip_some(random, sheet, page, i, flips);
+    }
+}
+
+/// A member, damaged so that it is mostly mended: of the sub-words that may have more than t_0 flips one has up to t_v, the next
+/// up to t_(v−1), and so on.
+fn damaged(random: &mut Random, p: &Parameters) -> Vec<u8> {
+    let sheet = Sheet::of(p);
+    let mut page = member(random, p);
+    let count = random.from_to(0, sheet.v);
+    let broken = some_sub_words(random, &sheet, count).into_iter().enumerate();
+    let named: Vec<(usize, usize)> = broken
+        .map(|(l, i)| {
+            let most = sheet.nested_level(l).t;
+            (i, if random.once_in(2) { most } else { random.from_to(0, most) })
+        })
+        .collect();
+    damage(random, &sheet, &mut page, &named);
+    page
+}
+
+/// Whether a page of exact length, spare bits clear, is refused by 17.
+fn is_unmended(p: &Parameters, page: &[u8]) -> bool {
+    Call::mend_page(p, page.to_vec()).outcome(Call::by_reference).number == 17
+}
+
+/// A page that is not mended; none if none is found.
+fn unmended_page(random: &mut Random, p: &Parameters) -> Option<Vec<u8>> {
+    let sheet = Sheet::of(p);
+    let drawn = |random: &mut Random| {
+        let mut page = member(random, p);
+        match random.from_to(0, 3) {
+            // Nothing like a member; blank but for a few flips; with all sub-words right; with too many broken ones.
+            0 => page = any_page(random, &sheet),
+            1 => {
+                page = sheet.erased(0);
+                damage(random, &sheet, &mut page, &[]);
+            }
+            2 => break_nested(random, &sheet, &mut page),
+            _ => {
+                for i in some_sub_words(random, &sheet, sheet.v + 1) {
+                    unmended(random, &sheet, &mut page, i);
+                }
+            }
+        }
+        page
+    };
+    repeat_with(|| drawn(random)).take(30).find(|page| is_unmended(p, page))
+}
+
 /// Some of the places that are not stored, at most so many.
 pub fn unstored_places(random: &mut Random, sheet: &Sheet, most: usize) -> Vec<usize> {
     let count = random.from_to(0, most.min(sheet.s));
@@ -288,6 +359,10 @@ pub fn exact(random: &mut Random, name: Name, p: &Parameters) -> Call {
             return repeat_with(|| alteration(random, p)).find(done).unwrap();
         }
         Name::Mend => return mendable(random, p),
+        Name::MendPage => {
+            let mended = |page: &Vec<u8>| !is_unmended(p, page);
+            return Call::mend_page(p, repeat_with(|| damaged(random, p)).find(mended).unwrap());
+        }
         Name::ReadOut => (0, page(random, p), sheet.blocks_bytes()),
         Name::Judge => (0, page(random, p), 0),
         Name::Syndromes => (random.from_to(0, sheet.m - 1), page(random, p), 0),
@@ -314,6 +389,7 @@ pub fn conditions(name: Name) -> &'static [u32] {
         Name::WriteMany => &[1, 2, 3, 4, 14, 5, 9, 6, 7, 10],
         Name::Alter => &[1, 2, 3, 4, 14, 7, 8, 9, 13],
         Name::Mend => &[1, 2, 3, 4, 14, 7, 8, 9, 10, 15],
+        Name::MendPage => &[1, 2, 3, 4, 14, 7, 8, 17],
         Name::ReadOut => &[1, 2, 3, 4, 14, 6, 7, BLANK, 8],
         Name::Judge => &[1, 2, 3, 4, 14, 7, BLANK, 8],
         Name::Syndromes | Name::NestedSyndromes => &[1, 2, 3, 4, 14, 7, 8, 9, 10],
@@ -362,7 +438,8 @@ pub fn spoil(random: &mut Random, call: &mut Call, condition: u32) -> bool {
             _ => cut(random, &mut call.lent, 1),
         },
         7 => match call.name {
-            Name::Write | Name::WriteMany | Name::Alter | Name::Mend => cut(random, &mut call.lent, call.count),
+            Name::Write | Name::WriteMany => cut(random, &mut call.lent, call.count),
+            name if name.changes_page() => cut(random, &mut call.lent, 1),
             _ => cut(random, &mut call.read, 1),
         },
         8 => {
@@ -432,6 +509,10 @@ pub fn spoil(random: &mut Random, call: &mut Call, condition: u32) -> bool {
         }
         14 => p.s = too_short(random, p),
         15 => return unmended(random, &sheet.unwrap(), &mut call.lent, call.number as usize),
+        17 => match unmended_page(random, p) {
+            Some(page) => call.lent = page,
+            None => return false,
+        },
         BLANK => {
             let spare = random.number();
             call.read.iter_mut().zip(sheet.unwrap().erased(spare)).for_each(|(byte, ones)| *byte |= ones);
@@ -511,6 +592,7 @@ pub fn any(random: &mut Random) -> Call {
             let (page, i) = (page(random, &p), random.from_to(0, p.m as usize - 1));
             mending(random, &p, page, i)
         }
+        Name::MendPage if random.once_in(3) => Call::mend_page(&p, page(random, &p)),
         _ => exact(random, name, &p),
     };
     if random.once_in(2) {

@@ -1,9 +1,10 @@
 //! The time that shortened sub-words save: write's on a shortened sheet, in times of write's on the full one. The time that
 //! many pages in one call save: that of the call, in times of as many single ones. The time of an alteration of one bit, in
-//! times of a write. And those of a mended sub-word and of odd syndromes, in times of a CRC-32.
+//! times of a write. Those of a mended sub-word and of odd syndromes, in times of a CRC-32. And that of a mended page, in times
+//! of judge and of a CRC-32.
 
 use crate::call::{Call, Name};
-use crate::draw::{any_page, exact, flip_some, list_bytes, many, member, mending};
+use crate::draw::{any_page, damage, exact, flip_some, list_bytes, many, member, mending};
 use reference::Parameters;
 use reference::calls::MOST_PAGES;
 use reference::layout::bit;
@@ -47,6 +48,16 @@ pub const MEND_GATE_LIMITS: [f64; 3] = [0.65, 9.0, 14.0];
 /// The odd syndromes of a sub-word may take so much of it, and those of nested word 0.
 pub const ODD_LIMITS: [f64; 2] = [0.8, 1.5];
 pub const ODD_GATE_LIMITS: [f64; 2] = [1.0, 1.9];
+
+/// Mending a page without faults may take so much of the time of judge.
+pub const MEND_PAGE_LIMIT: f64 = 1.2;
+pub const MEND_PAGE_GATE_LIMIT: f64 = 1.35;
+
+/// Linux's BCH library decodes one word with so many flips as it corrects, 28 or 58, in so many µs, least and most, where a
+/// CRC-32 of CRC_BYTES bytes takes LINUX_CRC µs. With 14 flips of 28 it takes 14 µs.
+const LINUX_28: [f64; 2] = [26.0, 40.0];
+const LINUX_58: [f64; 2] = [90.0, 90.0];
+const LINUX_CRC: f64 = 13.0;
 
 /// Mending takes most time on this sheet, of the greatest t_0.
 pub const STRONGEST: Parameters = Parameters::full(12, 2, 1, [63, 64, 0, 0]);
@@ -196,6 +207,76 @@ pub fn mend_to_crc(p: &Parameters) -> [f64; 4] {
     times.map(|time| time / crc)
 }
 
+/// A mended page that is timed.
+pub struct PageMending {
+    pub name: &'static str,
+    pub call: Call,
+    /// What Linux's decodes of as many single words with as many flips take, least and most, in times of a CRC-32 of CRC_BYTES
+    /// bytes; none where that is not known.
+    pub linux: Option<[f64; 2]>,
+}
+
+/// The calls of mend page that are timed, on a member of full sub-words: without a flip; with one in each sub-word; with t_0 in
+/// each; with t_v in one and t_0 in the others; with t_v, t_(v−1), .., t_1 in v of them and t_0 in the others; with t_v in v + 1
+/// of them and t_0 in the others, so that it is refused by 17.
+pub fn page_mendings() -> [PageMending; 6] {
+    let (sheet, mut random) = (Sheet::of(&FULL), Random::new(1));
+    let (m, v, t) = (sheet.m, sheet.v, sheet.levels[0].t);
+    let each = |beyond: &[usize], others: usize| -> Vec<usize> {
+        beyond.iter().copied().chain(std::iter::repeat(others)).take(m).collect()
+    };
+    let strengths: Vec<usize> = (0..v).map(|l| sheet.nested_level(l).t).collect();
+    // Words of t_1 to t_(v−1) are between those of t_0 and of t_v.
+    let sum = |weak: usize, between: usize, strong: usize| {
+        let least = (weak + between) as f64 * LINUX_28[0] + strong as f64 * LINUX_58[0];
+        let most = weak as f64 * LINUX_28[1] + (between + strong) as f64 * LINUX_58[1];
+        Some([least / LINUX_CRC, most / LINUX_CRC])
+    };
+    [
+        ("mend page no flip", each(&[], 0), None),
+        ("mend page 1 flip in each", each(&[], 1), None),
+        ("mend page t0 flips in each", each(&[], t), sum(m, 0, 0)),
+        ("mend page t_v flips in one", each(&strengths[..1], t), sum(m - 1, 0, 1)),
+        ("mend page t_v to t_1 flips in v", each(&strengths, t), sum(m - v, v - 1, 1)),
+        ("mend page t_v flips in v + 1", each(&vec![strengths[0]; v + 1], t), None),
+    ]
+    .map(|(name, flips, linux)| {
+        let mut page = member(&mut random, &FULL);
+        damage(&mut random, &sheet, &mut page, &flips.into_iter().enumerate().collect::<Vec<_>>());
+        PageMending { name, call: Call::mend_page(&FULL, page), linux }
+    })
+}
+
+/// The archive's mended pages, in times of judge on a member and in times of a CRC-32 of CRC_BYTES bytes. Before each call the
+/// damaged page is copied, which takes about 0.1 µs and is timed with it.
+pub fn mend_page_to_judge() -> [(f64, f64); 6] {
+    let mut random = Random::new(1);
+    let (table, bytes) = (crc_table(), random.bytes(CRC_BYTES));
+    let judge = Call::new(Name::Judge, &FULL, 0, member(&mut random, &FULL), Vec::new());
+    let mut works = page_mendings().map(|PageMending { name, call, .. }| {
+        let answer = call.outcome(Call::by_reference).number;
+        let mut page = call.lent.clone();
+        move || {
+            page.copy_from_slice(&call.lent);
+            assert_eq!(call.by_archive(&[], black_box(&mut page), &mut [], &mut 0), answer, "{name}");
+        }
+    });
+    let [none, one, few, strong, steps, refused] = &mut works;
+    let [crc, judge, times @ ..] = least_times([
+        &mut || {
+            black_box(crc(black_box(&table), black_box(&bytes)));
+        },
+        &mut || assert_eq!(judge.by_archive(black_box(&judge.read), &mut [], &mut [], &mut 0), 0),
+        none,
+        one,
+        few,
+        strong,
+        steps,
+        refused,
+    ]);
+    times.map(|time| (time / judge, time / crc))
+}
+
 /// The calls of syndromes that are timed, in words, on a page: the odd ones of a sub-word and of nested word 0, and all from
 /// those of nested word 0.
 pub fn listings(p: &Parameters, page: &[u8]) -> [(&'static str, Call); 3] {
@@ -289,6 +370,24 @@ pub fn mend_stated() -> (String, [f64; 3]) {
         STRONGEST.t[0]
     );
     (line, [none, half, all])
+}
+
+/// The ratios of mended pages in words, and that of a page without faults to judge.
+pub fn mend_page_stated() -> (String, [f64; 1]) {
+    let ratios = mend_page_to_judge();
+    let [(none, of_crc), rest @ ..] = ratios;
+    let mendings = page_mendings();
+    let others = mendings[1..].iter().zip(rest).map(|(PageMending { name, linux, .. }, (judge, crc))| {
+        let beside = linux.map_or(String::new(), |[least, most]| format!(" (Linux's decodes {least:.1} to {most:.1})"));
+        format!("{name} {judge:.1} and {crc:.1}{beside}")
+    });
+    let line = format!(
+        "A page of {} mended, in times of judge and of a CRC-32 of {CRC_BYTES} bytes, by turns, least times: without a flip \
+         {none:.3}; at most {MEND_PAGE_LIMIT}; and {of_crc:.2}; {}",
+        title(&FULL),
+        others.collect::<Vec<_>>().join("; ")
+    );
+    (line, [none])
 }
 
 /// The ratios of odd syndromes in words, and those of a sub-word and of nested word 0.

@@ -3,12 +3,15 @@
 //! other sub-words stay, few bits change and not too few, back is as it was. And what refuses it.
 
 use compare::call::{Call, Outcome, sheet};
-use compare::draw::{alike, any_page, count, member, next_to_blank, one_in, say, seed, some_bits, with_shortened};
+use compare::draw::{
+    WHOLE_BYTES, alike, any_page, count, member, next_to_blank, one_in, say, seed, sheets_of_q_4, some_bits,
+    with_shortened,
+};
 use gii_bch::{Refusal, Sheet as Archive, Verdict};
 use reference::Parameters;
 use reference::layout::{add, bit, flip, set};
 use reference::parameters::Sheet;
-use reference::sample::{Random, all_parameters, all_shortened};
+use reference::sample::Random;
 use std::array::from_fn;
 use std::collections::BTreeSet;
 
@@ -47,9 +50,6 @@ const SHEETS_OF_Q_12: [Parameters; 3] = [
     Parameters::full(12, 3, 2, [62, 63, 64, 0]),
     Parameters::full(12, 8, 1, [1, 2, 0, 0]),
 ];
-
-/// A sheet without spare or unused bits.
-const WHOLE_BYTES: Parameters = Parameters::full(12, 4, 1, [4, 12, 0, 0]).shortened(3071);
 
 /// The number of an answer.
 fn number(answer: Result<(), Refusal>) -> u32 {
@@ -251,7 +251,7 @@ fn few_changes(archive: &Archive, sheet: &Sheet, page: &[u8], (i, r): (usize, us
 #[test]
 fn altered_on_every_sheet_of_q_4() {
     let mut run = Run::new(30);
-    for p in all_parameters(4, 8).iter().flat_map(all_shortened).step_by(one_in()) {
+    for p in sheets_of_q_4() {
         run.sheet(&p, &KINDS, true);
     }
     assert!(one_in() > 1 || run.sheets == 186);
@@ -292,10 +292,9 @@ fn altered_on_sheets_of_q_12() {
 
 /// Sheets of all fields for refusals, full and shortened.
 fn sheets_for_refusals(random: &mut Random) -> Vec<Parameters> {
-    let small = all_parameters(4, 8).into_iter().flat_map(|p| all_shortened(&p)).step_by(one_in());
     let drawn = [8, 8, 12].map(|q| random.parameters(q));
     let large = SHEETS_OF_Q_8.iter().chain(&SHEETS_OF_Q_12[..1]).chain(&drawn).flat_map(with_shortened);
-    small.chain(large).chain([WHOLE_BYTES]).collect()
+    sheets_of_q_4().chain(large).chain([WHOLE_BYTES]).collect()
 }
 
 /// A member, any page, and a blank one, which the value 1 would leave blank.

@@ -2,12 +2,14 @@
 //! reference, with pages that are refused at every place among the others. And what refuses the whole call.
 
 use compare::call::{Call, Outcome, sheet};
-use compare::draw::{alike, count, make_stray, many, many_drawn, one_in, say, seed, with_shortened, writable};
+use compare::draw::{
+    WHOLE_BYTES, alike, count, make_stray, many, many_drawn, one_in, say, seed, sheets_of_q_4, with_shortened, writable,
+};
 use gii_bch::Refusal;
 use reference::Parameters;
 use reference::calls::MOST_PAGES;
 use reference::parameters::Sheet;
-use reference::sample::{Random, all_parameters, all_shortened};
+use reference::sample::Random;
 use std::collections::{BTreeMap, BTreeSet};
 
 /// What is made of the blocks of a page.
@@ -39,9 +41,6 @@ const SHEETS_OF_Q_12: [Parameters; 3] = [
     Parameters::full(12, 3, 2, [62, 63, 64, 0]),
     Parameters::full(12, 8, 1, [1, 2, 0, 0]),
 ];
-
-/// A sheet without spare or unused bits.
-const WHOLE_BYTES: Parameters = Parameters::full(12, 4, 1, [4, 12, 0, 0]).shortened(3071);
 
 /// What a test went through.
 struct Run {
@@ -181,7 +180,7 @@ fn many_on_every_sheet_of_q_4() {
     for p in [A, B].iter().flat_map(with_shortened) {
         (1..MOST).for_each(|count| run.places(&p, count));
     }
-    for p in all_parameters(4, 8).iter().flat_map(all_shortened).step_by(one_in()) {
+    for p in sheets_of_q_4() {
         run.sheets += 1;
         run.places(&p, MOST);
         for count in 1..=MOST {

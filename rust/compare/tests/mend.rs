@@ -5,8 +5,8 @@
 
 use compare::call::{Call, Outcome, sheet};
 use compare::draw::{
-    alike, any_page, count, flip_some, member, mending, one_in, put_multiple, say, seed, unstored_places,
-    with_shortened,
+    WHOLE_BYTES, alike, any_page, count, flip_some, member, mending, one_in, put_multiple, say, seed, sheets_of_q_4,
+    unstored_places, with_shortened,
 };
 use compare::work::STRONGEST;
 use gii_bch::{NO_PLACE, Verdict, numbers};
@@ -27,9 +27,6 @@ const SHEETS_OF_Q_8: [Parameters; 5] = [
 ];
 const SHEETS_OF_Q_12: [Parameters; 3] =
     [Parameters::full(12, 8, 3, [28, 32, 39, 58]), STRONGEST, Parameters::full(12, 8, 1, [1, 2, 0, 0])];
-
-/// A sheet without spare bits.
-const WHOLE_BYTES: Parameters = Parameters::full(12, 4, 1, [4, 12, 0, 0]).shortened(3071);
 
 /// So many sets of flips of a sub-word are gone through; of more so many are drawn.
 const SETS: usize = 5000;
@@ -246,7 +243,7 @@ fn every_word_of_q_4() {
 #[test]
 fn mended_on_every_sheet_of_q_4() {
     let mut run = Run::new(41);
-    for p in all_parameters(4, 8).iter().flat_map(all_shortened).step_by(one_in()) {
+    for p in sheets_of_q_4() {
         let sheet = Sheet::of(&p);
         let (m, t) = (sheet.m, sheet.levels[0].t);
         run.sheet(&p, &[0, t]);
@@ -356,10 +353,9 @@ fn written_damaged_mended_and_read_out() {
 
 /// Sheets of all fields for refusals, full and shortened.
 fn sheets_for_refusals(random: &mut Random) -> Vec<Parameters> {
-    let small = all_parameters(4, 8).into_iter().flat_map(|p| all_shortened(&p)).step_by(one_in());
     let drawn = [8, 8, 12].map(|q| random.parameters(q));
     let large = SHEETS_OF_Q_8.iter().chain(&SHEETS_OF_Q_12[..1]).chain(&drawn).flat_map(with_shortened);
-    small.chain(large).chain([WHOLE_BYTES]).collect()
+    sheets_of_q_4().chain(large).chain([WHOLE_BYTES]).collect()
 }
 
 /// Sub-words that there are not: the next ones, the greatest, and ones that there are with 2^8, 2^16, 2^24 or 2^31 added. And

@@ -4,13 +4,15 @@
 //! archive makes of its own list.
 
 use compare::call::{Call, Name, Outcome};
-use compare::draw::{alike, all_drawn, all_from, any_page, count, list_bytes, one_in, say, seed, with_shortened};
+use compare::draw::{
+    alike, all_drawn, all_from, any_page, count, list_bytes, one_in, say, seed, sheets_of_q_4, with_shortened,
+};
 use compare::work::STRONGEST;
 use gii_bch::numbers;
 use reference::Parameters;
 use reference::layout::set;
 use reference::parameters::Sheet;
-use reference::sample::{Random, all_parameters, all_shortened};
+use reference::sample::Random;
 use std::collections::BTreeSet;
 
 /// Sheets that are gone through in any case: of the greatest strengths, one for each field, and others.
@@ -81,9 +83,8 @@ fn words(p: &Parameters, name: Name) -> u32 {
 
 /// Sheets of all fields, full and shortened.
 fn sheets(random: &mut Random) -> Vec<Parameters> {
-    let small = all_parameters(4, 8).into_iter().flat_map(|p| all_shortened(&p)).step_by(one_in());
     let drawn = [8, 8, 8, 12].map(|q| random.parameters(q));
-    small.chain(STRONG.iter().chain(&OTHERS).chain(&drawn).flat_map(with_shortened)).collect()
+    sheets_of_q_4().chain(STRONG.iter().chain(&OTHERS).chain(&drawn).flat_map(with_shortened)).collect()
 }
 
 /// One coefficient, of x^k of sub-word i: S_j of this sub-word is α^(jk), of the others 0, of nested word l α^(j(k + li)); the

@@ -163,7 +163,7 @@ fn every_length_near_the_exact_one() {
             let call = exact(&mut random, name, &p);
             // None, one less, the length, one more; only none where the call has no such buffer.
             let near = |exact: usize| BTreeSet::from([0, exact.saturating_sub(1), exact, exact + 1]);
-            // Of one buffer all, or many: of the one that is read, and of the page of alter and mend.
+            // Of one buffer all, or many: of the one that is read, and of the page of alter, mend and mend page.
             let every = |exact: usize| (0..exact + 40).filter(|&length| p.q == 4 || length + 40 > exact).collect();
             let reads = if name.reads() { every(call.read.len()) } else { BTreeSet::from([0]) };
             let lents = match name {
@@ -220,7 +220,7 @@ fn lengths_of_another_shortening() {
                     };
                     let (read, lent) = match name {
                         Name::Write | Name::WriteMany => (blocks, page),
-                        Name::Alter | Name::Mend => (false, page),
+                        _ if name.changes_page() => (false, page),
                         _ => (page, blocks && has_blocks),
                     };
                     let mut call = right.clone();

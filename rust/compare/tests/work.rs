@@ -1,11 +1,11 @@
 //! Shortened sub-words are less work, and so are many pages in one call; one bit altered is less than a write, one sub-word
-//! mended is a few CRC-32 sums, and the odd syndromes of a word are about one. The stand-in, which is not made for speed, is
-//! not asked.
+//! mended is a few CRC-32 sums, the odd syndromes of a word are about one, and a page without faults is mended in about the time
+//! of judge. The stand-in, which is not made for speed, is not asked.
 
 use compare::draw::say;
 use compare::work::{
-    ALTER_GATE_LIMITS, GATE_LIMIT, MANY_GATE_LIMIT, MEND_GATE_LIMITS, ODD_GATE_LIMITS, alter_stated, many_stated,
-    mend_stated, odd_stated, stated, within,
+    ALTER_GATE_LIMITS, GATE_LIMIT, MANY_GATE_LIMIT, MEND_GATE_LIMITS, MEND_PAGE_GATE_LIMIT, ODD_GATE_LIMITS,
+    alter_stated, many_stated, mend_page_stated, mend_stated, odd_stated, stated, within,
 };
 use std::sync::Mutex;
 
@@ -47,4 +47,9 @@ fn a_mended_sub_word_takes_a_few_sums() {
 #[test]
 fn odd_syndromes_take_about_a_sum() {
     ask(odd_stated, ODD_GATE_LIMITS);
+}
+
+#[test]
+fn a_page_without_faults_takes_about_a_judge() {
+    ask(mend_page_stated, [MEND_PAGE_GATE_LIMIT]);
 }

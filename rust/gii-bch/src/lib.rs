@@ -42,8 +42,8 @@
 //!
 //! `build.rs` links the archive that the variable `GII_ARCHIVE` names (a path from `rust/`), or
 //! `target/staticlib/libgii_bch.a` of the repository, which `rt staticlib gii_bch` makes. It is for x86-64 and takes at
-//! most 128 KiB of stack for [`Sheet::write_many`], at most 64 KiB for [`Sheet::mend`] and at most 32 KiB for every other
-//! call. Calls may run at once in several threads.
+//! most 128 KiB of stack for [`Sheet::write_many`], at most 64 KiB for [`Sheet::mend`], at most 64 KiB for
+//! [`Sheet::mend_page`] and at most 32 KiB for every other call. Calls may run at once in several threads.
 
 #![no_std]
 #![deny(missing_docs)]
@@ -72,6 +72,7 @@ c_functions! {
     );
     fn gii_alter(page: *mut u8, page_len: usize, block: u32, bit: u32, value: u32);
     fn gii_mend(page: *mut u8, page_len: usize, index: u32, places: *mut u8, places_len: usize, flips: *mut u8);
+    fn gii_mend_page(page: *mut u8, page_len: usize);
     fn gii_read_out(page: *const u8, page_len: usize, blocks: *mut u8, blocks_len: usize);
     fn gii_judge(page: *const u8, page_len: usize);
     fn gii_syndromes(page: *const u8, page_len: usize, index: u32, list: *mut u8, list_len: usize);
@@ -173,9 +174,11 @@ pub enum Refusal {
     Shortening = 14,
     /// No multiple of g_0 with zeros in its top s places is within t_0 flips of the sub-word.
     Unmended = 15,
+    /// The page cannot be mended through its nested words.
+    UnmendedPage = 17,
 }
 
-const REFUSALS: [Refusal; 13] = [
+const REFUSALS: [Refusal; 14] = [
     Refusal::Field,
     Refusal::Shape,
     Refusal::Strengths,
@@ -189,6 +192,7 @@ const REFUSALS: [Refusal; 13] = [
     Refusal::Blank,
     Refusal::Shortening,
     Refusal::Unmended,
+    Refusal::UnmendedPage,
 ];
 
 const SUB_WORD: u32 = 32;
@@ -227,7 +231,7 @@ impl Verdict {
 }
 
 impl Refusal {
-    /// The number of `enum gii_answer`: 1 to 10 or 13 to 15.
+    /// The number of `enum gii_answer`: 1 to 10, 13 to 15 or 17.
     pub fn number(self) -> u32 {
         self as u32
     }
@@ -262,6 +266,7 @@ impl fmt::Display for Refusal {
             Refusal::Blank => "the page would be blank",
             Refusal::Shortening => "s leaves a block without data",
             Refusal::Unmended => "no multiple of g_0 within t_0 flips of the sub-word",
+            Refusal::UnmendedPage => "the page cannot be mended through its nested words",
         })
     }
 }
@@ -573,6 +578,43 @@ impl Sheet {
     /// ```
     pub fn mend(&self, page: &mut [u8], index: u32, places: &mut [u8], flips: &mut u8) -> Result<(), Refusal> {
         done(call!(gii_mend, self, page.as_mut_ptr(), page.len(), index, places.as_mut_ptr(), places.len(), flips))
+    }
+
+    /// A stored page made a member, also where up to v of its sub-words have more than t_0 faults. First every sub-word is
+    /// mended as by [`Sheet::mend`]; b is how many could not be. While b is 1 to v there is a round, at level a = v − b + 1:
+    /// from S_1 to S_(2 t_a) of nested words 0 to b − 1, of the page as the round finds it, those of the b unknown errors are
+    /// worked out; each broken sub-word whose syndromes are those of an error of at most t_a stored places has these flipped.
+    /// In the end the page is a member, though where a sub-word has more than t_0 faults it may be another than was written.
+    ///
+    /// Refuses the parameters, the length, a spare bit anywhere in the page, blank or not, a page of which no member comes so
+    /// (by [`Refusal::UnmendedPage`]): more than v sub-words cannot be mended at first, a round mends none, or what comes of
+    /// it is no member, or blank.
+    ///
+    /// ```
+    /// # use gii_bch::{Refusal, Sheet};
+    /// let sheet = Sheet::new(8, 4, 2, [4, 8, 16, 0]);
+    /// let mut page = [0; 128];
+    /// sheet.write(64, &vec![0x05; sheet.data_bytes()?], &mut page)?;
+    /// let written = page;
+    ///
+    /// // 16 places of sub-word 0, 8 of sub-word 3, and one of sub-word 1.
+    /// (0..16).for_each(|k| page[2 * k] ^= 0x10);
+    /// (0..8).for_each(|k| page[96 + 3 * k] ^= 0x02);
+    /// page[40] ^= 0x80;
+    /// let damaged = page;
+    /// sheet.mend_page(&mut page)?;
+    /// assert_eq!(page, written);
+    ///
+    /// // A third sub-word with more than four faults.
+    /// let mut worse = damaged;
+    /// (0..8).for_each(|k| worse[64 + 3 * k] ^= 0x20);
+    /// let before = worse;
+    /// assert_eq!(sheet.mend_page(&mut worse), Err(Refusal::UnmendedPage));
+    /// assert_eq!(worse, before);
+    /// # Ok::<(), gii_bch::Refusal>(())
+    /// ```
+    pub fn mend_page(&self, page: &mut [u8]) -> Result<(), Refusal> {
+        done(call!(gii_mend_page, self, page.as_mut_ptr(), page.len()))
     }
 
     /// The data bits of the page, member or not, blank or not, and what [`Sheet::judge`] gives for it. Nothing is corrected.

@@ -1,4 +1,4 @@
-//! The thirteen C calls, on slices. Each gives the requirement's number; a refusal leaves every byte.
+//! The fourteen C calls, on slices. Each gives the requirement's number; a refusal leaves every byte.
 
 use crate::layout;
 use crate::parameters::{Condition, Parameters, Sheet, first};
@@ -130,6 +130,24 @@ pub fn mend(p: &Parameters, page: &mut [u8], index: u32, places: &mut [u8], flip
 pub fn put_places(found: &[usize], list: &mut [u8]) {
     let numbers = found.iter().map(|&k| k as u16).chain(std::iter::repeat(NO_PLACE));
     list.chunks_mut(2).zip(numbers).for_each(|(bytes, number)| bytes.copy_from_slice(&number.to_le_bytes()));
+}
+
+/// Every sub-word mended, alone or in a round, if a member comes of it.
+pub fn mend_page(p: &Parameters, page: &mut [u8]) -> u32 {
+    let sheet = || Sheet::of(p);
+    let refused = refusal(p, &[(7, &|| page.len() != sheet().page_bytes()), (8, &|| sheet().page_stray(page))]);
+    if refused != 0 {
+        return refused;
+    }
+    let sheet = sheet();
+    let mut made = vec![0; page.len()];
+    sheet.put_page(&sheet.rounds(&sheet.words_of(page)).words, &mut made);
+    // No member has a broken sub-word, and none is blank.
+    if judge(p, &made) != 0 {
+        return 17;
+    }
+    page.copy_from_slice(&made);
+    0
 }
 
 pub fn read_out(p: &Parameters, page: &[u8], blocks: &mut [u8]) -> u32 {

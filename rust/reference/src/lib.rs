@@ -13,10 +13,12 @@
 //!   an altered page, which is the lent one with the page of one data bit added;
 //! - a sub-word is mended by Peterson's decoder: a linear system over GF(2^q) gives the locator, every place is tried in it,
 //!   and what comes of it is divided by g_0; at q = 4 all flips of all multiples are tried beside it (`decode`);
+//! - a page is mended by rounds: at each root a linear system over GF(2^q), solved by elimination, gives the values of the
+//!   errors, and the same decoder their places; whether a member comes of it is asked of the judge (`rounds`);
 //! - a syndrome is the sum of the α^(jk), odd or even j; all from the odd ones are squares, the bits moved apart and divided
 //!   by the field's polynomial.
 //!
-//! `calls` has the thirteen C calls by these means; a degree is a generator's length less one. `sample` draws inputs from a seed.
+//! `calls` has the fourteen C calls by these means; a degree is a generator's length less one. `sample` draws inputs from a seed.
 
 pub mod calls;
 pub mod decode;
@@ -27,6 +29,7 @@ pub mod generator;
 pub mod layout;
 pub mod linear;
 pub mod parameters;
+pub mod rounds;
 pub mod sample;
 
 pub use parameters::Parameters;

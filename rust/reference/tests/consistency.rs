@@ -1,5 +1,5 @@
-//! The reference against itself: two encoders, read-back, sums, distance, blank pages, altered bits, mended sub-words,
-//! odd syndromes and all, shortened sub-words.
+//! The reference against itself: two encoders, read-back, sums, distance, blank pages, altered bits, mended sub-words and
+//! pages, odd syndromes and all, shortened sub-words.
 
 use reference::calls::{BLANK, judge, read_out, write};
 use reference::field::Field;
@@ -428,6 +428,168 @@ fn flips_found() {
         }
     }
     assert!(mended > 300 && refused > 100, "{mended} mended, {refused} refused");
+}
+
+/// The tables by which pages of q = 4 are mended without a decoder. A word and a set of places are numbers, bit k for place k.
+#[derive(Default)]
+struct Tables {
+    /// How each word is mended alone, by t_0 and s.
+    nearest: BTreeMap<(usize, usize), Vec<Option<u64>>>,
+    /// The set of at most t stored places that has syndromes S_1 to S_2t, by t and s.
+    sets: BTreeMap<(usize, usize), BTreeMap<Vec<u16>, u64>>,
+}
+
+/// The values at α^j of a word that is a number, j from 1 to 2t.
+fn values_of(field: &Field, t: usize, word: u64) -> Vec<u16> {
+    (1..=2 * t).map(|j| linear::ones(&[word]).fold(0, |sum, k| sum ^ field.power(j * k))).collect()
+}
+
+impl Tables {
+    fn nearest(&mut self, sheet: &Sheet, word: u64) -> Option<u64> {
+        let table = self.nearest.entry((sheet.levels[0].t, sheet.s)).or_insert_with(|| sheet.nearest());
+        table[word as usize]
+    }
+
+    fn set(&mut self, sheet: &Sheet, t: usize, syndromes: &Vec<u16>) -> Option<u64> {
+        let table = self.sets.entry((t, sheet.s)).or_insert_with(|| {
+            let sets = (0..1u64 << sheet.stored()).filter(|set| set.count_ones() as usize <= t);
+            let table: BTreeMap<_, _> = sets.clone().map(|set| (values_of(sheet.field, t, set), set)).collect();
+            assert_eq!(table.len(), sets.count(), "two sets have the same syndromes");
+            table
+        });
+        table.get(syndromes).copied()
+    }
+
+    /// The sub-words of a page mended, if a member comes of it. All values that errors could have are tried at each root.
+    fn mended(&mut self, sheet: &Sheet, words: &[u64]) -> Option<Vec<u64>> {
+        let Sheet { field, m, v, .. } = *sheet;
+        let mut words = words.to_vec();
+        let mut broken = Vec::new();
+        for (i, word) in words.iter_mut().enumerate() {
+            match self.nearest(sheet, *word) {
+                Some(set) => *word ^= set,
+                None => broken.push(i),
+            }
+        }
+        while !broken.is_empty() {
+            let b = broken.len();
+            if b > v {
+                return None;
+            }
+            let t = sheet.levels[v - b + 1].t;
+            let turned = |word: u64, by: usize| (word << (by % 15) | word >> (15 - by % 15)) & 0x7FFF;
+            let nested = |l: usize| (0..m).fold(0, |sum, i| sum ^ turned(words[i], l * i));
+            let right: Vec<Vec<u16>> = (0..b).map(|l| values_of(field, t, nested(l))).collect();
+            let mut syndromes = vec![Vec::new(); b];
+            for j in 1..=2 * t {
+                let value = |tried: usize, k: usize| (tried >> (4 * k) & 15) as u16;
+                let left = |tried: usize, l: usize| {
+                    let term = |k: usize| field.multiply(value(tried, k), field.power(j * broken[k] * l));
+                    (0..b).fold(0, |sum, k| sum ^ term(k))
+                };
+                let mut fit = (0..1 << (4 * b)).filter(|&tried| (0..b).all(|l| left(tried, l) == right[l][j - 1]));
+                let (found, other) = (fit.next().expect("no values fit"), fit.next());
+                assert_eq!(other, None, "several values fit");
+                syndromes.iter_mut().enumerate().for_each(|(k, list)| list.push(value(found, k)));
+            }
+            let sets: Vec<_> = syndromes.iter().map(|list| self.set(sheet, t, list)).collect();
+            let mut left = Vec::new();
+            for (&i, set) in broken.iter().zip(sets) {
+                match set {
+                    Some(set) => words[i] ^= set,
+                    None => left.push(i),
+                }
+            }
+            if left.len() == b {
+                return None;
+            }
+            broken = left;
+        }
+        let wide: Vec<Vec<u64>> = words.iter().map(|&word| vec![word]).collect();
+        let right = |level: &Level, word: &[u64]| level.remainder(field, word).is_empty();
+        let member = wide.iter().all(|word| right(sheet.levels[0], word))
+            && (0..v).all(|l| right(sheet.nested_level(l), &sheet.nested_word(&wide, l)));
+        let ones = words.iter().all(|word| word.count_ones() as usize == sheet.stored());
+        (member && !ones).then_some(words)
+    }
+}
+
+/// Pages of each sheet of q = 4 with every s, members with flips and any, are mended as tables of all words and sets say and
+/// all values of the errors that fit.
+#[test]
+fn every_kind_of_page_mended() {
+    let mut random = Random::new(12);
+    let mut tables = Tables::default();
+    let (mut met, [mut mended, mut refused]) = (BTreeSet::new(), [0; 2]);
+    for p in all_of_q_4() {
+        let sheet = Sheet::of(&p);
+        for turn in 0..60 {
+            let mut page = written(&p, &random.blocks(&sheet)).unwrap_or_else(|| sheet.erased(0));
+            // Few flips in most sub-words, more in some.
+            for i in (0..sheet.m).filter(|_| turn > 0) {
+                let level = if random.once_in(2) { 0 } else { random.from_to(1, sheet.v) };
+                let flips = random.from_to(0, sheet.levels[level].t + 1);
+                (0..flips).for_each(|_| flip(&mut page, sheet.place(i, random.from_to(0, sheet.stored() - 1))));
+            }
+            let words = sheet.words_of(&page);
+            let expected = tables.mended(&sheet, &words.iter().map(|word| word[0]).collect::<Vec<u64>>());
+            let mut lent = page.clone();
+            let number = calls::mend_page(&p, &mut lent);
+            match &expected {
+                Some(words) => {
+                    let mut made = vec![0; page.len()];
+                    sheet.put_page(&words.iter().map(|&word| vec![word]).collect::<Vec<_>>(), &mut made);
+                    assert_eq!((number, &lent), (0, &made), "{p:?}, {page:02X?}");
+                }
+                None => assert_eq!((number, &lent), (17, &page), "{p:?}, {page:02X?}"),
+            }
+            *if expected.is_some() { &mut mended } else { &mut refused } += 1;
+            met.insert((sheet.rounds(&words).broken, number));
+        }
+    }
+    for rounds in [vec![0], vec![1, 0], vec![2, 0], vec![2, 1, 0], vec![3, 0]] {
+        assert!(met.contains(&(rounds.clone(), 0)), "{rounds:?} is not met: {met:?}");
+    }
+    for rounds in [vec![0], vec![1, 0], vec![1, 1], vec![2], vec![2, 2], vec![2, 1, 1], vec![3], vec![4]] {
+        assert!(met.contains(&(rounds.clone(), 17)), "{rounds:?} is not refused: {met:?}");
+    }
+    assert!(mended > 3_000 && refused > 3_000, "{mended} mended, {refused} refused");
+}
+
+/// A member is found again that has up to t_0 flips in a sub-word and in b of them, at most v, more, up to t_(v−b+1), so that
+/// these are near no multiple of g_0.
+#[test]
+fn pages_found_again() {
+    let mut random = Random::new(13);
+    let mut met = BTreeMap::new();
+    for (q, count) in [(4, 1500), (8, 200), (12, 40)] {
+        for _ in 0..count {
+            let p = drawn(&mut random, q);
+            let sheet = Sheet::of(&p);
+            let Some(member) = written(&p, &random.blocks(&sheet)) else { continue };
+            let mut page = member.clone();
+            let b = random.from_to(0, sheet.v);
+            let first = random.from_to(0, sheet.m - 1);
+            for i in 0..sheet.m {
+                let (t, most) = (sheet.levels[0].t, if b > 0 { sheet.nested_level(b - 1).t } else { 0 });
+                let more = (i + sheet.m - first) % sheet.m < b;
+                let flips = if more { random.from_to(t + 1, most) } else { random.from_to(0, t) };
+                let mut places = BTreeSet::new();
+                while places.len() < flips.min(sheet.stored()) {
+                    places.insert(random.from_to(0, sheet.stored() - 1));
+                }
+                places.iter().for_each(|&k| flip(&mut page, sheet.place(i, k)));
+            }
+            let rounds = sheet.rounds(&sheet.words_of(&page)).broken;
+            if rounds[0] == b {
+                let number = calls::mend_page(&p, &mut page);
+                assert_eq!((number, page), (0, member), "{p:?}, {b} broken");
+                assert_eq!(rounds.last(), Some(&0), "{p:?}, {b} broken");
+                *met.entry((q, b)).or_insert(0) += 1;
+            }
+        }
+    }
+    assert!(met.len() == 12 && met.values().all(|&times| times > 0), "{met:?}");
 }
 
 /// Solutions of systems of equations satisfy them, and there are none where the rank is too small.

@@ -2,8 +2,8 @@
 //! cases of shortened sub-words.
 
 use reference::calls::{
-    BLANK, QUOTE_BYTES, all_syndromes, alter, data_bytes, distance, judge, mend, nested_syndromes, page_bytes, quote,
-    read_out, syndromes, write, write_many,
+    BLANK, QUOTE_BYTES, all_syndromes, alter, data_bytes, distance, judge, mend, mend_page, nested_syndromes,
+    page_bytes, quote, read_out, syndromes, write, write_many,
 };
 use reference::field::Field;
 use reference::generator::Level;
@@ -484,6 +484,66 @@ fn sub_words_not_mended() {
         let (mut lent, mut listed, mut flips) = (page.to_vec(), vec![0xA5; length], 0xA5);
         assert_eq!(mend(&p, &mut lent, index, &mut listed, &mut flips), expected, "{p:?}, {page:02X?}, {index}");
         assert_eq!((&lent[..], listed, flips), (page, vec![0xA5; length], 0xA5), "{p:?}, {page:02X?}, {index}");
+    }
+}
+
+/// Pages mended through their nested words. On sheet A every full word is within one flip of a multiple of g_0; shortened by 5
+/// x^6 + x^7 is not, nor is 1 + x + x^3 on sheet C, nor x^7 + x^8 on sheet B shortened by 4.
+#[test]
+fn mended_pages() {
+    for (p, page, expected) in [
+        (A, &[0xC2, 0x01, 0x13, 0x00][..], &[0xC2, 0x01, 0x13, 0x00][..]),
+        (A, &[0xC2, 0x41, 0x33, 0x00], &[0xC2, 0x01, 0x13, 0x00]),
+        // Level 1 corrects two and three faults.
+        (A.shortened(5), &[0xC0, 0x00, 0x00, 0x00], &[0x00; 4]),
+        (A.shortened(5), &[0x02, 0x00, 0xC0, 0x00], &[0x00; 4]),
+        (C, &[0x0B, 0x00, 0x00, 0x00], &[0x00; 4]),
+        (C, &[0x03, 0x00, 0x0B, 0x00], &[0x00; 4]),
+        (C, &[0xF4, 0x7F, 0x00, 0x00], &[0xFF, 0x7F, 0x00, 0x00]),
+        // On sheet B level 1 corrects two faults of each of two sub-words, level 2 three of one, the last one after a round.
+        (B.shortened(4), &[0x80, 0x01, 0x80, 0x01, 0x00, 0x00], &[0x00; 6]),
+        (B.shortened(4), &[0x80, 0x01, 0x01, 0x00, 0x80, 0x01], &[0x00; 6]),
+        (B.shortened(4), &[0x00, 0x00, 0x0E, 0x00, 0x00, 0x00], &[0x00; 6]),
+        (B.shortened(4), &[0x80, 0x01, 0x00, 0x01, 0x0E, 0x00], &[0x00; 6]),
+    ] {
+        let mut mended = page.to_vec();
+        assert_eq!(mend_page(&p, &mut mended), 0, "{p:?}, {page:02X?}");
+        assert_eq!(mended, expected, "{p:?}, {page:02X?}");
+    }
+}
+
+/// What refuses to mend a page, and in which order; every byte stays.
+#[test]
+fn pages_not_mended() {
+    for (p, page, expected) in [
+        (Parameters { q: 5, ..A }, &[0xFF; 3][..], 1),
+        (Parameters { m: 1, ..A }, &[0xFF; 3], 2),
+        (Parameters { t: [2, 2, 0, 0], ..A }, &[0xFF; 3], 3),
+        (Parameters::full(4, 4, 2, [1, 2, 3, 0]).shortened(u32::MAX), &[0xFF; 3], 4),
+        (A.shortened(7), &[0xFF; 3], 14),
+        (A, &[0xFF; 3], 7),
+        (A, &[0x00; 5], 7),
+        (A, &[], 7),
+        // A spare bit anywhere, of an erased page too.
+        (A, &[0xFF; 4], 8),
+        (A, &[0x00, 0x00, 0x00, 0x80], 8),
+        (A, &[0x13, 0x80, 0x00, 0x00], 8),
+        // A blank page, and one that would be.
+        (A, &[0xFF, 0x7F, 0xFF, 0x7F], 17),
+        (A, &[0xFE, 0x7F, 0xFF, 0x3F], 17),
+        (C, &[0xF4, 0x7F, 0xFF, 0x7F], 17),
+        // Sub-words of sheet A that are multiples, or have come to be, while nested word 0 is none.
+        (A, &[0x13, 0x00, 0x00, 0x00], 17),
+        (A, &[0x03, 0x00, 0x00, 0x00], 17),
+        // Two broken sub-words at v = 1, three at v = 2.
+        (C, &[0x0B, 0x00, 0x0B, 0x00], 17),
+        (B.shortened(4), &[0x80, 0x01, 0x80, 0x01, 0x80, 0x01], 17),
+        // Ones in fewer than n places.
+        (C.shortened(4), &[0xFF, 0x07, 0xFF, 0x07], 17),
+    ] {
+        let mut lent = page.to_vec();
+        assert_eq!(mend_page(&p, &mut lent), expected, "{p:?}, {page:02X?}");
+        assert_eq!(lent, page, "{p:?}, {page:02X?}");
     }
 }
 

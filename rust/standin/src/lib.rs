@@ -4,7 +4,7 @@
 //! `faults.sh` has the list and asks that the tests find each.
 
 use reference::calls::BLANK;
-use reference::decode::locate;
+use reference::decode::{locate, syndromes as syndromes_of};
 use reference::generator::{Level, odd};
 use reference::layout::{add, bit, flip, set};
 use reference::parameters::Sheet;
@@ -694,7 +694,7 @@ fn mend_places(sheet: &Sheet, word: &[u64], i: usize) -> Option<Vec<usize>> {
     let by_level = |level| Sheet { field, m, v, s, levels: vec![level] }.mending(word).filter(|found| found.len() <= t);
     match () {
         _ if fault("mend-no-last-look") => {
-            locate(field, t, word).filter(|found| found.iter().all(|&place| place < stored))
+            locate(field, &syndromes_of(field, t, word)).filter(|found| found.iter().all(|&place| place < stored))
         }
         _ if fault("mend-one-more") && found.is_none() && field.q == 4 => (0..stored).find_map(|k| {
             let mut other = word.to_vec();
@@ -870,6 +870,299 @@ fn mend(p: &Parameters, page: &mut [u8], index: u32, places: &mut [u8], flips: &
     match () {
         _ if fault("mend-answers-flips") => found.len() as u32,
         _ if fault("mend-answers-verdict") => calls::verdict(&sheet, page),
+        _ => 0,
+    }
+}
+
+/// The refusal of mend page but 17, by its tests in the order that the fault gives them.
+fn rounds_refusal(p: &Parameters, page: &[u8]) -> u32 {
+    match p.refusal() {
+        14 if fault("rounds-page-before-14") && page.len() != full_page_bytes(p) => return 7,
+        0 => {}
+        number => return number,
+    }
+    let (sheet, length) = (Sheet::of(p), page.len());
+    let exact = sheet.page_bytes();
+    let fits = match () {
+        _ if fault("rounds-full-page") => length == full_page_bytes(p),
+        _ if fault("rounds-length-longer") => length >= exact,
+        _ if fault("rounds-length-modulo-2-8") => length >= exact && (length - exact) % (1 << 8) == 0,
+        _ => length == exact,
+    };
+    // Of a shorter page those that it has.
+    let stray = |i: usize| {
+        let spare = (0..sheet.spare_bits()).map(|b| sheet.place(i, sheet.stored() + b));
+        spare.filter(|&place| place < 8 * length).any(|place| bit(page, place))
+    };
+    let met = |condition: &u32| match *condition {
+        7 => !fits,
+        8 => match () {
+            _ if fault("rounds-stray-missed") => false,
+            _ if fault("rounds-stray-of-the-first") => stray(0),
+            _ if fault("rounds-stray-of-the-last") => stray(sheet.m - 1),
+            _ if fault("rounds-erased-taken") => (0..sheet.m).any(stray) && !(length == exact && sheet.blank(page)),
+            _ => (0..sheet.m).any(stray),
+        },
+        17 => length == exact && calls::mend_page(p, &mut cleared(&sheet, page, |_| true)) == 17,
+        _ => length == exact && sheet.blank(page),
+    };
+    let order: &[u32] = match () {
+        _ if fault("rounds-stray-before-page") => &[8, 7],
+        _ if fault("rounds-17-before-stray") => &[7, 17, 8],
+        _ if fault("rounds-13-before-stray") => &[7, 13, 8],
+        _ if fault("rounds-13-of-the-lent") => &[7, 8, 13],
+        _ if fault("rounds-blank-of-the-lent") => &[7, 8, BLANK],
+        _ => &[7, 8],
+    };
+    order.iter().copied().find(met).unwrap_or(0)
+}
+
+/// The places at which mend page flips a sub-word at first.
+fn rounds_first(sheet: &Sheet, word: &[u64], i: usize) -> Option<Vec<usize>> {
+    let Sheet { field, m, v, s, .. } = *sheet;
+    let by = |s, levels| Sheet { field, m, v, s, levels }.mending(word);
+    let found = sheet.mending(word);
+    match () {
+        _ if fault("rounds-no-first-pass") => found.filter(|found| found.is_empty()),
+        _ if fault("rounds-first-one-fewer") => found.filter(|found| found.len() < sheet.levels[0].t),
+        _ if fault("rounds-first-by-level-1") => by(s, vec![sheet.levels[1]]),
+        _ if fault("rounds-first-by-own-level") => by(s, vec![sheet.level(i)]),
+        _ if fault("rounds-first-unstored") => by(0, sheet.levels.clone()),
+        _ if fault("rounds-last-sub-word-passed") && i + 1 == m => Some(Vec::new()),
+        _ => found,
+    }
+}
+
+/// What a round takes nested word l for: of the sub-words as they are, or as it should not.
+fn rounds_nested(sheet: &Sheet, words: &[Vec<u64>], l: usize) -> Vec<u64> {
+    let n = sheet.field.n;
+    let place = |i: usize, k: usize| match k + l * i {
+        place if fault("rounds-nested-folded") => Some(place % sheet.stored()),
+        place if fault("rounds-nested-not-turned") => Some(place).filter(|&place| place < n),
+        place => Some(place % n),
+    };
+    let mut sum = vec![0; n.div_ceil(64)];
+    for (i, word) in words.iter().enumerate() {
+        linear::ones(word).filter_map(|k| place(i, k)).for_each(|place| linear::flip(&mut sum, place));
+    }
+    sum
+}
+
+/// The places at which a round flips each broken sub-word. `first` is how many were broken at first.
+fn rounds_errors(sheet: &Sheet, words: &[Vec<u64>], broken: &[usize], first: usize) -> Vec<Option<Vec<usize>>> {
+    let (field, v, b) = (sheet.field, sheet.v, broken.len());
+    let level = match v + 1 - b {
+        _ if fault("rounds-level-v") => v,
+        _ if fault("rounds-level-1") => 1,
+        _ if fault("rounds-level-of-the-first") => v + 1 - first,
+        _ if fault("rounds-level-by-b") => b,
+        a if fault("rounds-level-lower") => a - 1,
+        a if fault("rounds-level-higher") => v.min(a + 1),
+        a => a,
+    };
+    let t = match sheet.levels[level].t {
+        t if fault("rounds-t-more") => (t + 1).min(64),
+        t => t,
+    };
+    let from = usize::from(fault("rounds-from-nested-1"));
+    let nested: Vec<Vec<u64>> = (0..b).map(|l| rounds_nested(sheet, words, l + from)).collect();
+    let mut lists = vec![Vec::new(); b];
+    for j in 1..=2 * t {
+        let exponent = |l: usize, order: usize, i: usize| match () {
+            _ if fault("rounds-nodes-i") => i * l,
+            _ if fault("rounds-nodes-of-the-next") => j * (i + 1) * l,
+            _ if fault("rounds-nodes-by-order") => j * order * l,
+            _ if fault("rounds-nodes-inverse") => (field.n - j) * i * l,
+            _ => j * i * l,
+        };
+        let equation = |l: usize| {
+            let factors = broken.iter().enumerate().map(|(order, &i)| field.power(exponent(l + from, order, i)));
+            factors.chain([field.value(&nested[l], j)]).collect()
+        };
+        let Some(values) = field.solve((0..b).map(equation).collect()) else { return vec![None; b] };
+        lists.iter_mut().zip(values).for_each(|(list, value)| list.push(value));
+    }
+    let full = Sheet { field, m: sheet.m, v, s: 0, levels: sheet.levels.clone() };
+    let error = |list: &Vec<u16>| match () {
+        _ if fault("rounds-no-last-look") => {
+            locate(field, list).filter(|found| found.iter().all(|&k| k < sheet.stored()))
+        }
+        _ if fault("rounds-unstored-dropped") || fault("rounds-unstored-flipped") => full.error(list),
+        _ if fault("rounds-t-fewer") => sheet.error(list).filter(|found| found.len() < t),
+        _ if fault("rounds-place-0-missed") => sheet.error(list).filter(|found| !found.contains(&0)),
+        _ if fault("rounds-last-place-missed") => {
+            sheet.error(list).filter(|found| !found.contains(&(sheet.stored() - 1)))
+        }
+        _ => sheet.error(list),
+    };
+    let mut errors: Vec<_> = lists.iter().map(error).collect();
+    if fault("rounds-into-the-next") {
+        errors.rotate_right(1);
+    }
+    if fault("rounds-all-or-none") && errors.iter().any(Option::is_none) {
+        errors.fill(None);
+    }
+    errors
+}
+
+/// What comes of the sub-words of a page: the words; whether none is broken; how many were at first.
+fn rounds(sheet: &Sheet, lent: &[Vec<u64>]) -> (Vec<Vec<u64>>, bool, usize) {
+    let mut words = lent.to_vec();
+    let mut broken = Vec::new();
+    for (i, word) in words.iter_mut().enumerate() {
+        match rounds_first(sheet, word, i) {
+            Some(found) => found.into_iter().filter(|&k| k < sheet.stored()).for_each(|k| linear::flip(word, k)),
+            None => broken.push(i),
+        }
+    }
+    let first = broken.len();
+    let after_first = words.clone();
+    let most_rounds = match () {
+        _ if fault("rounds-first-pass-only") => 0,
+        _ if fault("rounds-one-round") => 1,
+        _ if fault("rounds-two-rounds") => 2,
+        _ => sheet.v,
+    };
+    let most_broken = sheet.v - usize::from(fault("rounds-v-fewer"));
+    for _ in 0..most_rounds {
+        if broken.is_empty() || broken.len() > most_broken {
+            break;
+        }
+        let taken = match () {
+            _ if fault("rounds-nested-of-the-lent") => lent,
+            _ if fault("rounds-nested-of-the-first") => &after_first,
+            _ => &words,
+        };
+        let mut errors = rounds_errors(sheet, taken, &broken, first);
+        if let Some(found) = errors.iter().position(Option::is_some).filter(|_| fault("rounds-same-round")) {
+            errors.iter_mut().enumerate().filter(|&(k, _)| k != found).for_each(|(_, error)| *error = None);
+        }
+        let mut left = Vec::new();
+        for (&i, error) in broken.iter().zip(errors) {
+            let Some(error) = error else {
+                left.push(i);
+                continue;
+            };
+            for k in error.into_iter().filter(|&k| k < sheet.stored() || fault("rounds-unstored-flipped")) {
+                if linear::get(&words[i], k) || !fault("rounds-clears-only") {
+                    linear::flip(&mut words[i], k);
+                }
+            }
+        }
+        if left.len() == broken.len() {
+            break;
+        }
+        broken = left;
+    }
+    (words, broken.is_empty(), first)
+}
+
+/// Whether mend page takes the end for a member.
+fn rounds_end(sheet: &Sheet, lent: &[u8], made: &[u8]) -> bool {
+    let ones = |i: usize| (0..sheet.stored()).all(|k| bit(made, sheet.place(i, k)));
+    let blank = match () {
+        _ if fault("rounds-blank-passed") => false,
+        _ if fault("rounds-blank-lent-alone") => sheet.blank(lent),
+        _ if fault("rounds-blank-by-one-sub-word") => (0..sheet.m).any(ones),
+        _ if fault("rounds-blank-by-sub-word-0") => ones(0),
+        _ if fault("rounds-blank-by-the-last") => ones(sheet.m - 1),
+        _ => sheet.blank(made),
+    };
+    let fails = |l: usize| nested_fails(sheet, made, l, sheet.nested_level(l).t);
+    let right = match () {
+        _ if fault("rounds-no-end-test") => true,
+        _ if fault("rounds-end-nested-0-alone") => !fails(0),
+        _ if fault("rounds-end-last-alone") => !fails(sheet.v - 1),
+        _ if fault("rounds-end-last-missed") => !(0..sheet.v - 1).any(fails),
+        _ if fault("rounds-end-level-1") => !(0..sheet.v).any(|l| nested_fails(sheet, made, l, sheet.levels[1].t)),
+        _ => calls::verdict(sheet, made) == 0,
+    };
+    right && !blank
+}
+
+fn mend_page(p: &Parameters, page: &mut [u8]) -> u32 {
+    let number = rounds_refusal(p, page);
+    if number != 0 {
+        if fault("rounds-refusal-writes") && number == 8 {
+            page[0] ^= 1;
+        }
+        return leave(number, page);
+    }
+    let sheet = Sheet::of(p);
+    // Done, with nothing that could be mended.
+    if page.len() < sheet.page_bytes() {
+        return 0;
+    }
+    let overrun = unsafe { black_box(page.as_mut_ptr()).add(page.len()) };
+    let (page, _) = page.split_at_mut(sheet.page_bytes());
+    let old = page.to_vec();
+    let (words, none_broken, first) = rounds(&sheet, &sheet.words_of(page));
+    let mut made = vec![0; page.len()];
+    for (i, word) in words.iter().enumerate() {
+        // A place that is not stored is a spare bit, or one of the next sub-word.
+        let places = linear::ones(word).map(|k| sheet.place(i, k));
+        places.filter(|&place| place < 8 * page.len()).for_each(|place| set(&mut made, place));
+    }
+    let verdict = calls::verdict(&sheet, page);
+    let stuck_passes =
+        fault("rounds-none-found-done") && first <= sheet.v || fault("rounds-v-more-done") && first > sheet.v;
+    let refused = match () {
+        _ if fault("rounds-written-afresh") && none_broken && !rounds_end(&sheet, page, &made) => {
+            let mut blocks = vec![0; sheet.blocks_bytes()];
+            sheet.put_blocks(&sheet.words_of(&made), &mut blocks);
+            calls::write(p, 64, &blocks, &mut made) != 0
+        }
+        _ if fault("rounds-members-refused") && verdict == 0 => true,
+        _ if !none_broken => !stuck_passes,
+        _ => !rounds_end(&sheet, page, &made),
+    };
+    if refused {
+        if fault("rounds-17-half-written") {
+            page.copy_from_slice(&made);
+        }
+        if fault("rounds-17-first-written") && first > sheet.v {
+            page.copy_from_slice(&made);
+        }
+        if fault("rounds-17-clears") {
+            page.fill(0);
+        }
+        return match () {
+            _ if fault("rounds-no-17") => 0,
+            _ if fault("rounds-17-as-15") => 15,
+            _ if fault("rounds-17-as-16") => 16,
+            _ if fault("rounds-17-as-verdict") => verdict,
+            _ if fault("rounds-15-of-a-sub-word") && first > 0 => 15,
+            _ if fault("rounds-13-of-the-mended") && none_broken && sheet.blank(&made) => 13,
+            _ if fault("rounds-blank-of-the-mended") && none_broken && sheet.blank(&made) => BLANK,
+            _ => leave(17, page),
+        };
+    }
+    if !fault("rounds-page-left") {
+        page.copy_from_slice(&made);
+    }
+    let length = sheet.sub_word_bytes();
+    if fault("rounds-sub-word-0-left") {
+        page[..length].copy_from_slice(&old[..length]);
+    }
+    if fault("rounds-broken-left") && first > 0 {
+        page.copy_from_slice(&old);
+    }
+    let last = page.len() - 1;
+    if fault("rounds-last-byte-left") {
+        page[last] = old[last];
+    }
+    if fault("rounds-spare-set") && sheet.spare_bits() > 0 && *page != old {
+        set(page, sheet.place(0, sheet.stored()));
+    }
+    if fault("rounds-one-strength") && p.t[p.v as usize] == 64 && first > 0 {
+        flip(page, sheet.place(0, 0));
+    }
+    if fault("rounds-overrun") {
+        unsafe { *overrun = 0 };
+    }
+    match () {
+        _ if fault("rounds-answers-broken") => first as u32,
+        _ if fault("rounds-answers-verdict") => verdict,
         _ => 0,
     }
 }
@@ -1307,6 +1600,7 @@ exported! {
         = alter(from_raw_parts_mut(page, page_len), block, bit, value);
     gii_mend(page: *mut u8, page_len: usize, index: u32, places: *mut u8, places_len: usize, flips: *mut u8)
         = mend(from_raw_parts_mut(page, page_len), index, from_raw_parts_mut(places, places_len), &mut *flips);
+    gii_mend_page(page: *mut u8, page_len: usize) = mend_page(from_raw_parts_mut(page, page_len));
     gii_read_out(page: *const u8, page_len: usize, blocks: *mut u8, blocks_len: usize)
         = read_out(from_raw_parts(page, page_len), from_raw_parts_mut(blocks, blocks_len));
     gii_judge(page: *const u8, page_len: usize)

@@ -14,6 +14,7 @@ fn main() {
     let mut pages = BTreeMap::new();
     let mut altered = 0;
     let mut mended = BTreeMap::new();
+    let mut mended_pages = [0, 0];
     for count in 1..=calls {
         let call = draw::any(&mut random);
         match call.compare(random.from_to(0, 255)) {
@@ -27,6 +28,9 @@ fn main() {
                 altered += u64::from(call.name == Name::Alter && lent != call.lent);
                 if call.name == Name::Mend && number == 0 {
                     *mended.entry(flips).or_insert(0) += 1;
+                }
+                if call.name == Name::MendPage && number == 0 {
+                    mended_pages[usize::from(lent != call.lent)] += 1;
                 }
             }
             Err(found) => {
@@ -52,6 +56,7 @@ fn main() {
     let listed: Vec<String> = pages.iter().map(|(listed, times)| format!("{listed}: {times}")).collect();
     println!("of many pages listed  {}; pages altered  {altered}", listed.join(", "));
     let flips: Vec<String> = mended.iter().map(|(flips, times)| format!("{flips}: {times}")).collect();
-    println!("flips of mended sub-words  {}", flips.join(", "));
+    let [without, with] = mended_pages;
+    println!("flips of mended sub-words  {}; pages mended  {with}, without faults  {without}", flips.join(", "));
     println!("{calls} calls alike");
 }

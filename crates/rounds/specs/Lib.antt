@@ -1,0 +1,3 @@
+-- What the code of rounds is proved by.
+pub mod Rows
+pub mod Found
