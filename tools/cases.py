@@ -8,12 +8,12 @@
 The first writes the tables of Own.antt, in rt fmt's layout; the second says nothing where they stand there already, else
 it names the file and ends with 1. A row has what a definition gives, as a term, and what this program works out, as
 numbers; the rows are of definitions that no compiled call gives back, and of the calls on erased pages, on shortened
-sheets, on many pages, on one bit of a page, on a sub-word to mend and on odd syndromes. What the calls give is compared by programs: tools/trial.py,
+sheets, on many pages, on one bit of a page, on a sub-word to mend, on a page to mend and on odd syndromes. What the calls give is compared by programs: tools/trial.py,
 tools/counter.py and tools/writer.py take their answers from here.
 
 It shares no method with the definitions: generators by trying every polynomial, pages by elimination on the code's
 linear conditions, membership by evaluation at the roots, nested words by turning lists of bits, remainders by long
-division, near multiples of g_0 by looking at every multiple, even syndromes by logarithms. Degrees are counted as the requirement says, and tested against those generators. Nothing is drawn at random but from the fixed sequence of `below`.
+division, near multiples of g_0 by looking at every multiple, the errors' values in a round by trying every element, even syndromes by logarithms. Degrees are counted as the requirement says, and tested against those generators. Nothing is drawn at random but from the fixed sequence of `below`.
 """
 import sys
 from functools import lru_cache
@@ -459,12 +459,13 @@ def broken(sheet):
     return not (1 <= used[0] < used[1] and rises and used[v] <= 64 and 2 * used[v] <= length(sheet) - 1 and not any(past))
 
 
-def refusal(sheet, width=None, blocks=None, page=None, fed=None, sub_word=None, nested_word=None, opening=None, room=None, register=None, count=None, bit=None, mending=False):
+def refusal(sheet, width=None, blocks=None, page=None, fed=None, sub_word=None, nested_word=None, opening=None, room=None, register=None, count=None, bit=None, mending=False, whole=False):
     """The first number whose condition holds among a call's parts, 0 for none.
 
     blocks and page are lists where they are read, and lengths where they are to be written; room is the length of
     the buffer for another result, and the exact one. With a count, blocks and page are the lengths of so many. bit is
-    a block's index, that of a bit in it and the bit's value to come. With mending, the sub-word must have a multiple near it.
+    a block's index, that of a bit in it and the bit's value to come. With mending, the sub-word must have a multiple near it;
+    with whole, a member must come of the page.
     """
     q, m, v, *t, s = sheet
     times = 1 if count is None else count
@@ -491,6 +492,7 @@ def refusal(sheet, width=None, blocks=None, page=None, fed=None, sub_word=None, 
         (12, lambda: register is not None and (register[0] > v or len(bits(register[2])) > degree(sheet, register[0]))),
         (13, lambda: read(blocks) and blank(sheet, page_of_blocks(sheet, blocks)) or bit is not None and blank(sheet, altered(sheet, page, *bit))),
         (15, lambda: mending and faults(sheet, page, sub_word) is None),
+        (17, lambda: whole and mended(sheet, page)[0] is None),
     ]
     return next((k for k, holds in table if holds()), 0)
 
@@ -555,6 +557,73 @@ def mend(sheet, page, i, places, count):
         return code, page, places, count
     found = faults(sheet, page, i)
     return 0, flipped(sheet, page, *[(i, k) for k in found]), found + [NO_PLACE] * (len(places) - len(found)), len(found)
+
+
+@lru_cache(None)
+def error_values(sheet, ws, left, j):
+    """The values at alpha^j of the errors of the sub-words left, where no others have errors: nested word l has the sum of the values, each
+    times alpha^(j k l). Found by trying all elements."""
+    alpha = powers(sheet[0])
+    wanted = [syndrome(sheet[0], nested(sheet, [list(w) for w in ws], l), j) for l in range(len(left))]
+    fit = []
+    for logs in tuples([None, *range(len(alpha))], repeat=len(left)):
+        for l, x in enumerate(wanted):
+            for k, e in zip(left, logs):
+                x ^= 0 if e is None else alpha[(e + j * k * l) % len(alpha)]
+            if x:
+                break
+        else:
+            fit.append([0 if e is None else alpha[e] for e in logs])
+    assert len(fit) == 1
+    return fit[0]
+
+
+@lru_cache(None)
+def errors(sheet, t):
+    """The lists of at most t stored places, by the syndromes S_1 to S_2t of the word that is 1 there."""
+    out = {}
+    for count in range(t + 1):
+        for places in combinations(range(stored(sheet)), count):
+            word = [int(k in places) for k in range(stored(sheet))]
+            assert out.setdefault(tuple(syndromes(sheet[0], word, 2 * t)), places) == places
+    return out
+
+
+def error_syndromes(sheet, ws, left, i):
+    """S_1 to S_2t of the error of sub-word i, t of the level v - b + 1."""
+    t = strength(sheet, sheet[2] - len(left) + 1)
+    return [error_values(sheet, tuple(map(tuple, ws)), tuple(left), j)[left.index(i)] for j in range(1, 2 * t + 1)]
+
+
+def mended(sheet, page):
+    """The member that comes of the page, and the number of rounds; or None, and why: more broken words than v, a round that leaves as many,
+    an end that is no member, a blank one."""
+    ws, rounds = words(sheet, page), 0
+    found = {i: faults(sheet, page, i) for i in range(sheet[1])}
+    left = []
+    while True:
+        for i, places in found.items():
+            for k in places or ():
+                ws[i][k] ^= 1
+        rest, left = left, [i for i, places in found.items() if places is None]
+        if not left:
+            break
+        if len(left) > sheet[2]:
+            return None, 'many'
+        if rest == left:
+            return None, 'stuck'
+        given = errors(sheet, strength(sheet, sheet[2] - len(left) + 1))
+        found = {i: given.get(tuple(error_syndromes(sheet, ws, left, i))) for i in left}
+        rounds += 1
+    after = page_of_words(sheet, ws)
+    if blank(sheet, after):
+        return None, 'blank'
+    return (None, 'other') if failing(sheet, after) else (after, rounds)
+
+
+def mend_page(sheet, page):
+    code = refusal(sheet, page=page, whole=True)
+    return [code] + (page if code else mended(sheet, page)[0])
 
 
 def verdict(sheet, page, **lent):
@@ -754,6 +823,7 @@ TIGHT = (4, 3, 2, 2, 5, 7, 0, 0)           # two blocks of one bit
 TWO = (4, 3, 1, 2, 3, 0, 0, 0)             # t_0 = 2 and 3
 THREE = (4, 2, 1, 3, 7, 0, 0, 0)
 SMALL = (4, 3, 2, 6, 7, 7, 0, 0)           # all blocks of one bit, g_0 = g_1 = g_2
+EVEN = (4, 3, 2, 2, 3, 3, 0, 0)            # t_0 = 2, so that words are left, and v = 2
 CLASH = (4, 4, 2, 1, 2, 3, 0, 0)
 EIGHT = (8, 8, 3, 1, 2, 2, 2, 0)
 PAIR = (8, 2, 1, 1, 2, 0, 0, 0)
@@ -762,7 +832,7 @@ TWELVE = (12, 3, 2, 1, 2, 3, 0, 0)
 LARGE = (12, 8, 3, 28, 32, 39, 58, 0)
 CHOSEN = [A, B, ALIKE, WIDE, DEEP, TIGHT, SMALL, (4, 4, 1, 1, 2, 0, 0, 0), (4, 5, 1, 1, 2, 0, 0, 0), TWO, THREE,
           (4, 3, 2, 1, 3, 3, 0, 0), (4, 4, 3, 1, 2, 2, 2, 0)]
-A3, A6, B4, DEEP4, TWO4 = shortened(A, 3), shortened(A, 6), shortened(B, 4), shortened(DEEP, 4), shortened(TWO, 4)
+A3, A6, B3, B4, DEEP4, TWO4 = shortened(A, 3), shortened(A, 6), shortened(B, 3), shortened(B, 4), shortened(DEEP, 4), shortened(TWO, 4)
 PAIR24, PAIR25 = shortened(PAIR, 231), shortened(PAIR, 230)     # 24 coefficients stored, with no spare bit, and 25, with seven
 SHORTENED = [A3, A6, B4, DEEP4, PAIR24, PAIR25]
 BYTE_SHORT, TWELVE_SHORT = shortened(BYTE, 180), shortened(TWELVE, 4050)
@@ -1458,11 +1528,133 @@ def all_made():
         row('asBytes (allSyndromes %s (asNumbers %s))' % (named(s), data(low_byte_first(odd))), listed(hexed(low_byte_first(all_syndromes(s[0], odd)))))
 
 
+def drawn(page_of, wanted):
+    """The first page drawn for which the test holds."""
+    return next(x for x in (page_of() for _ in range(2000)) if wanted(x))
+
+
+def flips_between(sheet, x, y):
+    """The places, rising, at which two pages differ, sub-word by sub-word."""
+    return [tuple(k for k in range(stored(sheet)) if a[k] != b[k]) for a, b in zip(words(sheet, x), words(sheet, y))]
+
+
+def hoped(sheet, page, damaged):
+    """Whether the change request's supposition holds, by the flips themselves: no mending in the first pass or in a round gives a wrong word,
+    at most v are left by the first pass, and each round finds one."""
+    q, m, v, *t, s = sheet
+    flips = flips_between(sheet, page, damaged)
+    found = {i: faults(sheet, damaged, i) for i in range(m)}
+    left = list(found)
+    while True:
+        if any(R is not None and tuple(R) != flips[i] for i, R in found.items()):
+            return False
+        rest, left = left, [i for i in left if found[i] is None]
+        if not left:
+            return True
+        if len(left) > v or rest == left:
+            return False
+        level = t[v - len(left) + 1]
+        word = lambda i: [int(k in flips[i]) for k in range(stored(sheet))]
+        found = {i: errors(sheet, level).get(tuple(syndromes(q, word(i), 2 * level))) for i in left}
+
+
+def some_damage(sheet, counts):
+    """A member, and it with so many flips in its sub-words in turn."""
+    page = some_member(sheet)
+    return page, flipped(sheet, page, *[(i, k) for i, count in enumerate(counts) for k in some_places(sheet, count)])
+
+
+def mended_test(sheet):
+    """Flips drawn: what comes is a member that is not blank, and it is the one that was damaged exactly where the supposition holds."""
+    seen = set()
+    for _ in range(100):
+        page, damaged = some_damage(sheet, [below(strength(sheet, sheet[2]) + 1) for _ in range(sheet[1])])
+        after = mended(sheet, damaged)[0]
+        assert after is None or verdict(sheet, after) == 0
+        assert (after == page) == (hoped(sheet, page, damaged) and not blank(sheet, page))
+        seen.add(after == page)
+    assert seen == {False, True}
+
+
+def mend_page_errors():
+    table('errorSyndromes', 'The syndromes of one error out of those of the nested words, of words drawn: S_1 to S_2t of the level of so many broken words.',
+          'errorSyndrome pow range', apart=True)
+    for s, left in [(A, [0]), (A6, [1]), (B3, [2]), (B3, [0, 1]), (B4, [0, 2]), (B, [1, 2]), (DEEP4, [3]), (DEEP4, [1, 4]), (DEEP4, [0, 2, 3]), (DEEP4, [2, 3, 4]), (EVEN, [0, 2])]:
+        ws = [[below(2) for _ in range(stored(s))] + [0] * s[7] for _ in range(s[1])]
+        for i in left:
+            others = [k for k in left if k != i]
+            found = error_syndromes(s, ws, left, i)
+            row('map (errorSyndrome %s %s %s %d) (range 1 %d)' % (named(s), as_list(map(hex, map(number, ws))), as_list(others) if others else '[]', i, len(found)), listed(found))
+
+
+def mend_page_refused():
+    code = lambda s, page: refusal(s, page=page, whole=True)
+    whole = lambda *given: in_turn([call('mendPageRefusal', *g) for g in given], [code(*g) for g in given])
+    table('pageRefused', 'A page to mend, refused: the numbers in their order; lengths, and each spare bit.', 'mendPageRefusal pow')
+    sheets = [(5, 2, 1, 1, 2, 0, 0, U32), (4, 1, 1, 1, 2, 0, 0, U32), (4, 2, 1, 2, 2, 0, 0, U32), shortened(CLASH, U32), shortened(A, 7)]
+    whole(*[(s, [0xFF]) for s in sheets])
+    ones, x = [0xFF] * 4, some_member(A)
+    clear = drawn(lambda: some_page(A6), lambda x: code(A6, x) == 17)
+    whole((A6, ones + [0xFF]), (A6, ones), (A6, clear), (A6, [0x00] * 4), (A, x[:3]), (A, []), (A, x + [0x00]), (A, ones), (A, x))
+    for s, base in [(A, x), (A6, clear)]:
+        strays = [flipped(s, base, (i, k)) for i in range(s[1]) for k in range(stored(s), 8 * word_bytes(s))]
+        each('λ x. %s' % call('mendPageRefusal', s, 'x'), strays, lambda x: code(s, x))
+
+
+def mend_page_made():
+    def made(s, page):
+        """The row; what came, and the rounds or why nothing did."""
+        after, why = mended(s, page)
+        row(call('mendedPage', s, page), 'none' if after is None else 'some ' + data(after))
+        return after, why
+
+    for s in (A, A3, A6, B, B3, B4, TWO, TWO4, DEEP4, EVEN):
+        mended_test(s)
+    table('pageBack', 'Members as they are, and with flips in their sub-words that the first pass and rounds mend: the member.', 'mendedPage pow', apart=True)
+    for s in (A, B3, EVEN):
+        page = some_member(s)
+        assert made(s, page) == (page, 0)
+    # flips in the sub-words in turn, and the rounds; where 15 places are stored more than t_0 flips are at high ones, the sooner found
+    high = lambda s, x: s[7] or all(len(R) <= strength(s, 0) or R[0] > 8 for R in flips_between(s, *x))
+    for s, counts, rounds in [(A, (1, 1), 0), (B, (0, 1, 1), 0), (DEEP4, (1, 1, 1, 1, 1), 0), (A3, (2, 1), 1), (A6, (0, 2), 1), (B4, (2, 2, 1), 1), (B4, (2, 0, 3), 2),
+                              (TWO, (3, 2, 1), 1), (TWO4, (2, 3, 0), 1), (DEEP4, (2, 1, 2, 0, 2), 1), (DEEP4, (0, 1, 2, 2, 1), 1)]:
+        page, damaged = drawn(lambda: some_damage(s, counts), lambda x: high(s, x) and hoped(s, *x) and not blank(s, x[0]))
+        assert made(s, damaged) == (page, rounds)
+
+    table('pageElse', 'Other pages: another member where words were mended wrong, or none: no member at the end, a blank one, more than v sub-words left, a round that finds none.',
+          'mendedPage pow', apart=True)
+    for s, ends in [(A, ('other', 0)), (A6, ('other', 'many', 'stuck', 1)), (B4, ('other', 'stuck')), (TWO, ('many',)), (TWO4, ('stuck', 1)), (DEEP4, ('other', 'stuck'))]:
+        for end in ends:
+            damage = lambda: some_damage(s, [below(strength(s, s[2]) + 1) for _ in range(s[1])])
+            page, damaged = drawn(damage, lambda x: mended(s, x[1])[1] == end and mended(s, x[1])[0] != x[0])
+            after = made(s, damaged)[0]
+            assert after != page and (after is None) == isinstance(end, str)
+    # a blank page, and one with flips; of a shortened sheet it may be any
+    for s, counts in [(A, (0, 0)), (A, (1, 1)), (B, (0, 1, 0)), (TWO, (2, 0, 1))]:
+        page = flipped(s, erased(s, [0] * s[1]), *[(i, k) for i, count in enumerate(counts) for k in some_places(s, count)])
+        assert made(s, page) == (None, 'blank')
+    for s in (A3, A6):
+        made(s, erased(s, [0] * s[1]))
+    assert made(B, [0x00] * 6) == ([0x00] * 6, 0)
+    for s in (A3, B4):
+        made(s, some_page(s))
+
+    table('pageCalled', 'The call: the number, then what it leaves in the page.', 'mendPageRefusal mendedPage pow', apart=True)
+    x = some_member(A)
+    given = [(A, x), (A, flipped(A, x, (0, 3), (1, 14))), (A6, drawn(lambda: some_damage(A6, (2, 1)), lambda y: hoped(A6, *y))[1]),
+             (A6, drawn(lambda: some_page(A6), lambda y: mended(A6, y)[0] is None)), (A, erased(A, (0, 0))),
+             (A, x[:3]), (A, x + [0x00]), (A, flipped(A, x, (0, 15))), (A, erased(A, (0, 1))), (CLASH, [0x00] * 8), (shortened(A, 7), x)]
+    assert [mend_page(*g)[0] for g in given] == [0, 0, 0, 17, 17, 7, 7, 8, 8, 4, 14]
+    for g in given:
+        row(call('mendPaged', *g), listed(mend_page(*g)[:1] + hexed(mend_page(*g)[1:])))
+
+
 HEAD = '''-- Cases of our own, of definitions that no compiled call gives back, and of the calls on erased pages, on shortened sheets,
--- on many pages, on one bit of a page, on a sub-word to mend and on odd syndromes: each row has what a definition gives and what an independent program says.
+-- on many pages, on one bit of a page, on a sub-word to mend, on a page to mend and on odd syndromes: each row has what a definition gives and what an independent program says.
 -- Written by tools/cases.py, which works every number out by other means; see there. The calls' own cases are run: tools/trial.py.
 use mathlib.Core.Path.{_≡_, refl}
 use mathlib.Core.List.{List, [], _∷_, map}
+use mathlib.Core.Option.{none, some}
 use Prim.Native.Nat.{_*_}
 use lib.ListN.{drop, replicate}
 use Rattle.polynomial.specs.Bits.{coefficient}
@@ -1476,15 +1668,16 @@ use Rattle.code.specs.Parameters.{sheet, sheetRefusal}
 use Rattle.code.specs.Code.{allSyndromes, carried, combine, degree, distance, divisor, gen, N, nested, newton, oddSyndromes}
 use Rattle.code.specs.Code.{remainder, shortRemainder, syndromes}
 use Rattle.code.specs.Layout.{blockOffset, wordsOf, pageOf, pageBytes, dataBytes, coefficientOf, blockBit, differences}
-use Rattle.code.specs.Layout.{altered, flipped, mending, placeList}
+use Rattle.code.specs.Layout.{altered, flipped, mendedPage, mending, placeList}
+use Rattle.code.specs.Nest.{errorSyndrome}
 use Rattle.code.specs.Refusals.{writeRefusal, wordRefusal, remainderRefusal, nestedRefusal, syndromesRefusal, nestedSyndromesRefusal, allRefusal}
-use Rattle.code.specs.Refusals.{manyRefusal, alterRefusal, mendRefusal, openRefusal, feedRefusal, quoteRefusal}
+use Rattle.code.specs.Refusals.{manyRefusal, alterRefusal, mendPageRefusal, mendRefusal, openRefusal, feedRefusal, quoteRefusal}
 use Rattle.code.specs.Calls.{asBytes, asNumbers, empty, fed, judgeNumber, judgeValues, readNumber, readLeaves, writeLeaves, quote}
 use Rattle.code.specs.Calls.{statuses, pagesBy}
 use Rattle.code.specs.Calls.{remainderBytes, shortBytes, nestedWordBytes, syndromeList, nestedSyndromeList}
 use Rattle.code.specs.Registers.{cut, feedings}
 use Rattle.code.specs.Writer.{writer}
-use Rattle.cases.specs.Sheets.{Row, A, B, held, many, alter, mend, all}
+use Rattle.cases.specs.Sheets.{Row, A, B, held, many, alter, mend, mendPaged, all}
 '''
 
 
@@ -1503,7 +1696,8 @@ def main(words):
     self_test()
     for part in (layouts, equal_form, divisors, page_differences, parts, field_sums, bytes_for_c, writings, huge_numbers, erased_pages,
                  short_sheets, short_sizes, short_pages, short_words, short_registers, many_refused, many_pages, alter_refused,
-                 alter_made, mend_refused, mend_made, odd_lists, all_by_odd, all_refused, all_made):
+                 alter_made, mend_refused, mend_made, odd_lists, all_by_odd, all_refused, all_made, mend_page_errors,
+                 mend_page_refused, mend_page_made):
         part()
     if words == ['--check']:
         if (Path(__file__).resolve().parent.parent / OWN).read_text(encoding='utf-8') != printed():

@@ -1,8 +1,9 @@
 -- Cases of our own, of definitions that no compiled call gives back, and of the calls on erased pages, on shortened sheets,
--- on many pages, on one bit of a page, on a sub-word to mend and on odd syndromes: each row has what a definition gives and what an independent program says.
+-- on many pages, on one bit of a page, on a sub-word to mend, on a page to mend and on odd syndromes: each row has what a definition gives and what an independent program says.
 -- Written by tools/cases.py, which works every number out by other means; see there. The calls' own cases are run: tools/trial.py.
 use mathlib.Core.Path.{_≡_, refl}
 use mathlib.Core.List.{List, [], _∷_, map}
+use mathlib.Core.Option.{none, some}
 use Prim.Native.Nat.{_*_}
 use lib.ListN.{drop, replicate}
 use Rattle.polynomial.specs.Bits.{coefficient}
@@ -16,15 +17,16 @@ use Rattle.code.specs.Parameters.{sheet, sheetRefusal}
 use Rattle.code.specs.Code.{allSyndromes, carried, combine, degree, distance, divisor, gen, N, nested, newton, oddSyndromes}
 use Rattle.code.specs.Code.{remainder, shortRemainder, syndromes}
 use Rattle.code.specs.Layout.{blockOffset, wordsOf, pageOf, pageBytes, dataBytes, coefficientOf, blockBit, differences}
-use Rattle.code.specs.Layout.{altered, flipped, mending, placeList}
+use Rattle.code.specs.Layout.{altered, flipped, mendedPage, mending, placeList}
+use Rattle.code.specs.Nest.{errorSyndrome}
 use Rattle.code.specs.Refusals.{writeRefusal, wordRefusal, remainderRefusal, nestedRefusal, syndromesRefusal, nestedSyndromesRefusal, allRefusal}
-use Rattle.code.specs.Refusals.{manyRefusal, alterRefusal, mendRefusal, openRefusal, feedRefusal, quoteRefusal}
+use Rattle.code.specs.Refusals.{manyRefusal, alterRefusal, mendPageRefusal, mendRefusal, openRefusal, feedRefusal, quoteRefusal}
 use Rattle.code.specs.Calls.{asBytes, asNumbers, empty, fed, judgeNumber, judgeValues, readNumber, readLeaves, writeLeaves, quote}
 use Rattle.code.specs.Calls.{statuses, pagesBy}
 use Rattle.code.specs.Calls.{remainderBytes, shortBytes, nestedWordBytes, syndromeList, nestedSyndromeList}
 use Rattle.code.specs.Registers.{cut, feedings}
 use Rattle.code.specs.Writer.{writer}
-use Rattle.cases.specs.Sheets.{Row, A, B, held, many, alter, mend, all}
+use Rattle.cases.specs.Sheets.{Row, A, B, held, many, alter, mend, mendPaged, all}
 
 -- Where each block begins.
 pub offsets : List Row
@@ -1860,3 +1862,138 @@ allBytes =
 pub allBytes-hold : map (λ r. r .0) allBytes ≡ map (λ r. r .1) allBytes
 unfolding allBytes allSyndromes asBytes asNumbers
 allBytes-hold = refl
+
+-- The syndromes of one error out of those of the nested words, of words drawn: S_1 to S_2t of the level of so many broken words.
+pub errorSyndromes :
+    (map (errorSyndrome A (0x5e2d ∷ 0x3207 ∷ []) [] 0) (range 1 4) ≡ 1 ∷ 1 ∷ 15 ∷ 1 ∷ [])
+    × (map (errorSyndrome (sheet 4 2 1 1 2 0 0 6) (0x18f ∷ 0x19c ∷ []) [] 1) (range 1 4) ≡ 0 ∷ 0 ∷ 6 ∷ 0 ∷ [])
+    × (map (errorSyndrome (sheet 4 3 2 1 2 3 0 3) (0xdce ∷ 0x38f ∷ 0xc55 ∷ []) [] 2) (range 1 6) ≡ 13 ∷ 14 ∷ 12 ∷ 11 ∷ 0 ∷ 15 ∷ [])
+    × (map (errorSyndrome (sheet 4 3 2 1 2 3 0 3) (0xf59 ∷ 0x51c ∷ 0x2ce ∷ []) (1 ∷ []) 0) (range 1 4) ≡ 6 ∷ 7 ∷ 14 ∷ 6 ∷ [])
+    × (map (errorSyndrome (sheet 4 3 2 1 2 3 0 3) (0xf59 ∷ 0x51c ∷ 0x2ce ∷ []) (0 ∷ []) 1) (range 1 4) ≡ 8 ∷ 12 ∷ 9 ∷ 15 ∷ [])
+    × (map (errorSyndrome (sheet 4 3 2 1 2 3 0 4) (0x72 ∷ 0x722 ∷ 0x2b0 ∷ []) (2 ∷ []) 0) (range 1 4) ≡ 3 ∷ 5 ∷ 10 ∷ 2 ∷ [])
+    × (map (errorSyndrome (sheet 4 3 2 1 2 3 0 4) (0x72 ∷ 0x722 ∷ 0x2b0 ∷ []) (0 ∷ []) 2) (range 1 4) ≡ 0 ∷ 0 ∷ 4 ∷ 0 ∷ [])
+    × (map (errorSyndrome B (0x69ce ∷ 0x2dba ∷ 0x7812 ∷ []) (2 ∷ []) 1) (range 1 4) ≡ 0 ∷ 0 ∷ 3 ∷ 0 ∷ [])
+    × (map (errorSyndrome B (0x69ce ∷ 0x2dba ∷ 0x7812 ∷ []) (1 ∷ []) 2) (range 1 4) ≡ 7 ∷ 6 ∷ 1 ∷ 7 ∷ [])
+    × (map (errorSyndrome (sheet 4 5 3 1 2 2 2 4) (0x240 ∷ 0x391 ∷ 0x716 ∷ 0x4f ∷ 0x55e ∷ []) [] 3) (range 1 4) ≡ 13 ∷ 14 ∷ 10 ∷ 11 ∷ [])
+    × (map (errorSyndrome (sheet 4 5 3 1 2 2 2 4) (0x633 ∷ 0x276 ∷ 0x1f4 ∷ 0x70 ∷ 0x610 ∷ []) (4 ∷ []) 1) (range 1 4) ≡ 5 ∷ 2 ∷ 5 ∷ 4 ∷ [])
+    × (map (errorSyndrome (sheet 4 5 3 1 2 2 2 4) (0x633 ∷ 0x276 ∷ 0x1f4 ∷ 0x70 ∷ 0x610 ∷ []) (1 ∷ []) 4) (range 1 4)
+    ≡ 15 ∷ 10 ∷ 10 ∷ 8 ∷ [])
+    × (map (errorSyndrome (sheet 4 5 3 1 2 2 2 4) (0x325 ∷ 0x76f ∷ 0x2e1 ∷ 0x111 ∷ 0xa0 ∷ []) (2 ∷ 3 ∷ []) 0) (range 1 4)
+    ≡ 15 ∷ 10 ∷ 6 ∷ 8 ∷ [])
+    × (map (errorSyndrome (sheet 4 5 3 1 2 2 2 4) (0x325 ∷ 0x76f ∷ 0x2e1 ∷ 0x111 ∷ 0xa0 ∷ []) (0 ∷ 3 ∷ []) 2) (range 1 4)
+    ≡ 14 ∷ 11 ∷ 15 ∷ 9 ∷ [])
+    × (map (errorSyndrome (sheet 4 5 3 1 2 2 2 4) (0x325 ∷ 0x76f ∷ 0x2e1 ∷ 0x111 ∷ 0xa0 ∷ []) (0 ∷ 2 ∷ []) 3) (range 1 4)
+    ≡ 0 ∷ 0 ∷ 0 ∷ 0 ∷ [])
+    × (map (errorSyndrome (sheet 4 5 3 1 2 2 2 4) (0xbf ∷ 0x623 ∷ 0xdf ∷ 0x377 ∷ 0x3a5 ∷ []) (3 ∷ 4 ∷ []) 2) (range 1 4)
+    ≡ 12 ∷ 15 ∷ 4 ∷ 10 ∷ [])
+    × (map (errorSyndrome (sheet 4 5 3 1 2 2 2 4) (0xbf ∷ 0x623 ∷ 0xdf ∷ 0x377 ∷ 0x3a5 ∷ []) (2 ∷ 4 ∷ []) 3) (range 1 4)
+    ≡ 8 ∷ 12 ∷ 15 ∷ 15 ∷ [])
+    × (map (errorSyndrome (sheet 4 5 3 1 2 2 2 4) (0xbf ∷ 0x623 ∷ 0xdf ∷ 0x377 ∷ 0x3a5 ∷ []) (2 ∷ 3 ∷ []) 4) (range 1 4)
+    ≡ 0 ∷ 0 ∷ 7 ∷ 0 ∷ [])
+    × (map (errorSyndrome (sheet 4 3 2 2 3 3 0 0) (0x5176 ∷ 0x104a ∷ 0x4ef7 ∷ []) (2 ∷ []) 0) (range 1 6) ≡ 2 ∷ 4 ∷ 1 ∷ 3 ∷ 6 ∷ 1 ∷ [])
+    × (map (errorSyndrome (sheet 4 3 2 2 3 3 0 0) (0x5176 ∷ 0x104a ∷ 0x4ef7 ∷ []) (0 ∷ []) 2) (range 1 6) ≡ 8 ∷ 12 ∷ 10 ∷ 15 ∷ 0 ∷ 8 ∷ [])
+unfolding errorSyndrome pow range
+errorSyndromes = (refl, refl, refl, refl, refl, refl, refl, refl, refl, refl, refl, refl, refl, refl, refl, refl, refl, refl, refl, refl)
+
+-- A page to mend, refused: the numbers in their order; lengths, and each spare bit.
+pub pageRefused : List Row
+pageRefused = (
+  mendPageRefusal (sheet 5 2 1 1 2 0 0 4294967295) (0xFF ∷ []) ∷ mendPageRefusal (sheet 4 1 1 1 2 0 0 4294967295) (0xFF ∷ [])
+      ∷ mendPageRefusal (sheet 4 2 1 2 2 0 0 4294967295) (0xFF ∷ []) ∷ mendPageRefusal (sheet 4 4 2 1 2 3 0 4294967295) (0xFF ∷ [])
+      ∷ mendPageRefusal (sheet 4 2 1 1 2 0 0 7) (0xFF ∷ []) ∷ [],
+  1 ∷ 2 ∷ 3 ∷ 4 ∷ 14 ∷ [],
+)
+    ∷ (
+      mendPageRefusal (sheet 4 2 1 1 2 0 0 6) (0xFF ∷ 0xFF ∷ 0xFF ∷ 0xFF ∷ 0xFF ∷ []) ∷ mendPageRefusal (sheet 4 2 1 1 2 0 0 6) (0xFF
+          ∷ 0xFF ∷ 0xFF ∷ 0xFF ∷ []) ∷ mendPageRefusal (sheet 4 2 1 1 2 0 0 6) (0x6D ∷ 0x01 ∷ 0xB7 ∷ 0x01 ∷ [])
+          ∷ mendPageRefusal (sheet 4 2 1 1 2 0 0 6) (0x00 ∷ 0x00 ∷ 0x00 ∷ 0x00 ∷ []) ∷ mendPageRefusal A (0x0E ∷ 0x62 ∷ 0xE6 ∷ [])
+          ∷ mendPageRefusal A [] ∷ mendPageRefusal A (0x0E ∷ 0x62 ∷ 0xE6 ∷ 0x22 ∷ 0x00 ∷ []) ∷ mendPageRefusal A (0xFF ∷ 0xFF ∷ 0xFF ∷ 0xFF
+          ∷ []) ∷ mendPageRefusal A (0x0E ∷ 0x62 ∷ 0xE6 ∷ 0x22 ∷ []) ∷ [],
+      7 ∷ 8 ∷ 17 ∷ 0 ∷ 7 ∷ 7 ∷ 7 ∷ 8 ∷ 0 ∷ [],
+    )
+    ∷ (map (λ x. mendPageRefusal A x) ((0x0E ∷ 0xE2 ∷ 0xE6 ∷ 0x22 ∷ []) ∷ (0x0E ∷ 0x62 ∷ 0xE6 ∷ 0xA2 ∷ []) ∷ []), 8 ∷ 8 ∷ [])
+    ∷ (
+      map (λ x. mendPageRefusal (sheet 4 2 1 1 2 0 0 6) x) ((0x6D ∷ 0x03 ∷ 0xB7 ∷ 0x01 ∷ []) ∷ (0x6D ∷ 0x05 ∷ 0xB7 ∷ 0x01 ∷ []) ∷ (0x6D
+          ∷ 0x09 ∷ 0xB7 ∷ 0x01 ∷ []) ∷ (0x6D ∷ 0x11 ∷ 0xB7 ∷ 0x01 ∷ []) ∷ (0x6D ∷ 0x21 ∷ 0xB7 ∷ 0x01 ∷ []) ∷ (0x6D ∷ 0x41 ∷ 0xB7 ∷ 0x01
+          ∷ []) ∷ (0x6D ∷ 0x81 ∷ 0xB7 ∷ 0x01 ∷ []) ∷ (0x6D ∷ 0x01 ∷ 0xB7 ∷ 0x03 ∷ []) ∷ (0x6D ∷ 0x01 ∷ 0xB7 ∷ 0x05 ∷ []) ∷ (0x6D ∷ 0x01
+          ∷ 0xB7 ∷ 0x09 ∷ []) ∷ (0x6D ∷ 0x01 ∷ 0xB7 ∷ 0x11 ∷ []) ∷ (0x6D ∷ 0x01 ∷ 0xB7 ∷ 0x21 ∷ []) ∷ (0x6D ∷ 0x01 ∷ 0xB7 ∷ 0x41 ∷ [])
+          ∷ (0x6D ∷ 0x01 ∷ 0xB7 ∷ 0x81 ∷ []) ∷ []),
+      replicate 14 8,
+    )
+    ∷ []
+
+pub pageRefused-hold : map (λ r. r .0) pageRefused ≡ map (λ r. r .1) pageRefused
+unfolding pageRefused mendPageRefusal pow
+pageRefused-hold = refl
+
+-- Members as they are, and with flips in their sub-words that the first pass and rounds mend: the member.
+pub pageBack :
+    (mendedPage A (0x6D ∷ 0x6E ∷ 0x5A ∷ 0x6B ∷ []) ≡ some (0x6D ∷ 0x6E ∷ 0x5A ∷ 0x6B ∷ []))
+    × (mendedPage (sheet 4 3 2 1 2 3 0 3) (0xBA ∷ 0x0A ∷ 0x1C ∷ 0x03 ∷ 0xA6 ∷ 0x09 ∷ [])
+    ≡ some (0xBA ∷ 0x0A ∷ 0x1C ∷ 0x03 ∷ 0xA6 ∷ 0x09 ∷ []))
+    × (mendedPage (sheet 4 3 2 2 3 3 0 0) (0x73 ∷ 0x02 ∷ 0x96 ∷ 0x57 ∷ 0xD8 ∷ 0x67 ∷ [])
+    ≡ some (0x73 ∷ 0x02 ∷ 0x96 ∷ 0x57 ∷ 0xD8 ∷ 0x67 ∷ []))
+    × (mendedPage A (0xE5 ∷ 0x0E ∷ 0xE4 ∷ 0x62 ∷ []) ≡ some (0xE5 ∷ 0x0A ∷ 0x64 ∷ 0x62 ∷ []))
+    × (mendedPage B (0x57 ∷ 0x14 ∷ 0xAD ∷ 0x4F ∷ 0xB0 ∷ 0x7C ∷ []) ≡ some (0x57 ∷ 0x14 ∷ 0xAD ∷ 0x5F ∷ 0xF0 ∷ 0x7C ∷ []))
+    × (mendedPage (sheet 4 5 3 1 2 2 2 4) (0x7B ∷ 0x00 ∷ 0xC2 ∷ 0x00 ∷ 0xE6 ∷ 0x05 ∷ 0x49 ∷ 0x05 ∷ 0x16 ∷ 0x04 ∷ [])
+    ≡ some (0x79 ∷ 0x00 ∷ 0xC2 ∷ 0x01 ∷ 0xE6 ∷ 0x04 ∷ 0x49 ∷ 0x01 ∷ 0x14 ∷ 0x04 ∷ []))
+    × (mendedPage (sheet 4 2 1 1 2 0 0 3) (0x2D ∷ 0x0A ∷ 0x9F ∷ 0x0A ∷ []) ≡ some (0x2D ∷ 0x09 ∷ 0x8F ∷ 0x0A ∷ []))
+    × (mendedPage (sheet 4 2 1 1 2 0 0 6) (0xA8 ∷ 0x01 ∷ 0x38 ∷ 0x00 ∷ []) ≡ some (0xA8 ∷ 0x01 ∷ 0x79 ∷ 0x00 ∷ []))
+    × (mendedPage (sheet 4 3 2 1 2 3 0 4) (0x08 ∷ 0x04 ∷ 0x9C ∷ 0x06 ∷ 0x04 ∷ 0x03 ∷ [])
+    ≡ some (0x08 ∷ 0x07 ∷ 0x8C ∷ 0x04 ∷ 0x84 ∷ 0x03 ∷ []))
+    × (mendedPage (sheet 4 3 2 1 2 3 0 4) (0x3D ∷ 0x04 ∷ 0xB3 ∷ 0x06 ∷ 0xC6 ∷ 0x03 ∷ [])
+    ≡ some (0x6D ∷ 0x04 ∷ 0xB3 ∷ 0x06 ∷ 0xDE ∷ 0x02 ∷ []))
+    × (mendedPage (sheet 4 3 1 2 3 0 0 0) (0x47 ∷ 0x1A ∷ 0x5F ∷ 0x44 ∷ 0x34 ∷ 0x56 ∷ [])
+    ≡ some (0x47 ∷ 0x56 ∷ 0xDF ∷ 0x45 ∷ 0x34 ∷ 0x54 ∷ []))
+    × (mendedPage (sheet 4 3 1 2 3 0 0 4) (0x8D ∷ 0x06 ∷ 0xEB ∷ 0x03 ∷ 0x00 ∷ 0x00 ∷ [])
+    ≡ some (0x95 ∷ 0x06 ∷ 0xA2 ∷ 0x03 ∷ 0x00 ∷ 0x00 ∷ []))
+    × (mendedPage (sheet 4 5 3 1 2 2 2 4) (0x2A ∷ 0x01 ∷ 0x04 ∷ 0x04 ∷ 0xFE ∷ 0x01 ∷ 0x98 ∷ 0x00 ∷ 0x0F ∷ 0x00 ∷ [])
+    ≡ some (0x6A ∷ 0x00 ∷ 0x14 ∷ 0x04 ∷ 0x7C ∷ 0x01 ∷ 0x98 ∷ 0x00 ∷ 0x0F ∷ 0x03 ∷ []))
+    × (mendedPage (sheet 4 5 3 1 2 2 2 4) (0x29 ∷ 0x03 ∷ 0xC0 ∷ 0x03 ∷ 0xA6 ∷ 0x05 ∷ 0x69 ∷ 0x02 ∷ 0x2A ∷ 0x07 ∷ [])
+    ≡ some (0x29 ∷ 0x03 ∷ 0xC8 ∷ 0x03 ∷ 0x24 ∷ 0x05 ∷ 0xEB ∷ 0x02 ∷ 0x2E ∷ 0x07 ∷ []))
+unfolding mendedPage pow
+pageBack = (refl, refl, refl, refl, refl, refl, refl, refl, refl, refl, refl, refl, refl, refl)
+
+-- Other pages: another member where words were mended wrong, or none: no member at the end, a blank one, more than v sub-words left, a round that finds none.
+pub pageElse :
+    (mendedPage A (0xF2 ∷ 0x63 ∷ 0xD4 ∷ 0x69 ∷ []) ≡ none)
+    × (mendedPage A (0x70 ∷ 0x2B ∷ 0x5D ∷ 0x3F ∷ []) ≡ some (0x70 ∷ 0x2A ∷ 0x7D ∷ 0x3F ∷ []))
+    × (mendedPage (sheet 4 2 1 1 2 0 0 6) (0xBC ∷ 0x00 ∷ 0x8D ∷ 0x00 ∷ []) ≡ none)
+    × (mendedPage (sheet 4 2 1 1 2 0 0 6) (0xF8 ∷ 0x01 ∷ 0xCD ∷ 0x00 ∷ []) ≡ none)
+    × (mendedPage (sheet 4 2 1 1 2 0 0 6) (0x2D ∷ 0x01 ∷ 0xBD ∷ 0x01 ∷ []) ≡ none)
+    × (mendedPage (sheet 4 2 1 1 2 0 0 6) (0xC1 ∷ 0x01 ∷ 0x41 ∷ 0x00 ∷ []) ≡ some (0xD1 ∷ 0x01 ∷ 0x00 ∷ 0x00 ∷ []))
+    × (mendedPage (sheet 4 3 2 1 2 3 0 4) (0xB0 ∷ 0x07 ∷ 0xFF ∷ 0x07 ∷ 0x5E ∷ 0x04 ∷ []) ≡ none)
+    × (mendedPage (sheet 4 3 2 1 2 3 0 4) (0xB7 ∷ 0x03 ∷ 0x46 ∷ 0x05 ∷ 0xEF ∷ 0x04 ∷ []) ≡ none)
+    × (mendedPage (sheet 4 3 1 2 3 0 0 0) (0x6A ∷ 0x75 ∷ 0x20 ∷ 0x0B ∷ 0x2D ∷ 0x10 ∷ []) ≡ none)
+    × (mendedPage (sheet 4 3 1 2 3 0 0 4) (0xC6 ∷ 0x01 ∷ 0x73 ∷ 0x05 ∷ 0x91 ∷ 0x02 ∷ []) ≡ none)
+    × (mendedPage (sheet 4 3 1 2 3 0 0 4) (0xF2 ∷ 0x00 ∷ 0x02 ∷ 0x03 ∷ 0x7B ∷ 0x06 ∷ [])
+    ≡ some (0xE6 ∷ 0x04 ∷ 0xA2 ∷ 0x03 ∷ 0x73 ∷ 0x02 ∷ []))
+    × (mendedPage (sheet 4 5 3 1 2 2 2 4) (0xF9 ∷ 0x00 ∷ 0xE0 ∷ 0x05 ∷ 0xD4 ∷ 0x00 ∷ 0x23 ∷ 0x00 ∷ 0x8C ∷ 0x04 ∷ []) ≡ none)
+    × (mendedPage (sheet 4 5 3 1 2 2 2 4) (0x7B ∷ 0x01 ∷ 0xF8 ∷ 0x01 ∷ 0x55 ∷ 0x02 ∷ 0xBE ∷ 0x05 ∷ 0xF9 ∷ 0x00 ∷ []) ≡ none)
+    × (mendedPage A (0xFF ∷ 0x7F ∷ 0xFF ∷ 0x7F ∷ []) ≡ none)
+    × (mendedPage A (0xFF ∷ 0x5F ∷ 0xEF ∷ 0x7F ∷ []) ≡ none)
+    × (mendedPage B (0xFF ∷ 0x7F ∷ 0xDF ∷ 0x7F ∷ 0xFF ∷ 0x7F ∷ []) ≡ none)
+    × (mendedPage (sheet 4 3 1 2 3 0 0 0) (0xD7 ∷ 0x7F ∷ 0xFF ∷ 0x7F ∷ 0xFF ∷ 0x6F ∷ []) ≡ none)
+    × (mendedPage (sheet 4 2 1 1 2 0 0 3) (0xFF ∷ 0x0F ∷ 0xFF ∷ 0x0F ∷ []) ≡ some (0x7F ∷ 0x0F ∷ 0x7F ∷ 0x0F ∷ []))
+    × (mendedPage (sheet 4 2 1 1 2 0 0 6) (0xFF ∷ 0x01 ∷ 0xFF ∷ 0x01 ∷ []) ≡ some (0xF7 ∷ 0x01 ∷ 0xF7 ∷ 0x01 ∷ []))
+    × (mendedPage B (replicate 6 0x00) ≡ some (replicate 6 0x00))
+    × (mendedPage (sheet 4 2 1 1 2 0 0 3) (0x34 ∷ 0x0F ∷ 0x86 ∷ 0x04 ∷ []) ≡ none)
+    × (mendedPage (sheet 4 3 2 1 2 3 0 4) (0xFE ∷ 0x06 ∷ 0xF4 ∷ 0x04 ∷ 0x2C ∷ 0x03 ∷ []) ≡ none)
+unfolding mendedPage pow
+pageElse = (refl, refl, refl, refl, refl, refl, refl, refl, refl, refl, refl, refl, refl, refl, refl, refl, refl, refl, refl, refl, refl, refl)
+
+-- The call: the number, then what it leaves in the page.
+pub pageCalled :
+    (mendPaged A (0x93 ∷ 0x56 ∷ 0x1B ∷ 0x58 ∷ []) ≡ 0 ∷ 0x93 ∷ 0x56 ∷ 0x1B ∷ 0x58 ∷ [])
+    × (mendPaged A (0x9B ∷ 0x56 ∷ 0x1B ∷ 0x18 ∷ []) ≡ 0 ∷ 0x93 ∷ 0x56 ∷ 0x1B ∷ 0x58 ∷ [])
+    × (mendPaged (sheet 4 2 1 1 2 0 0 6) (0x97 ∷ 0x00 ∷ 0x06 ∷ 0x01 ∷ []) ≡ 0 ∷ 0xC7 ∷ 0x00 ∷ 0x16 ∷ 0x01 ∷ [])
+    × (mendPaged (sheet 4 2 1 1 2 0 0 6) (0x27 ∷ 0x01 ∷ 0xCA ∷ 0x01 ∷ []) ≡ 17 ∷ 0x27 ∷ 0x01 ∷ 0xCA ∷ 0x01 ∷ [])
+    × (mendPaged A (0xFF ∷ 0x7F ∷ 0xFF ∷ 0x7F ∷ []) ≡ 17 ∷ 0xFF ∷ 0x7F ∷ 0xFF ∷ 0x7F ∷ [])
+    × (mendPaged A (0x93 ∷ 0x56 ∷ 0x1B ∷ []) ≡ 7 ∷ 0x93 ∷ 0x56 ∷ 0x1B ∷ [])
+    × (mendPaged A (0x93 ∷ 0x56 ∷ 0x1B ∷ 0x58 ∷ 0x00 ∷ []) ≡ 7 ∷ 0x93 ∷ 0x56 ∷ 0x1B ∷ 0x58 ∷ 0x00 ∷ [])
+    × (mendPaged A (0x93 ∷ 0xD6 ∷ 0x1B ∷ 0x58 ∷ []) ≡ 8 ∷ 0x93 ∷ 0xD6 ∷ 0x1B ∷ 0x58 ∷ [])
+    × (mendPaged A (0xFF ∷ 0x7F ∷ 0xFF ∷ 0xFF ∷ []) ≡ 8 ∷ 0xFF ∷ 0x7F ∷ 0xFF ∷ 0xFF ∷ [])
+    × (mendPaged (sheet 4 4 2 1 2 3 0 0) (replicate 8 0x00) ≡ 4 ∷ replicate 8 0x00)
+    × (mendPaged (sheet 4 2 1 1 2 0 0 7) (0x93 ∷ 0x56 ∷ 0x1B ∷ 0x58 ∷ []) ≡ 14 ∷ 0x93 ∷ 0x56 ∷ 0x1B ∷ 0x58 ∷ [])
+unfolding mendPageRefusal mendedPage pow
+pageCalled = (refl, refl, refl, refl, refl, refl, refl, refl, refl, refl, refl)

@@ -16,6 +16,8 @@
 --   SetTo p c i r b old  blocks c that fit: bit r of block i is b, and every other as `old` has it
 --   AlterLaws p          one bit altered: what changes, and that a member becomes the page of the altered blocks
 --   MendLaws p           one sub-word mended: the one multiple of g_0 within t_0 flips, or nothing changed
+--   Recoverable p z x    x came from z by flips that passes and rounds mend
+--   PageLaws p           a page mended through its nested words: a member, or nothing changed
 --   Shortening           which s are refused
 --   Demand3C p           the same of the C calls: WrittenC, ReadOutC, JudgedC, whose answers are numbers, 0 for done and member
 --   BlankC p             blank pages in C: 96 of judge and of read out, 13 of write
@@ -25,10 +27,12 @@
 --   AlterC p             one bit altered, in C
 --   MendC p              one sub-word mended, in C: the list is bytes
 --   OddC p               all syndromes from the odd ones, in C
+--   PageC p              a page mended through its nested words, in C
 use mathlib.Core.Path.{_≡_}
 use mathlib.Core.Logic.{_≢_, _↔_, _⊎_}
 use mathlib.Core.Bool.{_&&_, _||_, cond}
 use mathlib.Core.List.{List, [], _++_, map}
+use mathlib.Core.Option.{none, some}
 use Prim.Native.Nat.{ℕ, suc, _+_, _-_, _*_, _/_, _%_, _^_, _≤_, _<_}
 use lib.Dec.{eqb, ltb}
 use lib.ListN.{length, getD, replicate, drop}
@@ -46,16 +50,17 @@ use Rattle.field.specs.Irreducible.{NoFactor}
 use Rattle.code.specs.declared.Parameters.{Parameters}
 use Rattle.code.specs.declared.Outcome.{Outcome}
 use Rattle.code.specs.declared.Verdict.{Verdict}
-use Rattle.code.specs.Calls.{Altered, AlteredC, Judged, JudgedC, Mended, MendedC, QuoteMade, QuoteMadeC, ReadOut, ReadOutC, Written, WrittenC, WrittenMany, WrittenManyC, asBytes}
+use Rattle.code.specs.Calls.{Altered, AlteredC, Judged, JudgedC, Mended, MendedC, PageMended, PageMendedC, QuoteMade, QuoteMadeC, ReadOut, ReadOutC, Written, WrittenC, WrittenMany, WrittenManyC, asBytes}
 use Rattle.code.specs.Calls.{AllMade, AllMadeC, NestedSyndromesMade, NestedSyndromesMadeC, SyndromesMade, SyndromesMadeC}
 use Rattle.code.specs.Calls.{empty, generators, nestedOf, nestedSyndromeList, nestedWordBytes, numberAt}
 use Rattle.code.specs.Calls.{opened, outcome, pageVerdict, remainderBytes, shortBytes, subWordOf, syndromeList}
 use Rattle.code.specs.Code.{Flips, IsMember, N, Near, carried, dataWords, degree, distance, divisor, encode, gen}
 use Rattle.code.specs.Code.{allSyndromes, nested, newton, oddSyndromes, remainder, shortRemainder, syndromes, verdict}
 use Rattle.code.specs.Layout.{Bytes, Fits, IsBlank, IsPage, altered, blockBit, blockSizes, blocksClear, blocksOf, coefficientOf, dataBytes}
-use Rattle.code.specs.Layout.{dataOf, differences, pageBytes, pageClear, pageOf, storedOf, wordsOf}
+use Rattle.code.specs.Layout.{dataOf, differences, flipsIn, pageBytes, pageClear, pageOf, storedOf, wordsOf}
 use Rattle.code.specs.Lists.{addBelow, any, countBelow, each, fitsIn, join, onesIn, part, range, runs, split, sum}
 use Rattle.code.specs.Many.{Lent}
+use Rattle.code.specs.Nest.{Mem, after, mendPage, rounds, start}
 use Rattle.code.specs.Parameters.{Accepted, full, len, nestedBytes, sheetRefusal, stored, strength, subWordBytes, unshortened}
 use Rattle.code.specs.Refused.{BlocksBuffer, PageBuffer, Width}
 use Rattle.code.specs.Registers.{AllDone, cut, feedings}
@@ -500,6 +505,39 @@ pub record MendLaws (p : Parameters) : Type 0 where
       → Damaged p z x i → MendLent 1 p x i (length l) → Mended p x after i l listed n counted o
       → (o ≡ Outcome.Done) × (after ≡ z) × (counted ≡ differences p x z)
 
+-- ---- a page mended through its nested words
+-- x came from z by flips that passes and rounds mend: the change request's supposition
+pub record Recoverable (p : Parameters) (z x : List ℕ) : Type 0 where
+  -- at most v sub-words have more than t_0 flips
+  pub few : countBelow (p .m) (λ i. ltb (strength p 0) (flipsIn p x z i)) ≤ p .v
+  -- no single mending, in the first pass or in a round, gave a wrong word
+  pub right : (k i : ℕ) → i < p .m → ¬ Mem i (after p (wordsOf p x) k .broken) → getD (after p (wordsOf p x) k .words) i 0 ≡ subWordOf p z i
+  -- in every round some sub-word that is left has at most t_a flips, a = v - b + 1
+  pub light : (k : ℕ) → 0 < length (after p (wordsOf p x) k .broken)
+      → (i : ℕ) × Mem i (after p (wordsOf p x) k .broken) × (flipsIn p x z i ≤ strength p (p .v - length (after p (wordsOf p x) k .broken) + 1))
+
+pub record PageLaws (p : Parameters) : Type 0 where
+  -- done exactly when a page with clear spare bits is lent and a member comes of it; 17 exactly when it is and none does
+  pub done : (x after : List ℕ) (o : Outcome) → Bytes x → PageMended p x after o
+      → (o ≡ Outcome.Done) ↔ (IsPage p x × ((cs : List ℕ) × (mendPage p (wordsOf p x) ≡ some cs)))
+  pub nowhere : (x after : List ℕ) (o : Outcome) → Bytes x → PageMended p x after o
+      → (o ≡ Outcome.Refused 17) ↔ (IsPage p x × (mendPage p (wordsOf p x) ≡ none))
+  -- a refusal changes no byte
+  pub kept : (x after : List ℕ) (k : ℕ) → PageMended p x after (Outcome.Refused k) → after ≡ x
+  -- whatever page with clear spare bits: a member, judge says so, or 17 and the old bytes
+  pub otherwise : (x after : List ℕ) (o : Outcome) → IsPage p x → PageMended p x after o
+      → ((o ≡ Outcome.Done) × IsPage p after × ((r : Verdict) → Judged p after r → r ≡ Verdict.Member)) ⊎ ((o ≡ Outcome.Refused 17) × (after ≡ x))
+  -- a member stays as it is
+  pub clean : (x after : List ℕ) (o : Outcome) → Bytes x → Judged p x Verdict.Member → PageMended p x after o → (o ≡ Outcome.Done) × (after ≡ x)
+  -- the member comes back
+  pub back : (z x after : List ℕ) (o : Outcome) → Bytes z → IsPage p x → Judged p z Verdict.Member → Recoverable p z x → PageMended p x after o
+      → (o ≡ Outcome.Done) × (after ≡ z)
+  -- always, where no sub-word has more than t_0 flips
+  pub always : (z x after : List ℕ) (o : Outcome) → Bytes z → IsPage p x → Judged p z Verdict.Member
+      → ((i : ℕ) → i < p .m → flipsIn p x z i ≤ strength p 0) → PageMended p x after o → (o ≡ Outcome.Done) × (after ≡ z)
+  -- at most v rounds: any number more gives the same
+  pub enough : (d : ℕ) (x : List ℕ) → rounds p (p .v + d) (start p (wordsOf p x)) ≡ mendPage p (wordsOf p x)
+
 -- ---- demand 3 of the C calls
 -- the same number and, when that is 0, the same page
 pub record AlikeC (after after′ : List ℕ) (r r′ : ℕ) : Type 0 where
@@ -644,16 +682,31 @@ pub record MendC (p : Parameters) : Type 0 where
   pub back : (z x after : List ℕ) (i : ℕ) (l listed : List ℕ) (n counted o : ℕ) → Bytes z → Bytes x → JudgedC p z 0 → Damaged p z x i
       → MendLent 2 p x i (length l) → MendedC p x after i l listed n counted o → (o ≡ 0) × (after ≡ z) × (counted ≡ differences p x z)
 
+-- ---- a page mended through its nested words, in C
+pub record PageC (p : Parameters) : Type 0 where
+  pub done : (x after : List ℕ) (o : ℕ) → Bytes x → PageMendedC p x after o
+      → (o ≡ 0) ↔ (IsPage p x × ((cs : List ℕ) × (mendPage p (wordsOf p x) ≡ some cs)))
+  pub nowhere : (x after : List ℕ) (o : ℕ) → Bytes x → PageMendedC p x after o → (o ≡ 17) ↔ (IsPage p x × (mendPage p (wordsOf p x) ≡ none))
+  pub kept : (x after : List ℕ) (o : ℕ) → PageMendedC p x after o → o ≢ 0 → after ≡ x
+  pub otherwise : (x after : List ℕ) (o : ℕ) → IsPage p x → PageMendedC p x after o
+      → ((o ≡ 0) × IsPage p after × ((r : ℕ) → JudgedC p after r → r ≡ 0)) ⊎ ((o ≡ 17) × (after ≡ x))
+  pub clean : (x after : List ℕ) (o : ℕ) → Bytes x → JudgedC p x 0 → PageMendedC p x after o → (o ≡ 0) × (after ≡ x)
+  pub back : (z x after : List ℕ) (o : ℕ) → Bytes z → IsPage p x → JudgedC p z 0 → Recoverable p z x → PageMendedC p x after o
+      → (o ≡ 0) × (after ≡ z)
+  pub always : (z x after : List ℕ) (o : ℕ) → Bytes z → IsPage p x → JudgedC p z 0
+      → ((i : ℕ) → i < p .m → flipsIn p x z i ≤ strength p 0) → PageMendedC p x after o → (o ≡ 0) × (after ≡ z)
+
 -- ---- 14: of the sheets that keep every other rule, those are refused, and with 14, whose s is above n - w_v - 1
 abbrev pub Shortening : Type 0
 Shortening =
     (p : Parameters) → fullRefusal p ≡ 0
     → (Accepted p ↔ (p .s ≤ 2 ^ p .q - 1 - degree p (p .v) - 1)) × ((sheetRefusal p ≡ 14) ↔ (2 ^ p .q - 1 - degree p (p .v) - 1 < p .s))
 
--- ---- both, bursts, many pages in one call, one bit altered, and one sub-word mended, for every accepted sheet
+-- ---- both, bursts, many pages in one call, one bit altered, one sub-word mended, and a page mended, for every accepted sheet
 abbrev pub Demands : Type 0
-Demands = (p : Parameters) → Accepted p → Demand2 p × Demand3 p × BurstLaws p × ManyLaws p × AlterLaws p × MendLaws p
+Demands = (p : Parameters) → Accepted p → Demand2 p × Demand3 p × BurstLaws p × ManyLaws p × AlterLaws p × MendLaws p × PageLaws p
 
--- ---- and, of the C calls, demand 3, blank pages, the quote, bursts, many pages, one bit altered, one sub-word mended and all syndromes from the odd ones
+-- ---- and, of the C calls, demand 3, blank pages, the quote, bursts, many pages, one bit altered, one sub-word mended, all syndromes from the odd
+-- ones and a page mended
 abbrev pub DemandsC : Type 0
-DemandsC = (p : Parameters) → Accepted p → Demand3C p × BlankC p × QuotedC p × BurstC p × ManyC p × AlterC p × MendC p × OddC p
+DemandsC = (p : Parameters) → Accepted p → Demand3C p × BlankC p × QuotedC p × BurstC p × ManyC p × AlterC p × MendC p × OddC p × PageC p

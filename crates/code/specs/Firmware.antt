@@ -1,4 +1,4 @@
--- Demand 3, blank pages, the quote, bursts, many pages, one bit altered and one sub-word mended of the C calls, from those of the calls behind them: a C call's promise is that of the call behind it, with the number of its answer.
+-- Demand 3, blank pages, the quote, bursts, many pages, one bit altered, one sub-word mended and a page mended of the C calls, from those of the calls behind them: a C call's promise is that of the call behind it, with the number of its answer.
 use mathlib.Core.Path.{_≡_, refl, sym, ap, _∙_}
 use mathlib.Core.Logic.{_↔_, _⊎_, inl, inr}
 use mathlib.Core.List.{List, [], _∷_}
@@ -14,18 +14,19 @@ use Rattle.code.specs.declared.Verdict.{Verdict}
 use Rattle.code.specs.Accepted.{accepted}
 use Rattle.code.specs.Answers.{judged, judged-blanks, judged-zero, leaves-refused, made-of, outcome-number, read, read-as-judge, read-zero}
 use Rattle.code.specs.Buffers.{bytes-at, length-bytes}
-use Rattle.code.specs.Calls.{Altered, AlteredC, Judged, JudgedC, MendedC, QuoteMadeC, ReadOut, ReadOutC, Written, WrittenC, WrittenMany, WrittenManyC, asBytes, judgeAnswer, numberAt, AllMadeC, asNumbers, nestedOf, nestedSyndromeList, syndromeList}
-use Rattle.code.specs.Calls.{leaves, outcome, outcomeNumber, placesOf, quote, readAnswer, subWordOf, verdictNumber}
+use Rattle.code.specs.Calls.{Altered, AlteredC, Judged, JudgedC, MendedC, PageMended, PageMendedC, QuoteMadeC, ReadOut, ReadOutC, Written, WrittenC, WrittenMany, WrittenManyC, asBytes, judgeAnswer, numberAt, AllMadeC, asNumbers, nestedOf, nestedSyndromeList, syndromeList}
+use Rattle.code.specs.Calls.{leaves, listOf, outcome, outcomeNumber, placesOf, quote, readAnswer, subWordOf, verdictNumber}
 use Rattle.code.specs.Code.{Near, oddSyndromes, allSyndromes, syndromes}
-use Rattle.code.specs.Demands.{AlterC, AlteredMemberC, MendC, Mends, NamesBit, SetTo}
+use Rattle.code.specs.Demands.{AlterC, AlteredMemberC, MendC, Mends, NamesBit, PageC, SetTo}
 use Rattle.code.specs.Demands.{AlikeC, AlikeManyC, BlankC, BlankWriteLaws, BurstC, Demand3C, DemandsC, ManyC, QuoteLaws, QuotedC, RewritesC, SumsC, OddC}
-use Rattle.code.specs.Layout.{Bytes, Fits, IsBlank, IsPage, altered, blockBit, differences, noPlace, pageOf, placeList}
+use Rattle.code.specs.Layout.{Bytes, Fits, IsBlank, IsPage, altered, blockBit, differences, mendedPage, noPlace, pageOf, placeList}
 use Rattle.code.specs.Mend.{places-eq}
+use Rattle.code.specs.Mending.{mend-page-17, mend-page-zero}
 use Rattle.code.specs.Parameters.{Accepted, strength}
 use Rattle.code.specs.Quote.{quote-length, quote-none, quote-small}
-use Rattle.code.specs.Refusals.{alterRefusal, manyRefusal, mendRefusal, quoteRefusal, writeRefusal, allRefusal}
+use Rattle.code.specs.Refusals.{alterRefusal, manyRefusal, mendPageRefusal, mendRefusal, quoteRefusal, writeRefusal, allRefusal}
 use Rattle.code.specs.Refused.{BlocksBuffer, PageBuffer, Width, judged-page, open-none}
-use Rattle.code.specs.Theorems.{alters, bursts, demand2, demand3, many, quote-numbers, whole-13}
+use Rattle.code.specs.Theorems.{alters, bursts, demand2, demand3, many, page-mends, quote-numbers, whole-13}
 use Rattle.code.specs.Theorems.{member-multiple, mend-15-iff, mend-clean, mend-stays, mend-zero-iff, mends-of, number-of, undamaged}
 use Rattle.code.specs.Odd.{all-none, all-odd, all-bytes, length-odd, odd-back}
 
@@ -364,5 +365,35 @@ module _ (p : Parameters) (A : Accepted p) where
     number = λ c k j h. (let R = accepted p A in all-bytes p (R .known) k c j h);
   }
 
+  -- ---- a page mended through its nested words
+  pub page-c : PageC p
+  page-c = record {
+    done = λ x after o b M. (let d = mend-page-zero p A x b in ((λ e. d .0 (sym (M .answers) ∙ e)), (λ s. M .answers ∙ d .1 s)));
+    nowhere = λ x after o b M. (let d = mend-page-17 p A x b in ((λ e. d .0 (sym (M .answers) ∙ e)), (λ s. M .answers ∙ d .1 s)));
+    kept = λ x after o M n. M .buffer ∙ leaves-refused (mendPageRefusal p x) _ x (Nat.pos-of-ne-zero (λ z. n (M .answers ∙ z)));
+    otherwise = λ x after o h M. either x after o M (page-mends p A .otherwise x after _ h (made x after o M));
+    clean = λ x after o b J M. done x after x o M (page-mends p A .clean x after _ b (member-c x J) (made x after o M));
+    back = λ z x after o b h J r M. done x after z o M (page-mends p A .back z x after _ b h (member-c z J) r (made x after o M));
+    always = λ z x after o b h J f M. done x after z o M (page-mends p A .always z x after _ b h (member-c z J) f (made x after o M));
+  }
+    where
+      made : (x after : List ℕ) (o : ℕ) → PageMendedC p x after o → PageMended p x after (outcome (mendPageRefusal p x))
+      made x after o M = made-of (mendPageRefusal p x) (listOf (mendedPage p x)) x after o M
+
+      done : (x after z : List ℕ) (o : ℕ) → PageMendedC p x after o → (outcome (mendPageRefusal p x) ≡ Outcome.Done) × (after ≡ z) → (o ≡ 0) × (after ≡ z)
+      done x after z o M s = (zero-of o (mendPageRefusal p x) (M .answers) (s .0), s .1)
+
+      either : (x after : List ℕ) (o : ℕ) → PageMendedC p x after o
+          → ((outcome (mendPageRefusal p x) ≡ Outcome.Done) × IsPage p after × ((r : Verdict) → Judged p after r → r ≡ Verdict.Member))
+          ⊎ ((outcome (mendPageRefusal p x) ≡ Outcome.Refused 17) × (after ≡ x))
+          → ((o ≡ 0) × IsPage p after × ((r : ℕ) → JudgedC p after r → r ≡ 0)) ⊎ ((o ≡ 17) × (after ≡ x))
+      either x after o M (inl s) =
+          inl (
+            zero-of o (mendPageRefusal p x) (M .answers) (s .0),
+            s .1,
+            (λ r K. judge-iff after r K .1 (s .2 (judgeAnswer p after) (judged p after (judgeAnswer p after) refl))),
+          )
+      either x after o M (inr s) = inr (M .answers ∙ sym (outcome-number (mendPageRefusal p x)) ∙ ap outcomeNumber (s .0), s .1)
+
 pub demands-c : DemandsC
-demands-c p A = (demand3-c p A, blank-c p A, quote-c p A, burst-c p A, many-c p A, alter-c p A, mend-c p A, odd-c p A)
+demands-c p A = (demand3-c p A, blank-c p A, quote-c p A, burst-c p A, many-c p A, alter-c p A, mend-c p A, odd-c p A, page-c p A)

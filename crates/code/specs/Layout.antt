@@ -18,6 +18,7 @@
 --   flipped p x i R       the page x with the places R of sub-word i flipped
 --   placeList k R         the places R in a list of k numbers: 65535 from their end on
 --   mendedPage p x        the page x mended through its nested words; or none
+--   flipsIn p x y i       the number of places at which the coefficients of sub-word i of two pages differ
 --   differences p x y     the number of pairs of a sub-word i and a place k at which the coefficients of two pages differ
 use mathlib.Core.Path.{_≡_}
 use mathlib.Core.Bool.{Bool, not, cond}
@@ -170,6 +171,10 @@ unfoldable pub mendedPage : Parameters → List ℕ → Option (List ℕ)
 unfolding mendPage wordsOf join
 mendedPage p page = inBytes p (mendPage p (wordsOf p page))
 
+-- ---- places at which two pages differ
+abbrev pub flipsIn : Parameters → List ℕ → List ℕ → ℕ → ℕ
+flipsIn p x y i = countBelow (stored p) (λ k. not (eqb (coefficientOf p x i k) (coefficientOf p y i k)))
+
 unfoldable pub differences : Parameters → List ℕ → List ℕ → ℕ
 unfolding addBelow countBelow
-differences p x y = addBelow (p .m) (λ i. countBelow (stored p) (λ k. not (eqb (coefficientOf p x i k) (coefficientOf p y i k))))
+differences p x y = addBelow (p .m) (flipsIn p x y)

@@ -57,6 +57,15 @@ unflipped-none : (b : Bool) → unflipped b ≡ none → T b → ⊥
 unflipped-none true e t = none-some [] (sym e)
 unflipped-none false e t = t
 
+-- one was found, or none
+pub somewhere : (o : Option (List ℕ)) → T (not (nowhere o)) → (R : List ℕ) × (o ≡ some R)
+somewhere (some R) t = (R, refl)
+somewhere none t = absurd t
+
+pub is-nowhere : (o : Option (List ℕ)) → T (nowhere o) → o ≡ none
+is-nowhere none t = refl
+is-nowhere (some R) t = absurd t
+
 -- ---- what is tried
 pub tried-zero : (P : ℕ → Bool) (k t y : ℕ) → tried P k zero t y ≡ unflipped (P y)
 unfolding tried
@@ -399,11 +408,7 @@ module _ (size : ℕ) (p : Parameters) (x : List ℕ) (i out : ℕ) where
   pub mend-none : mendRefusal size p x i out ≡ 0 → Mendable p x i out wants × ((Q : List ℕ) × (mending p x i ≡ some Q))
   mend-none z =
       let a = or-none (wordRefusal p x i (p .m) out wants) from-15 (sym mend-chain ∙ z) in
-      (word-mendable (a .0) .1, go (mending p x i) refl (last 14 (nowhere (mending p x i)) (a .1)))
-    where
-      go : (o : Option (List ℕ)) → mending p x i ≡ o → T (not (nowhere (mending p x i))) → (Q : List ℕ) × (mending p x i ≡ some Q)
-      go (some Q) e t = (Q, e)
-      go none e t = absurd (rw e at t)
+      (word-mendable (a .0) .1, somewhere (mending p x i) (last 14 (nowhere (mending p x i)) (a .1)))
 
   pub mend-15 : Accepted p → mendRefusal size p x i out ≡ 15 → Mendable p x i out wants × (mending p x i ≡ none)
   mend-15 A z =
@@ -418,12 +423,8 @@ module _ (size : ℕ) (p : Parameters) (x : List ℕ) (i out : ℕ) where
           sub-word = nleb→lt (p .m) i (last 8 (leb (p .m) i) (e .0));
           room = exact-of 9 out wants (f .0);
         },
-        go (mending p x i) refl (given 14 (nowhere (mending p x i)) (f .1)),
+        is-nowhere (mending p x i) (given 14 (nowhere (mending p x i)) (f .1)),
       )
-    where
-      go : (o : Option (List ℕ)) → mending p x i ≡ o → T (nowhere (mending p x i)) → mending p x i ≡ none
-      go none e t = e
-      go (some Q) e t = absurd (rw e at t)
 
 pub mending-eq : (p : Parameters) (x : List ℕ) (i : ℕ) → mending p x i ≡ nearest p 0 (getD (wordsOf p x) i 0)
 unfolding mending

@@ -19,21 +19,20 @@ use Rattle.polynomial.specs.Xor.{xor, xor-cancel, xor-self}
 use Rattle.field.specs.Bch.{weight, weight-zero}
 use Rattle.field.specs.Flips.{flips-ones}
 use Rattle.code.specs.declared.Parameters.{Parameters}
-use Rattle.code.specs.declared.Verdict.{Verdict}
 use Rattle.code.specs.Accepted.{Rules, accepted}
 use Rattle.code.specs.Answers.{number-member, verdict-number}
 use Rattle.code.specs.Calls.{verdictNumber}
-use Rattle.code.specs.Code.{IsMember, Near, failingNumber, verdict}
+use Rattle.code.specs.Code.{IsMember, Near, failingNumber}
 use Rattle.code.specs.Distance.{Passing}
 use Rattle.code.specs.Judge.{member-passing, multiple-iff, verdict-member}
-use Rattle.code.specs.Lists.{addBelow, countBelow, range}
+use Rattle.code.specs.Lists.{countBelow, range}
 use Rattle.code.specs.Mend.{nearest-none, nearest-word, none-some, some-inj}
 use Rattle.code.specs.Nest.{Mem, Work, after, after-suc, after-zero, allOnes, alone, end, end-eq, found, keptBy, mendAll, mendAll-nil, mendBy, mendPage, mendPage-eq}
 use Rattle.code.specs.Nest.{round, round-broken, round-words, roundLevel, rounds, rounds-suc, rounds-zero, start, start-broken, start-words, unfound, unfound-nil}
 use Rattle.code.specs.Pages.{IsWords}
 use Rattle.code.specs.Parameters.{Accepted, stored, strength}
-use Rattle.code.specs.Places.{addBelow-none, addBelow-suc, addBelow-zero, countBelow-eq}
-use Rattle.code.specs.Rounds.{IsWork, Sound, decMem, fault, mendAll-at, none-left, range-last, range-mem, range-rising, round-falls, round-le, round-stays, round-work}
+use Rattle.code.specs.Places.{addBelow-none, addBelow-suc, countBelow-eq}
+use Rattle.code.specs.Rounds.{IsWork, Sound, mendAll-at, none-left, range-last, range-mem, range-rising, round-falls, round-stays, round-work}
 use Rattle.code.specs.Rounds.{start-stays, start-work, unfound-append, unfound-one, words-low}
 use Rattle.code.specs.Steps.{Divides}
 use borrow.Author.Tests.{le-ltb}
@@ -210,6 +209,10 @@ module _ (p : Parameters) (A : Accepted p) where
       go (yes l) = rounds-enough (p .v + d) (start p ys) (omega arith)
       go (no n) = rounds-many (suc (p .v + d)) (start p ys) (Nat.lt-of-not-le n) ∙ sym (rounds-many (p .v + d) (start p ys) (Nat.lt-of-not-le n))
 
+  pub after-work : (ys : List ℕ) → IsWords p ys → (k : ℕ) → IsWork p (after p ys k)
+  after-work ys w zero = rw (after-zero p ys) (start-work p A ys w)
+  after-work ys w (suc k) = rw (after-suc p ys k) (round-work p A (after p ys k) (after-work ys w k))
+
   -- ---- the first pass leaves no more than the heavy words
   word-near : (ys cs : List ℕ) → IsWords p cs → Passing p cs → (i : ℕ) → i < p .m → weight (xor (getD ys i 0) (getD cs i 0)) ≤ strength p 0
       → Near p 0 (getD ys i 0) (getD cs i 0)
@@ -272,14 +275,10 @@ module _ (p : Parameters) (A : Accepted p) where
     P : Passing p cs
     P = member-passing p R cs M (C .many)
 
-    after-work : (k : ℕ) → IsWork p (after p ys k)
-    after-work zero = rw (after-zero p ys) (start-work p A ys w)
-    after-work (suc k) = rw (after-suc p ys k) (round-work p A (after p ys k) (after-work k))
-
     after-stays : (k i : ℕ) → Mem i (after p ys k .broken) → getD (after p ys k .words) i 0 ≡ getD ys i 0
     after-stays zero i m = rw (after-zero p ys) (start-stays p A ys w i (rw (after-zero p ys) at m))
     after-stays (suc k) i m =
-        let s = round-stays p A (after p ys k) (after-work k) i (rw (after-suc p ys k) at m) in
+        let s = round-stays p A (after p ys k) (after-work ys w k) i (rw (after-suc p ys k) at m) in
         rw (after-suc p ys k) (s .1) ∙ after-stays k i (s .0)
 
     home : (W : Work) → IsWork p W → Sound p W cs → length (W .broken) ≡ 0 → end p (W .words) ≡ some cs
@@ -295,7 +294,7 @@ module _ (p : Parameters) (A : Accepted p) where
     back zero k h b =
         rounds-zero p (after p ys k)
         ∙ yes-is (leb (length (after p ys k .broken)) 0) (end p (after p ys k .words)) none (le→leb (length (after p ys k .broken)) 0 h)
-        ∙ home (after p ys k) (after-work k) (H .right k) (omega arith)
+        ∙ home (after p ys k) (after-work ys w k) (H .right k) (omega arith)
     back (suc f) k h b = rounds-suc p f W ∙ go (decLe (length (W .broken)) 0) (back f (suc k))
       where
         W : Work
@@ -307,11 +306,11 @@ module _ (p : Parameters) (A : Accepted p) where
         falls : 0 < length (W .broken) → length (round p W .broken) < length (W .broken)
         falls o =
             let x = H .light k o in
-            round-falls p A cs C P W (after-work k) (H .right k) (x .0) (x .1) b (rw (after-stays k (x .0) (x .1)) (x .2))
+            round-falls p A cs C P W (after-work ys w k) (H .right k) (x .0) (x .1) b (rw (after-stays k (x .0) (x .1)) (x .2))
 
         go : Dec (length (W .broken) ≤ 0) → (length (after p ys (suc k) .broken) ≤ f → length (after p ys (suc k) .broken) ≤ p .v → rounds p f (after p ys (suc k)) ≡ some cs)
             → cond (leb (length (W .broken)) 0) (end p (W .words)) next ≡ some cs
-        go (yes e) ih = yes-is (leb (length (W .broken)) 0) (end p (W .words)) next (le→leb (length (W .broken)) 0 e) ∙ home W (after-work k) (H .right k) (omega arith)
+        go (yes e) ih = yes-is (leb (length (W .broken)) 0) (end p (W .words)) next (le→leb (length (W .broken)) 0 e) ∙ home W (after-work ys w k) (H .right k) (omega arith)
         go (no n) ih =
             let d : length (round p W .broken) < length (W .broken) = falls (omega arith) in
             no-is (leb (length (W .broken)) 0) (end p (W .words)) next (over (length (W .broken)) 0 n)

@@ -331,6 +331,9 @@ module _ (p : Parameters) where
     pub judge-is : (x : List ℕ) → Judgeable p x → judgeAnswer p x ≡ pageVerdict p x
     judge-is x h = judge-eq x ∙ rw (judge-none A x h) refl
 
+    pub unblanked : (x : List ℕ) → IsPage p x → T (not (blank p x)) → judgeAnswer p x ≡ verdict p (wordsOf p x)
+    unblanked x h t = judge-is x (page-judgeable p x h) ∙ verdict-else x t
+
     pub read-leaves : (x old : List ℕ) → Judgeable p x → BlocksBuffer p old → readLeaves p x old ≡ dataOf p x
     unfolding readLeaves
     read-leaves x old h e = rw (read-none A x old h e) refl

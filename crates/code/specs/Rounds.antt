@@ -2,7 +2,7 @@
 --   errors F x g ks    the errors g k of the words ks as Vandermonde's pairs at x: node x^k, weight (g k)(x)
 --   Sound p W cs       every word that is not broken is that of cs
 use mathlib.Core.Path.{_≡_, refl, sym, ap, ap₂, _∙_}
-use mathlib.Core.Bool.{Bool, true, false, not, _&&_, cond}
+use mathlib.Core.Bool.{Bool, true, false, not}
 use mathlib.Core.Logic.{_≢_, _↔_, _⊎_, inl, inr}
 use mathlib.Core.List.{List, [], _∷_, _++_, map}
 use mathlib.Core.Option.{Option, none, some}
@@ -10,14 +10,14 @@ use Prim.Native.Nat.{ℕ, zero, suc, _+_, _-_, _*_, _^_, _≤_, _<_, zero-le, su
 use native.Mathlib.Nat as Nat
 use native.Mathlib.Decide.{decLe, ℕ-discrete}
 use native.Mathlib.Omega.{arith}
-use lib.Dec.{T, T-not, eqb, eqb-refl, eqb→eq, leb, leb→le, le→leb, ltb, lt→ltb, ltb→lt, not-T}
-use lib.ListN.{length, getD, set, length-append, length-map, length-set, List·getD-eq-default}
+use lib.Dec.{T, T-not, eqb, eqb-refl, eqb→eq, not-T}
+use lib.ListN.{length, getD, set, length-map, length-set, List·getD-eq-default}
 use lib.Pow.{pow-pos}
-use lib.Seq.{ext-getD, getD-set-other, getD-set-same}
+use lib.Seq.{getD-set-other, getD-set-same}
 use Rattle.polynomial.specs.Division.{xor-lt}
 use Rattle.polynomial.specs.Multiple.{Multiple}
 use Rattle.polynomial.specs.Sums.{All, add, add-at, all-at, at-all, length-add}
-use Rattle.polynomial.specs.Xor.{xor, xor-self, xor-zero-l, xor-zero-r, xor-cancel, xor-eq-zero}
+use Rattle.polynomial.specs.Xor.{xor, xor-self, xor-zero-l}
 use Rattle.field.specs.Bch.{weight}
 use Rattle.field.specs.Elements.{element, element-syndrome, syndrome, syndrome-iff, syndrome-num, syndrome-xor, times, times-num}
 use Rattle.field.specs.Eval.{eval, eval-sq, eval-xor, eval-zero}
@@ -30,12 +30,12 @@ use Rattle.field.specs.Vandermonde.{sum, sum-cons, sum-nil}
 use Rattle.code.specs.declared.Parameters.{Parameters}
 use Rattle.code.specs.Accepted.{Rules, accepted, any-none, lawful}
 use Rattle.code.specs.Alter.{by-eqb, by-neqb}
-use Rattle.code.specs.Code.{Flips, Near, gen, nearest, nested, tried}
+use Rattle.code.specs.Code.{gen, nested}
 use Rattle.code.specs.Degrees.{of-some}
 use Rattle.code.specs.Distance.{Passing, eval-nested-root, nested-add, pow-differ, root-apart, root≢zero}
 use Rattle.code.specs.Judge.{multiple-iff}
 use Rattle.code.specs.Lists.{any, range}
-use Rattle.code.specs.Mend.{Found, flips-once, nearest-iff, nearest-none, nearest-sound, same-option, tried-none, tried-sound}
+use Rattle.code.specs.Mend.{flips-once, nearest-sound, same-option, tried-none, tried-sound}
 use Rattle.code.specs.Nest.{ErrorBy, Mem, Work, agrees, agrees-eq, alone, errorOf, errorOf-eq, errorSyndrome, errorSyndrome-eq, found, found-eq}
 use Rattle.code.specs.Nest.{keptBy, mendAll, mendAll-cons, mendAll-nil, mendBy, node, others, others-cons, others-nil, round, round-broken, round-words}
 use Rattle.code.specs.Nest.{roundLevel, start, start-broken, start-words, unfound, unfound-cons, unfound-nil}

@@ -1,5 +1,6 @@
--- THE THEOREM: demands 2 and 3 hold for all accepted parameters, judge finds every burst, many pages in one call are those of single calls, and
--- a member with one bit altered is the page of its blocks with that bit altered, and one sub-word is mended by the only multiple near it.
+-- THE THEOREM: demands 2 and 3 hold for all accepted parameters, judge finds every burst, many pages in one call are those of single calls,
+-- a member with one bit altered is the page of its blocks with that bit altered, one sub-word is mended by the only multiple near it, and a page
+-- through its nested words.
 use mathlib.Core.Path.{_≡_, refl, sym, ap, ap₂, _∙_}
 use mathlib.Core.Logic.{_≢_, _↔_, _⊎_, inl, inr}
 use mathlib.Core.Bool.{Bool, true, false, not, cond}
@@ -12,7 +13,6 @@ use native.Mathlib.Omega.{arith}
 use lib.Dec.{T, eqb, eqb-refl, not-T, T-not}
 use lib.ListN.{length, getD, replicate}
 use lib.Pow.{pow-pos}
-use Rattle.polynomial.specs.Bits.{coefficient}
 use Rattle.polynomial.specs.Coefficients.{beyond}
 use Rattle.polynomial.specs.Digits.{value}
 use Rattle.polynomial.specs.Division.{rem-lt, rem-zero, xor-lt}
@@ -40,19 +40,19 @@ use Rattle.code.specs.Buffers.{divides-up, divisor-deg, divisor-degree, 
 use Rattle.code.specs.Buffers.{nested-back, remainder-back, row-back, short-back, short-differ, short-lt}
 use Rattle.code.specs.Bursts.{another, apart-pages, apart-places, burst-same, bytes-burst, cyclic, moved-divides, moved-lt, others-same}
 use Rattle.code.specs.Bursts.{single-has, single-is, single-passing, single-unblank, singlePage}
-use Rattle.code.specs.Calls.{Altered, Judged, Mended, QuoteMade, ReadOut, Written, WrittenMany, empty, judgeAnswer, leaves, AllMade}
+use Rattle.code.specs.Calls.{Altered, Judged, Mended, PageMended, QuoteMade, ReadOut, Written, WrittenMany, empty, judgeAnswer, leaves, AllMade}
 use Rattle.code.specs.Calls.{listOf, nestedOf, nestedSyndromeList, outcome, outcomeNumber, pagesBy, placesOf, quote, statuses, subWordOf, syndromeList}
 use Rattle.code.specs.Chains.{off′, on}
 use Rattle.code.specs.Code.{Flips, IsMember, Near, checkBits, degree, distance, gen, least, nested, newton, remainder, syndromes, verdict, oddSyndromes, allSyndromes}
 use Rattle.code.specs.Degrees.{degree-exact}
-use Rattle.code.specs.Demands.{AlterLaws, AlteredMember, Damaged, MendLaws, MendLent, Mends, NamesBit, SetTo, OddLaws}
+use Rattle.code.specs.Demands.{AlterLaws, AlteredMember, Damaged, MendLaws, MendLent, Mends, NamesBit, PageLaws, SetTo, OddLaws}
 use Rattle.code.specs.Demands.{Alike, AlikeMany, BlankReadLaws, BlankWriteLaws, BufferLaws, Burst, BurstLaws, Demand2, Demand3, Demands, GeneratorLaws, GeneratorOf}
 use Rattle.code.specs.Demands.{JudgeLaws, ManyLaws, QuoteLaws, QuotedPage, RegisterLaws, Rewrites, ShortLaws, ShortenedLaws, Smallest}
 use Rattle.code.specs.Demands.{Shortening, StoredLaws, Sums, Vanishes, WholeLaws, WriteLaws}
 use Rattle.code.specs.Distance.{Passing, least-few, least-many, pageWeight}
 use Rattle.code.specs.Encode.{N-above, encode-member, member-encode}
 use Rattle.code.specs.Judge.{member-passing, multiple-iff, passing-member, verdict-member, verdict-nested, verdict-sub}
-use Rattle.code.specs.Layout.{altered, blockBit, flipped, mending, noPlace, oneBit, placeList}
+use Rattle.code.specs.Layout.{altered, blockBit, flipped, flipsIn, mendedPage, mending, noPlace, oneBit, placeList}
 use Rattle.code.specs.Layout.{Bytes, Fits, IsBlank, IsPage, blank, blocksOf, coefficientOf, dataBits, dataBytes, dataOf, differences}
 use Rattle.code.specs.Layout.{pageBytes, pageClear, pageOf, storedOf, wordSizes, wordsOf}
 use Rattle.code.specs.Lists.{_when_, addBelow, countBelow, join, part, sum}
@@ -60,16 +60,19 @@ use Rattle.code.specs.Many.{each-written, length-by, length-statuses, ma
 use Rattle.code.specs.Many.{status-at, status-left, statuses-alike}
 use Rattle.code.specs.Mend.{Mendable, flipped-here, flipped-is, flipped-none, flipped-page, flipped-stay, flips-near, flips-once, mend-15, mend-left}
 use Rattle.code.specs.Mend.{mend-none, mending-eq, near-once, nearest-clean, nearest-iff, nearest-none, nearest-word, places-eq}
+use Rattle.code.specs.Mending.{flips-are, judged-member, member-judged, mend-page-17, mend-page-always, mend-page-back, mend-page-clean, mend-page-else}
+use Rattle.code.specs.Mending.{mend-page-zero}
 use Rattle.code.specs.Newton.{nesteds-of, newtons-of}
 use Rattle.code.specs.Pages.{IsWords, again-from, again-to, data-fit, dataBytes-eq, join-words}
 use Rattle.code.specs.Pages.{page-back, page-has, page-is, page-words, sum-fits, sum-page, word-lt, words-many}
 use Rattle.code.specs.Parameters.{Accepted, full, len, stored, strength, subWordBytes}
 use Rattle.code.specs.Placement.{all-places, any-fit, any-has, blocks-same, check-bits, data-room, place-bit, read-bit, sub-word-bit, word-at, written-bit}
-use Rattle.code.specs.Places.{addBelow-ext, addBelow-none, addBelow-single, countBelow-eq, countBelow-ext, differing, distance-places, words-differ}
+use Rattle.code.specs.Places.{addBelow-ext, addBelow-none, addBelow-single, countBelow-eq, differing, distance-places, words-differ}
 use Rattle.code.specs.Quote.{quote-bits, quote-degree, quote-length, quote-none, quote-past-m, quote-past-v}
-use Rattle.code.specs.Refusals.{alterRefusal, manyRefusal, mendRefusal, nowhere, quoteRefusal, writeRefusal, allRefusal}
+use Rattle.code.specs.Recovery.{v-enough}
+use Rattle.code.specs.Refusals.{alterRefusal, manyRefusal, mendPageRefusal, mendRefusal, nowhere, quoteRefusal, writeRefusal, allRefusal}
 use Rattle.code.specs.Refused.{BlocksBuffer, PageBuffer, Width, blank-judgeable, judge-is, judge-stray, judged-blank, judged-else, judged-page, open-none}
-use Rattle.code.specs.Refused.{page-judgeable, read-leaves, verdict-blank, verdict-else, write-alike, write-done, write-keeps}
+use Rattle.code.specs.Refused.{page-judgeable, read-leaves, unblanked, verdict-blank, write-alike, write-done, write-keeps}
 use Rattle.code.specs.Refused.{write-13, write-leaves, write-left, write-refused}
 use Rattle.code.specs.Registers.{cut, fed-done, fed-holds, feedings, holding, opened-empty, register-back}
 use Rattle.code.specs.Shortened.{lengthened-fits, lengthened-keeps, lengthened-zero, same-degree, same-members, same-words, short-accepted, short-refused, shortened-all}
@@ -264,12 +267,9 @@ module _ (p : Parameters) (A : Accepted p) where
       page-ones p R a h .0 (blank-iff p R (pageOf p a) (page-is p R a h .bytes) .0 (t .2)) .0
 
   -- ---- members
-  unblanked : (x : List ℕ) → IsPage p x → T (not (blank p x)) → judgeAnswer p x ≡ verdict p (wordsOf p x)
-  unblanked x h t = judge-is p A x (page-judgeable p x h) ∙ verdict-else p x t
-
   judged-laws : (x : List ℕ) (r : Verdict) → IsPage p x → (¬ IsBlank p x) → Judged p x r → JudgeLaws p x r
   judged-laws x r h n J =
-      let e : r ≡ verdict p (wordsOf p x) = J .answers ∙ unblanked x h (unblank x (h .bytes) n) in
+      let e : r ≡ verdict p (wordsOf p x) = J .answers ∙ unblanked p A x h (unblank x (h .bytes) n) in
       record {
         member = rw e (verdict-member p R (wordsOf p x));
         sub-word = λ i. rw e (verdict-sub p R (wordsOf p x) i);
@@ -278,12 +278,11 @@ module _ (p : Parameters) (A : Accepted p) where
 
   judged-passing : (x : List ℕ) → IsPage p x → judgeAnswer p x ≡ Verdict.Member → Passing p (wordsOf p x)
   judged-passing x h e =
-      member-passing p R (wordsOf p x) (verdict-member p R (wordsOf p x) .0 (sym (unblanked x h (judged-else p x e)) ∙ e))
-      (page-words p R x h .many)
+      member-passing p R (wordsOf p x) (judged-member p A x h e) (page-words p R x h .many)
 
   passing-judged : (x : List ℕ) → IsPage p x → T (not (blank p x)) → Passing p (wordsOf p x) → judgeAnswer p x ≡ Verdict.Member
   passing-judged x h n M =
-      unblanked x h n ∙ verdict-member p R (wordsOf p x) .1 (passing-member p R (wordsOf p x) M (page-words p R x h .many))
+      member-judged p A x h n (passing-member p R (wordsOf p x) M (page-words p R x h .many))
 
   -- a page's words pass exactly when they are written again
   again-iff : (x : List ℕ) → IsPage p x → Passing p (wordsOf p x) ↔ (pageOf p (dataOf p x) ≡ x)
@@ -508,15 +507,10 @@ module _ (p : Parameters) (A : Accepted p) where
 
   -- the places that the definition counts are those of the words
   differences-are : (x y : List ℕ) → IsPage p x → IsPage p y
-      → differences p x y
-      ≡ addBelow (p .m) (λ i. countBelow (stored p) (λ k. not (eqb (coefficient (subWordOf p x i) k) (coefficient (subWordOf p y i) k))))
+      → differences p x y ≡ addBelow (p .m) (differing (stored p) (wordsOf p x) (wordsOf p y))
   unfolding differences
   differences-are x y h l =
-      addBelow-ext (p .m) (λ i. countBelow (stored p) (λ k. not (eqb (coefficientOf p x i k) (coefficientOf p y i k))))
-      (λ i. countBelow (stored p) (λ k. not (eqb (coefficient (subWordOf p x i) k) (coefficient (subWordOf p y i) k))))
-      (λ i b. countBelow-ext (stored p) (λ k. not (eqb (coefficientOf p x i k) (coefficientOf p y i k)))
-      (λ k. not (eqb (coefficient (subWordOf p x i) k) (coefficient (subWordOf p y i) k)))
-      (λ k c. ap₂ (λ (s t : ℕ). not (eqb s t)) (sym (sub-word-bit p R x (h .bytes) i k b c)) (sym (sub-word-bit p R y (l .bytes) i k b c))))
+      addBelow-ext (p .m) (flipsIn p x y) (differing (stored p) (wordsOf p x) (wordsOf p y)) (flips-are p A x y h l)
 
   apart : (x y : List ℕ) → Bytes x → Bytes y → Judged p x Verdict.Member → Judged p y Verdict.Member → x ≢ y
       → distance p ≤ differences p x y
@@ -1093,8 +1087,40 @@ module _ (p : Parameters) (A : Accepted p) where
           mends-of 1 x after i (length l) listed counted y z (rw z at (M .0 .buffer)) (rw z at (M .1 .buffer))
           (number-of counted (length (placesOf p x i)) (rw z at (M .2 .buffer)))
 
+  -- ---- a page mended through its nested words
+  pub page-mends : PageLaws p
+  page-mends = record {
+    done = λ x after o b M. (
+      (λ e. mend-page-zero p A x b .0 (sym (M .number) ∙ ap outcomeNumber e)),
+      (λ s. M .answers ∙ ap outcome (mend-page-zero p A x b .1 s)),
+    );
+    nowhere = λ x after o b M. (
+      (λ e. mend-page-17 p A x b .0 (sym (M .number) ∙ ap outcomeNumber e)),
+      (λ s. M .answers ∙ ap outcome (mend-page-17 p A x b .1 s)),
+    );
+    kept = λ x after k M. M .buffer ∙ leaves-refused (mendPageRefusal p x) _ x (refused-pos k (mendPageRefusal p x) (M .answers));
+    otherwise = λ x after o h M. either x after o M (mend-page-else p A x h);
+    clean = λ x after o b J M. comes x after x o M (mend-page-clean p A x b (sym (J .answers)));
+    back = λ z x after o b h J r M. comes x after z o M (mend-page-back p A z x h b (sym (J .answers)) r);
+    always = λ z x after o b h J f M. comes x after z o M (mend-page-always p A z x h b (sym (J .answers)) f);
+    enough = λ d x. v-enough p A d (wordsOf p x);
+  }
+    where
+      comes : (x after z : List ℕ) (o : Outcome) → PageMended p x after o → (mendPageRefusal p x ≡ 0) × (listOf (mendedPage p x) ≡ z)
+          → (o ≡ Outcome.Done) × (after ≡ z)
+      comes x after z o M s = (M .answers ∙ ap outcome (s .0), rw (s .0) at (M .buffer) ∙ s .1)
+
+      either : (x after : List ℕ) (o : Outcome) → PageMended p x after o
+          → ((mendPageRefusal p x ≡ 0) × IsPage p (listOf (mendedPage p x)) × (judgeAnswer p (listOf (mendedPage p x)) ≡ Verdict.Member))
+          ⊎ (mendPageRefusal p x ≡ 17)
+          → ((o ≡ Outcome.Done) × IsPage p after × ((r : Verdict) → Judged p after r → r ≡ Verdict.Member)) ⊎ ((o ≡ Outcome.Refused 17) × (after ≡ x))
+      either x after o M (inl s) =
+          let c = comes x after (listOf (mendedPage p x)) o M (s .0, refl) in
+          inl (c .0, rw (c .1) (s .1), (λ r J. J .answers ∙ ap (judgeAnswer p) (c .1) ∙ s .2))
+      either x after o M (inr e) = inr (M .answers ∙ ap outcome e, rw e at (M .buffer))
+
 pub shortening : Shortening
 shortening p z = (short-accepted p z, short-refused p z)
 
 pub demands : Demands
-demands p A = (demand2 p A, demand3 p A, bursts p A, many p A, alters p A, mends p A)
+demands p A = (demand2 p A, demand3 p A, bursts p A, many p A, alters p A, mends p A, page-mends p A)
