@@ -8,7 +8,7 @@ use Prim.Native.Nat.{ℕ, _+_, _-_, _%_, _^_, _≤_, _<_}
 use native.Mathlib.Nat as Nat
 use lib.Dec.{T, eqb}
 use lib.ListN.{length, getD}
-use Rattle.kernels.specs.Table.{RemainderBy}
+use Rattle.reduction.specs.Table.{RemainderBy}
 use Rattle.code.specs.declared.Parameters.{Parameters}
 use Rattle.code.specs.Calls.{generators}
 use Rattle.code.specs.Code.{degree, remainder, nested, failing, failingNested}

@@ -19,7 +19,7 @@ pub fn passes(t: &[u64], s: &[u8], n: usize, p: Parameters, a: usize, w: usize) 
     ensures { λ r. ⌜ r ≡ eqb (remainder p a (value 8 (now (s .entry)))) 0 ⌝ }
 {
     let mut r = [0u64; 13];
-    kernels::remainder::remainder_of(&mut r, t, s, n, 64, 768 - w);
+    reduction::remainder::remainder_of(&mut r, t, s, n, 64, 768 - w);
     kernels::row::is_zero(&r)
 }
 

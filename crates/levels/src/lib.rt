@@ -76,5 +76,5 @@ pub fn prepare(t: &mut [u64], p: Parameters, rows: [[u64; 13]; 4], a: usize, w: 
     let g = rows[a];
     let mut r = [0u64; 13];
     kernels::row::align(&mut r, &g, w);
-    kernels::table::build(t, &r);
+    reduction::table::build(t, &r);
 }
