@@ -3,9 +3,9 @@ use mathlib.Core.Path.{ap, _∙_}
 use Prim.Native.Nat.{ℕ}
 use Rattle.polynomial.specs.Digits.{value}
 use Rattle.code.specs.Layout.{oneBlock, pageOf}
-use Rattle.alter.specs.Unit.{moved-down}
-use Rattle.alter.proofs.short_page.Statement.{statement}
-use Rattle.alter.proofs.short_page.Tie as tie
+use Rattle.unit.specs.Unit.{moved-down}
+use Rattle.unit.proofs.short_page.Statement.{statement}
+use Rattle.unit.proofs.short_page.Tie as tie
 
 slice-aggregate-copy-down : tie.Need-slice-aggregate-copy-down
 slice-aggregate-copy-down c = search needs

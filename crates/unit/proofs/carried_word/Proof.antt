@@ -10,9 +10,9 @@ use Rattle.layout.specs.Sizes.{level-low}
 use Rattle.layout.specs.Written.{written}
 use Rattle.encode.specs.Encoding.{wordFrom}
 use Rattle.encode.specs.Loaded.{loaded-plain}
-use Rattle.alter.specs.Unit.{no-data}
-use Rattle.alter.proofs.carried_word.Statement.{statement}
-use Rattle.alter.proofs.carried_word.Tie as tie
+use Rattle.unit.specs.Unit.{no-data}
+use Rattle.unit.proofs.carried_word.Statement.{statement}
+use Rattle.unit.proofs.carried_word.Tie as tie
 
 level-of-requires : tie.Need-level-of-requires
 level-of-requires c κs = search needs

@@ -7,8 +7,8 @@ use Rattle.code.specs.Accepted.{accepted, lawful, width-below}
 use Rattle.code.specs.Code.{degree}
 use Rattle.code.specs.Parameters.{sheet}
 use Rattle.layout.specs.Sizes.{length-high}
-use Rattle.alter.proofs.shortest_of.Statement.{statement}
-use Rattle.alter.proofs.shortest_of.Tie as tie
+use Rattle.unit.proofs.shortest_of.Statement.{statement}
+use Rattle.unit.proofs.shortest_of.Tie as tie
 
 -- the degree of level v's generator is below n
 less : (c : tie.After-check-bits) → (let n = c .before .length-of .result in (c .check-bits .result) + 1 ≤ n)

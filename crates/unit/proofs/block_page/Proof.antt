@@ -5,9 +5,9 @@ use Prim.Native.Nat.{ℕ, _-_}
 use lib.ListN.{length-replicate}
 use Rattle.code.specs.Pages.{zeros-length}
 use Rattle.polynomial.specs.Digits.{value}
-use Rattle.alter.specs.Unit.{Built, built-next, built-start, room-high, unit-done}
-use Rattle.alter.proofs.block_page.Statement.{statement}
-use Rattle.alter.proofs.block_page.Tie as tie
+use Rattle.unit.specs.Unit.{Built, built-next, built-start, room-high, unit-done}
+use Rattle.unit.proofs.block_page.Statement.{statement}
+use Rattle.unit.proofs.block_page.Tie as tie
 
 abbrev Inv-loop : tie.InvT-loop
 Inv-loop p rows w unit₀ i d t₀ n acc₀ j₀ unit t acc j = Built p i (value 8 d) j unit t acc

@@ -2,8 +2,8 @@ use borrow.Author.Needs.{needs}
 use lib.Dec.{lit≤}
 use Rattle.layout.specs.Sizes.{level-low}
 use Rattle.encode.specs.Loaded.{loaded-plain}
-use Rattle.alter.proofs.own_word.Statement.{statement}
-use Rattle.alter.proofs.own_word.Tie as tie
+use Rattle.unit.proofs.own_word.Statement.{statement}
+use Rattle.unit.proofs.own_word.Tie as tie
 
 level-of-requires : tie.Need-level-of-requires
 level-of-requires c κs = search needs

@@ -1,7 +1,7 @@
 use mathlib.Core.Path.{sym}
 use native.Mathlib.Nat as Nat
-use Rattle.alter.proofs.lesser.Statement.{statement}
-use Rattle.alter.proofs.lesser.Tie as tie
+use Rattle.unit.proofs.lesser.Statement.{statement}
+use Rattle.unit.proofs.lesser.Tie as tie
 
 returns : tie.Need-returns
 returns c = sym (Nat.min-eq-left (Nat.le-of-suc-le (c .if1 .taken)))

@@ -10,9 +10,9 @@ use Rattle.code.specs.Accepted.{accepted, degree-high, lawful}
 use Rattle.code.specs.Code.{degree, gen, remainder}
 use Rattle.layout.specs.Sizes.{stored-high}
 use Rattle.encode.specs.Loaded.{loaded-plain}
-use Rattle.alter.specs.Unit.{no-data, put-in}
-use Rattle.alter.proofs.power_below.Statement.{statement}
-use Rattle.alter.proofs.power_below.Tie as tie
+use Rattle.unit.specs.Unit.{no-data, put-in}
+use Rattle.unit.proofs.power_below.Statement.{statement}
+use Rattle.unit.proofs.power_below.Tie as tie
 
 cast-v : tie.Need-cast-v
 cast-v c = search needs

@@ -9,9 +9,9 @@ use Rattle.code.specs.Code.{remainder}
 use Rattle.code.specs.Layout.{oneBlock, pageOf}
 use Rattle.code.specs.Parameters.{stored}
 use Rattle.layout.specs.Sizes.{check-below, stored-high}
-use Rattle.alter.specs.Short.{below-lt, data-below, shortest-accepted, shortest-degrees, shortest-rows}
-use Rattle.alter.proofs.work_out.Statement.{statement}
-use Rattle.alter.proofs.work_out.Tie as tie
+use Rattle.unit.specs.Short.{below-lt, data-below, shortest-accepted, shortest-degrees, shortest-rows}
+use Rattle.unit.proofs.work_out.Statement.{statement}
+use Rattle.unit.proofs.work_out.Tie as tie
 
 -- the bit's place
 place : (c : tie.After-check-bits) → (let a = c .before .before .before .before .before .args in (c .check-bits .result) + (a .r) < stored (a .p))
