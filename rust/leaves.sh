@@ -10,7 +10,7 @@ cp -r ../crates ../crates.txt "$copy"
 [ -d ../target ] && cp -r ../target "$copy"
 cp -r leaves/crate "$copy/crates/leaves"
 find "$copy/crates/leaves" -name '*.txt' -exec sh -c 'mv "$1" "${1%.txt}"' _ {} \;
-echo 'leaves: polynomial field generator code tables element kernels generator_rows sheet levels layout' >> "$copy/crates.txt"
+echo 'leaves: polynomial field generator code tables element kernels reduction generator_rows sheet levels layout' >> "$copy/crates.txt"
 (cd "$copy" && rt staticlib leaves && rt staticlib gii_bch) > target/leaves.log
 gcc -std=c11 -Wall -Wextra -Werror -O2 -I../include leaves/bench.c "$copy/target/staticlib/libleaves.a" "$copy/target/staticlib/libgii_bch.a" -o target/leaves
 target/leaves

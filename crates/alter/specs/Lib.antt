@@ -1,5 +1,3 @@
--- The page of a single bit, and a page with it added.
-pub mod Unit
-pub mod Short
+-- A page with that of a single bit added.
 pub mod Spread
 pub mod Sum

@@ -27,7 +27,7 @@ use Rattle.code.specs.Placement.{data-room, single-at, single-else, word-at}
 use Rattle.layout.specs.Parts.{page-parts}
 use Rattle.layout.specs.SubWords as S
 use Rattle.layout.specs.Written.{written, written-here, written-length, written-there}
-use Rattle.alter.specs.Short.{below, below-lt, data-below, dataBelow, place, shortest, shortest-accepted, shortest-stored, shortest-words, unit-split}
+use Rattle.unit.specs.Short.{below, below-lt, data-below, dataBelow, place, shortest, shortest-accepted, shortest-stored, shortest-words, unit-split}
 
 -- a word of a sheet with shorter sub-words has its place
 pub word-fits : (p q : Parameters) → Accepted q → (x : List ℕ) (k n : ℕ) → ((j : ℕ) → getD x j 0 < 2 ^ 8) → length x ≡ pageBytes q → k < q .m

@@ -19,10 +19,10 @@ use borrow.Author.Count.{below-more}
 use Rattle.polynomial.specs.Digits.{value}
 use Rattle.polynomial.specs.Division.{xor-lt}
 use Rattle.polynomial.specs.Xor.{xor, xors, xor-assoc, xor-is, xor-zero-r}
-use Rattle.kernels.specs.Build.{Putting, next-word, window}
 use Rattle.kernels.specs.Shift.{xor-block, xor-shl}
-use Rattle.kernels.specs.Table.{MovedUp, RemainderBy, four, row, row-clear, rowAt}
 use Rattle.kernels.specs.Value.{Bounded, bounded-drop, set-xor, take-lt, take-more, take-xor, value-append, value-lt, value-nil}
+use Rattle.reduction.specs.Build.{Putting, next-word, window}
+use Rattle.reduction.specs.Table.{MovedUp, RemainderBy, four, row, row-clear, rowAt}
 
 unfoldable pub half : ℕ
 half = 384

@@ -1,5 +1,5 @@
 // Remainders with a byte for a digit. A table has a row for each byte of a word, so that a step adds half as many rows as with hex
-// digits (kernels::table), of whose rows these are sums. A row has six words: the generator has a degree of at most 384, and moved up
+// digits (reduction::table), of whose rows these are sums. A row has six words: the generator has a degree of at most 384, and moved up
 // to degree 768 it is 0 in the six words below. 2,048 rows take 12,288 words, and as long to make as some eight remainders.
 ghost use mathlib.Core.Path.{_≡_};
 ghost use mathlib.Core.List.{List};
@@ -7,9 +7,9 @@ ghost use Prim.Native.Nat.{ℕ, _+_, _-_, _*_, _/_, _%_, _^_, _≤_, _<_};
 ghost use lib.ListN.{length, take};
 ghost use Rattle.polynomial.specs.Digits.{value};
 ghost use Rattle.polynomial.specs.Xor.{xor};
-ghost use Rattle.kernels.specs.Reduce.{TopAdded};
 ghost use Rattle.kernels.specs.Row.{D};
-ghost use Rattle.kernels.specs.Table.{MovedUp, Reduced, RemainderBy, four};
+ghost use Rattle.reduction.specs.Reduce.{TopAdded};
+ghost use Rattle.reduction.specs.Table.{MovedUp, Reduced, RemainderBy, four};
 ghost use Rattle.bytewise.specs.Bytes.{half, Six, Wide, Widened, sixAt, upperAt};
 
 // ---- the table
@@ -89,9 +89,9 @@ fn step(r: &mut [u64], b: &[u64], u: u64)
 {
     let top = r[11] ^ u;
     let mut v = [0u64; 12];
-    kernels::remainder::copy_next(&mut v, r, 6);
+    reduction::remainder::copy_next(&mut v, r, 6);
     add_top(&mut v, b, top);
-    kernels::remainder::copy(r, &v, 6);
+    reduction::remainder::copy(r, &v, 6);
 }
 
 // ---- a remainder
@@ -109,7 +109,7 @@ fn feed(r: &mut [u64], b: &[u64], s: &[u8], k: usize, w: usize)
         let u = kernels::bits::bits(s, w + 64 * i, 64);
         step(&mut v, b, u);
     }
-    kernels::remainder::copy(r, &v, 0);
+    reduction::remainder::copy(r, &v, 0);
 }
 
 // The remainder of s by the generator itself, of degree w, in the lowest words of r.
@@ -121,11 +121,11 @@ pub fn remainder_of(r: &mut [u64], b: &[u64], s: &[u8], w: usize)
     let n = 8 * s.len();
     kernels::row::clear(r);
     if n <= w {
-        kernels::remainder::add_low(r, s, n);
+        reduction::remainder::add_low(r, s, n);
         return;
     }
     let k = (n - w + 63) / 64;
     feed(r, b, s, k, w);
     kernels::row::lower(r, 768 - w);
-    kernels::remainder::add_low(r, s, w);
+    reduction::remainder::add_low(r, s, w);
 }

@@ -7,7 +7,7 @@ use mathlib.Core.List.{List}
 use Prim.Native.Nat.{ℕ, _-_, _≤_}
 use native.Mathlib.Omega.{arith}
 use lib.ListN.{length}
-use Rattle.kernels.specs.Table.{MovedUp, RemainderBy, moved-less}
+use Rattle.reduction.specs.Table.{MovedUp, RemainderBy, moved-less}
 use Rattle.bytewise.specs.Bytes.{Wide, Widened, half, half-is}
 use Rattle.code.specs.declared.Parameters.{Parameters}
 use Rattle.code.specs.Code.{degree, remainder}

@@ -119,7 +119,7 @@ pub fn check_of(
     ensures { λ x. ⌜ value 64 (now (r .exit)) ≡ remainder p a (value 8 (now (acc .entry))) ⌝ }
 {
     if t.len() == 3072 {
-        kernels::remainder::remainder_of(r, t, acc, 8 * acc.len(), width, 768 - w);
+        reduction::remainder::remainder_of(r, t, acc, 8 * acc.len(), width, 768 - w);
         return;
     }
     bytewise::remainder_of(r, t, acc, w);

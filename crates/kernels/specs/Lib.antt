@@ -14,10 +14,3 @@ pub mod Zero
 pub mod Move
 pub mod Degree
 pub mod Insert
-pub mod Table
-pub mod Step
-pub mod Sum
-pub mod Reduce
-pub mod Build
-pub mod Feed
-pub mod Above

@@ -9,17 +9,15 @@ use native.Mathlib.Nat as Nat
 use native.Mathlib.Omega.{arith}
 use lib.Arith.{digits-lt}
 use lib.Bits.{bitXor}
-use lib.ListN.{length, getD, take, drop, set, length-drop}
+use lib.ListN.{length, getD, take, drop, set}
 use lib.Pow.{pow-pos, pow-add, pow-mono, shl-lt, shr-lt, shr-shr, shr-le, high, low, split}
-use lib.Seq.{getD-drop}
 use Rattle.polynomial.specs.Digits.{value, value-at}
 use Rattle.polynomial.specs.Division.{Deg}
 use Rattle.polynomial.specs.Xor.{xor, xor-is, xor-assoc, xor-comm, xor-zero-r}
 use Rattle.kernels.specs.Remainder.{deg-up}
 use Rattle.kernels.specs.Row.{D, pow-D, set-top, by-top, D-is}
 use Rattle.kernels.specs.Shift.{join, up-down, up-up}
-use Rattle.kernels.specs.Table.{rowAt}
-use Rattle.kernels.specs.Value.{Bounded, bounded-all, bounded-drop, drop-next, drop-shr, same-at, set-xor}
+use Rattle.kernels.specs.Value.{Bounded, bounded-all, drop-next, drop-shr, same-at, set-xor}
 use Rattle.kernels.specs.Value.{take-lt, take-more, take-more-set, value-lt, value-nil}
 use Rattle.kernels.specs.Word.{moved, word-up, word-up-lt, word-sum, carry-lt, mod-mul-mod, window}
 
@@ -140,27 +138,6 @@ moving-start r v s =
 pub moving-done : (r : List ℕ) (s n c : ℕ) (v : List ℕ) (j : ℕ) → j ≡ 12 → Moving r s n c v j
     → value 64 v ≡ xor n (value 64 (take 12 r) * 2 ^ s % 2 ^ D)
 moving-done r s n c v j e M = rw pow-D (rw e at (M .sum))
-
--- the same for the row that stands at `at` in t: the word below is read off t
-pub row-moving-start : (t : List ℕ) (at s : ℕ) (v : List ℕ) → getD t (at - 1) 0 ≡ 0
-    → Moving (drop at t) s (value 64 v) (getD t (at + 0 - 1) 0 / 2 ^ (64 - s)) v 0
-row-moving-start t at s v z =
-    let e : at + 0 - 1 ≡ at - 1 = omega arith in
-    rw (e, z, Nat.zero-div) (moving-start (drop at t) v s)
-
-pub row-moving-turn : (t : List ℕ) (at s n : ℕ) (v : List ℕ) (j : ℕ) → Bounded 64 t → Bounded 64 v → s < 64 → at + j < length t
-    → j < length v → Moving (drop at t) s n (getD t (at + j - 1) 0 / 2 ^ (64 - s)) v j
-    → Moving (drop at t) s n (getD t (at + (j + 1) - 1) 0 / 2 ^ (64 - s))
-    (set v j (bitXor (bitXor (getD v j 0) (getD t (at + j) 0 * 2 ^ s % 2 ^ 64)) (getD t (at + j - 1) 0 / 2 ^ (64 - s)))) (j + 1)
-row-moving-turn t at s n v j bt bv h lt lv M =
-    let e : at + (j + 1) - 1 ≡ at + j = omega arith in
-    rw (e, ← getD-drop at t j 0)
-    (moving-turn (drop at t) s n _ v j (bounded-drop 64 t bt at) bv h (rw (length-drop at t) (omega arith)) lv M)
-
-pub row-moved-done : (t : List ℕ) (at s n c : ℕ) (v : List ℕ) (j : ℕ) → j ≡ 12 → Moving (drop at t) s n c v j
-    → value 64 v ≡ xor n (rowAt t at * 2 ^ s % 2 ^ D)
-unfolding rowAt
-row-moved-done t at s n c v j e M = moving-done (drop at t) s n c v j e M
 
 -- what passes the 12th word
 pub moved-top : (r : List ℕ) (s : ℕ) → Bounded 64 r → 12 ≤ length r → s ≤ 64

@@ -8,12 +8,13 @@ use native.Mathlib.Nat.{add-comm, not-suc-le-zero, le-of-suc-le-suc, mul-suc, po
 use native.Mathlib.Numerals.{add-one, one-add}
 use native.Mathlib.Omega.{arith}
 use lib.Arith.{digits-lt, digits-div}
+use lib.Bits.{bitXor}
 use lib.ListN.{length, getD, take, drop, set, take-append-drop}
 use lib.Pow.{pow-pos, pow-add, low, shr-shr}
 use lib.Seq.{take-suc-set, take-suc, length-take-le, drop-drop, getD-drop, drop-set-lt}
 use Rattle.polynomial.specs.Digits.{value}
 use Rattle.polynomial.specs.Sums.{All, at-all}
-use Rattle.polynomial.specs.Xor.{xor, xor-zero-r}
+use Rattle.polynomial.specs.Xor.{xor, xors, xor-is, xor-zero-r}
 use Rattle.kernels.specs.Shift.{join, xor-block}
 
 module _ (w : ℕ) where
@@ -136,3 +137,11 @@ same-at r r₀ i e =
     let z : i + 0 ≡ i = omega arith in
     ap (λ (n : ℕ). getD r n 0) (sym z) ∙ sym (getD-drop i r 0 0) ∙ ap (λ (l : List ℕ). getD l 0 0) e ∙ getD-drop i r₀ 0 0
     ∙ ap (λ (n : ℕ). getD r₀ n 0) z
+
+-- ---- a digit of r has one digit added
+pub add-turn : (k n : ℕ) (r A : List ℕ) (j : ℕ) → Bounded k r → Bounded k A → j < length r → j < length A
+    → value k r ≡ xor n (value k (take j A))
+    → value k (set r j (bitXor (getD r j 0) (getD A j 0))) ≡ xor n (value k (take (j + 1) A))
+add-turn k n r A j hr ha lr la e =
+    ap (λ (x : ℕ). value k (set r j x)) (xor-is (getD r j 0) (getD A j 0))
+    ∙ set-xor k r hr j (getD A j 0) lr (ha j) ∙ rw (take-xor k A ha j la, e) (simp xors)

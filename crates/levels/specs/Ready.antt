@@ -13,7 +13,7 @@ use Rattle.polynomial.specs.Division.{Deg, deg, deg-is, deg-unique, lt-of-deg}
 use Rattle.polynomial.specs.Multiple.{deg-pos}
 use Rattle.kernels.specs.Move.{align-deg}
 use Rattle.kernels.specs.Row.{D, D-is}
-use Rattle.kernels.specs.Table.{Table, MovedUp, moved-up, RemainderBy}
+use Rattle.reduction.specs.Table.{Table, MovedUp, moved-up, RemainderBy}
 use Rattle.code.specs.declared.Parameters.{Parameters}
 use Rattle.code.specs.Accepted.{Rules, accepted, degree-high, degree-of}
 use Rattle.code.specs.Buffers.{row-back, row-length}

@@ -77,7 +77,7 @@ pub fn prepare(t: &mut [u64], p: Parameters, rows: [[u64; 13]; 4], a: usize, w: 
     let g = rows[a];
     let mut r = [0u64; 13];
     kernels::row::align(&mut r, &g, w);
-    kernels::table::build(t, &r);
+    reduction::table::build(t, &r);
 }
 
 // The remainder of the word s, of n places at most, by level a's generator, whose table is t.
@@ -85,5 +85,5 @@ pub fn remainder_at(r: &mut [u64], t: &[u64], s: &[u8], n: usize, p: Parameters,
     requires { ⌜ Accepted p × (a ≤ p .v) × (w ≡ degree p a) × Prepared p a (now t) × (n < 4096) × (value 8 (now s) < 2 ^ n) × (length (now r) ≡ 13) ⌝ }
     ensures { λ x. ⌜ value 64 (now (r .exit)) ≡ remainder p a (value 8 (now (s .entry))) ⌝ }
 {
-    kernels::remainder::remainder_of(r, t, s, n, 64, 768 - w);
+    reduction::remainder::remainder_of(r, t, s, n, 64, 768 - w);
 }

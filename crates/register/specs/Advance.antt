@@ -11,9 +11,9 @@ use Rattle.polynomial.specs.Digits.{value, value-at, digits, digits-at, length-
 use Rattle.polynomial.specs.Xor.{xor}
 use Rattle.kernels.specs.Row.{D, D-is}
 use Rattle.kernels.specs.Shift.{xor-shl}
-use Rattle.kernels.specs.Sum.{Copied}
-use Rattle.kernels.specs.Table.{Reduced, lowered}
 use Rattle.kernels.specs.Value.{Bounded, bounded-all}
+use Rattle.reduction.specs.Sum.{Copied}
+use Rattle.reduction.specs.Table.{Reduced, lowered}
 use Rattle.code.specs.Accepted.{accepted, degree-high}
 use Rattle.code.specs.declared.Parameters.{Parameters}
 use Rattle.code.specs.Code.{degree, remainder}

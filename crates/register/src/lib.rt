@@ -58,7 +58,7 @@ fn advance(
     levels::prepare(&mut t, p, rows, a, w);
     let mut r = [0u64; 13];
     kernels::row::align(&mut r, &f, w);
-    kernels::remainder::step(&mut r, &t, u, l, 768 - w);
+    reduction::remainder::step(&mut r, &t, u, l, 768 - w);
     kernels::row::lower(&mut r, 768 - w);
     low_words(&r)
 }

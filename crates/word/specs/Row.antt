@@ -10,7 +10,7 @@ use lib.Pow.{pow-mono}
 use Rattle.polynomial.specs.Division.{Deg, rem, rem-lt, lt-of-deg}
 use Rattle.kernels.specs.Move.{align-deg}
 use Rattle.kernels.specs.Row.{D, D-is}
-use Rattle.kernels.specs.Table.{Table, MovedUp, moved-up, RemainderBy}
+use Rattle.reduction.specs.Table.{Table, MovedUp, moved-up, RemainderBy}
 
 -- the row and its degree as they are defined, of a polynomial below x^n
 pub row-as : (g w x k c n r : ℕ) → g ≡ x → w ≡ k → c < 2 ^ n → r ≡ rem g w (c % 2 ^ n) → r ≡ rem x k c

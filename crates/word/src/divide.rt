@@ -6,13 +6,13 @@ ghost use Rattle.polynomial.specs.Digits.{value};
 ghost use Rattle.polynomial.specs.Division.{Deg, rem, quot};
 ghost use Rattle.kernels.specs.Row.{D};
 ghost use Rattle.word.specs.Quotient.{Stepped};
-use kernels::remainder::remainder_of;
 use kernels::row::add;
 use kernels::row::align;
 use kernels::row::clear;
 use kernels::row::insert;
 use kernels::row::shift;
-use kernels::table::build;
+use reduction::remainder::remainder_of;
+use reduction::table::build;
 
 // The remainder of the n lowest coefficients of s by g, of degree w. A g of degree 0 is 1, and all is a multiple of it.
 pub fn remainder_by(r: &mut [u64], g: &[u64], w: usize, s: &[u8], n: usize)

@@ -5,8 +5,8 @@ use Prim.Native.Nat.{ℕ, _+_, _≤_}
 use lib.ListN.{replicate}
 use Rattle.code.specs.Pages.{zeros-length}
 use Rattle.layout.specs.Sizes.{check-below, stored-high}
-use Rattle.alter.specs.Short.{shortest-accepted, shortest-high}
-use Rattle.alter.specs.Unit.{no-data, zeros-take}
+use Rattle.unit.specs.Short.{shortest-accepted, shortest-high}
+use Rattle.unit.specs.Unit.{no-data, zeros-take}
 use Rattle.alter.proofs.add_bit.Statement.{statement}
 use Rattle.alter.proofs.add_bit.Tie as tie
 

@@ -5,7 +5,7 @@ use mathlib.Core.List.{List}
 use Prim.Native.Nat.{ℕ, _<_}
 use lib.ListN.{length, take}
 use Rattle.polynomial.specs.Digits.{value}
-use Rattle.kernels.specs.Reduce.{TopLeft, top-start, top-more, top-turn, top-done}
+use Rattle.reduction.specs.Reduce.{TopLeft, top-start, top-more, top-turn, top-done}
 use Rattle.bytewise.specs.Bytes.{Widened}
 use Rattle.bytewise.proofs.add_top.Statement.{statement}
 use Rattle.bytewise.proofs.add_top.Tie as tie

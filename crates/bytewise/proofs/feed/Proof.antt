@@ -7,10 +7,10 @@ use native.Mathlib.Nat as Nat
 use native.Mathlib.Omega.{arith}
 use lib.ListN.{length}
 use Rattle.polynomial.specs.Digits.{value}
-use Rattle.kernels.specs.Feed.{row-of-zeros, start-fed, taken-over, turn-fed}
 use Rattle.kernels.specs.Row.{D, D-is}
 use Rattle.kernels.specs.Shift.{up-all}
-use Rattle.kernels.specs.Table.{Reduced, reduced-low}
+use Rattle.reduction.specs.Feed.{row-of-zeros, start-fed, taken-over, turn-fed}
+use Rattle.reduction.specs.Table.{Reduced, reduced-low}
 use Rattle.bytewise.specs.Bytes.{Widened, half, half-is}
 use Rattle.bytewise.proofs.feed.Statement.{statement}
 use Rattle.bytewise.proofs.feed.Tie as tie

@@ -5,8 +5,8 @@ use Prim.Native.Nat.{_+_, _-_, _≤_}
 use native.Mathlib.Omega.{arith}
 use lib.ListN.{length, length-set}
 use Rattle.polynomial.specs.Xor.{xors}
-use Rattle.kernels.specs.Build.{Putting}
 use Rattle.kernels.specs.Value.{value-nil}
+use Rattle.reduction.specs.Build.{Putting}
 use Rattle.bytewise.specs.Bytes.{six-done, six-turn, sums}
 use Rattle.bytewise.proofs.put_row.Statement.{statement}
 use Rattle.bytewise.proofs.put_row.Tie as tie

@@ -5,7 +5,7 @@ use native.Mathlib.Nat as Nat
 use native.Mathlib.Omega.{arith}
 use lib.ListN.{length}
 use Rattle.polynomial.specs.Digits.{value}
-use Rattle.kernels.specs.Above.{short-rest, whole-rest}
+use Rattle.reduction.specs.Above.{short-rest, whole-rest}
 use Rattle.bytewise.specs.Bytes.{whole-remainder}
 use Rattle.bytewise.proofs.remainder_of.Statement.{statement}
 use Rattle.bytewise.proofs.remainder_of.Tie as tie

@@ -2,7 +2,7 @@ use borrow.Author.Needs.{needs}
 use mathlib.Core.Path.{refl, _∙_}
 use native.Mathlib.Omega.{arith}
 use lib.ListN.{replicate}
-use Rattle.kernels.specs.Above.{kept-clear, next-start, one-less, step-law, word-parts}
+use Rattle.reduction.specs.Above.{kept-clear, next-start, one-less, step-law, word-parts}
 use Rattle.bytewise.specs.Bytes.{half-is}
 use Rattle.bytewise.proofs.step.Statement.{statement}
 use Rattle.bytewise.proofs.step.Tie as tie

@@ -5,8 +5,8 @@ use native.Mathlib.Nat.{not-suc-le-zero}
 use native.Mathlib.Omega.{arith}
 use Prim.Native.Nat.{_-_, _≤_}
 use lib.ListN.{length, length-set}
-use Rattle.kernels.specs.Sum.{Copied, copy-start, copy-turn}
 use Rattle.kernels.specs.Value.{Bounded}
+use Rattle.reduction.specs.Sum.{Copied, copy-start, copy-turn}
 use Rattle.register.specs.Advance.{copied-digits}
 use Rattle.register.proofs.low_words.Statement.{statement}
 use Rattle.register.proofs.low_words.Tie as tie

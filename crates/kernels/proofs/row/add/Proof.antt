@@ -7,8 +7,7 @@ use lib.Seq.{take-all}
 use borrow.Author.Needs.{needs}
 use Rattle.polynomial.specs.Digits.{value}
 use Rattle.polynomial.specs.Xor.{xor, xors}
-use Rattle.kernels.specs.Sum.{add-turn}
-use Rattle.kernels.specs.Value.{value-nil}
+use Rattle.kernels.specs.Value.{add-turn, value-nil}
 use Rattle.kernels.proofs.row.add.Statement.{statement}
 use Rattle.kernels.proofs.row.add.Tie as tie
 
