@@ -167,7 +167,7 @@ module _ (p : Parameters) (A : Accepted p) where
 
       -- the page that comes of the words of z is z
       module _ (z : List ℕ) (u : IsPage p z) where
-        page-comes : words ≡ some (wordsOf p z) → (mendPageRefusal p x ≡ 0) × (listOf (mendedPage p x) ≡ z)
+        pub page-comes : words ≡ some (wordsOf p z) → (mendPageRefusal p x ≡ 0) × (listOf (mendedPage p x) ≡ z)
         page-comes e = (mend-page-zero (h .bytes) .1 (h, (wordsOf p z, e)), found-page (wordsOf p z) e ∙ join-words p R z u)
 
   pub mend-page-clean : (x : List ℕ) → Bytes x → judgeAnswer p x ≡ Verdict.Member → (mendPageRefusal p x ≡ 0) × (listOf (mendedPage p x) ≡ x)

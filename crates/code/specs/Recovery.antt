@@ -104,7 +104,7 @@ module _ (p : Parameters) (A : Accepted p) where
   both true false ws es e = absurd (none-some es e)
   both false b ws es e = absurd (none-some es e)
 
-  end-is : (ws es : List ℕ) → end p ws ≡ some es → IsMember p ws × T (not (allOnes p ws)) × (ws ≡ es)
+  pub end-is : (ws es : List ℕ) → end p ws ≡ some es → IsMember p ws × T (not (allOnes p ws)) × (ws ≡ es)
   end-is ws es h =
       let b = both (eqb (failingNumber p ws) 0) (not (allOnes p ws)) ws es (sym (end-eq p ws) ∙ h) in
       (verdict-member p R ws .0 (number-member p ws (eqb→eq (failingNumber p ws) 0 (b .0))), b .1, b .2)

@@ -74,8 +74,7 @@ same-length c = search needs
 returns : tie.Need-returns
 returns c =
     let o = c .before .before in
-    let k = o .before .before .before .before .before in
-    (
+    let k = o .before .before .before .before .before in (
       rw (found k) (o .settle .ensures .0),
       o .settle .ensures .1 ∙ found-is (count k) (p k .t0) (take (count k) (list k)) ∙ sym (ap (λ (u : Option (List ℕ)). not (nowhere u)) (found k)),
     )

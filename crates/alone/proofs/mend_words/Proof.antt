@@ -98,10 +98,9 @@ loop-again c =
     let n = c .before .before in
     let w = n .before .before .before .before in
     let t = w .before .before in
-    let o = nearest (p t) 0 (getD (wordsOf (p t) (l t .loop .page)) (l t .loop .i) 0) in
-    (
+    let o = nearest (p t) 0 (getD (wordsOf (p t) (l t .loop .page)) (l t .loop .i) 0) in (
       pass-next (p t) (alone (p t) (ws t)) (js t) (ws t) (l t .loop .page) (l t .loop .broken) (l t .loop .i) (l t .loop .b) (l t .loop .inv .0) (inside t) (rises t) o _ _ _ _
-      (same t) (rw (here t) (w .mend-word .ensures .0)) (w .mend-word .ensures .1) (n .note .ensures .0) (c .before .broken .given) (rw (here t) (n .note .ensures .1)),
+          (same t) (rw (here t) (w .mend-word .ensures .0)) (w .mend-word .ensures .1) (n .note .ensures .0) (c .before .broken .given) (rw (here t) (n .note .ensures .1)),
       omega (arith, t .loop-test .taken),
     )
 

@@ -39,8 +39,7 @@ returns-2 c =
     let f = c .before .before in
     let i = f .before .before in
     let s = start i in
-    let a = s .args in
-    (
+    let a = s .args in (
       settled-some (a .p) (s .pre .0) (a .page .now) (s .pre .1) (a .i) (s .pre .2) (a .c) (a .k) (a .list .now) (few i) _ (s .pre .4 (few i)) (f .flip-in .ensures),
       sym (le-leb (a .c) (a .k) (few i)),
     )

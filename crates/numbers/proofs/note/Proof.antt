@@ -31,8 +31,7 @@ same-length c = search needs
 returns-2 : tie.Need-returns-2
 returns-2 c =
     let s = c .before in
-    let a = s .args in
-    (
+    let a = s .args in (
       Nat.le-refl (a .b + 1),
       ap (λ (k : ℕ). take k (set (a .list .now) (a .b) (a .i))) (add-one (a .b)) ∙ take-suc-set (a .list .now) (a .b) (a .i) (s .pre)
           ∙ sym (ap (λ (b : Bool). take (a .b) (a .list .now) ++ cond b [] (a .i ∷ [])) (c .if1 .left)),

@@ -1,0 +1,2 @@
+-- What the code of a page mended through its nested words is proved by.
+pub mod Ends
