@@ -24,6 +24,10 @@ if [ -z "${GII_ARCHIVE:-}" ]; then
     echo "the archive exports $exported and needs $undefined"
 fi
 
+# The C side takes one processor: the Rust side is built beside it.
+(cargo test --offline --quiet --release --no-run && cargo build --offline --quiet --release) > target/built 2>&1 &
+built=$!
+
 echo '#include "gii_bch.h"' > target/header.c
 gcc -std=c99 "${warnings[@]}" -fsyntax-only -I../include target/header.c
 g++ -std=c++11 "${warnings[@]}" -fsyntax-only -I../include -x c++ target/header.c
@@ -63,9 +67,11 @@ else
     echo 'valgrind is not here: the runs under it are left out'
 fi
 
+wait "$built" || { cat target/built; exit 1; }
+cat target/built
+
 # The tests, the comparison and the examples of gii-bch's documentation among them.
 cargo test --offline --quiet --release
-cargo build --offline --quiet --release
 target/release/sheets > target/sheets.md
 sed -n '/^|/p' ../docs/SHEETS.md | cmp -s - target/sheets.md || { echo 'docs/SHEETS.md is not what cargo run --release --bin sheets makes'; exit 1; }
 target/release/fuzz "${FUZZ:-360000}"
