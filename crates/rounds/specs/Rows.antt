@@ -12,11 +12,11 @@ use native.Mathlib.Omega.{arith}
 use lib.ListN.{length, getD, set, length-set}
 use lib.Seq.{getD-set-same, getD-set-other}
 use Rattle.field.specs.Elements.{syndrome, syndrome-lt}
-use Rattle.field.specs.Fields.{Known}
 use Rattle.code.specs.declared.Parameters.{Parameters}
+use Rattle.code.specs.Accepted.{accepted, rising}
 use Rattle.code.specs.Code.{nested, oddSyndromes}
 use Rattle.code.specs.Odd.{length-odd, odd-at}
-use Rattle.code.specs.Parameters.{strength}
+use Rattle.code.specs.Parameters.{Accepted, strength}
 use Rattle.massey.specs.Entries.{Below}
 
 pub record PutRow (r : List ℕ) (l : ℕ) (a b : List ℕ) : Type 0 where
@@ -63,14 +63,21 @@ putting-last {r} {l} {k} {a} {b} P h = record { size = P .size; inside = λ i j.
     out e (inl j) = P .outside e (inl j)
     out e (inr j) = P .outside e (inr (omega (arith, P .within)))
 
+-- a row has room for the syndromes
+pub row-room : (p : Parameters) → Accepted p → (a : ℕ) → a ≤ p .v → strength p a ≤ 64
+row-room p A a h = let R = accepted p A in Nat.le-trans (rising p R a (p .v) h (Nat.le-refl (p .v))) (R .high)
+
+pub row-size : (p : Parameters) (t c : ℕ) (r : List ℕ) → r ≡ oddSyndromes p t c → length r ≡ t
+row-size p t c r e = ap length e ∙ length-odd p t c
+
 -- ---- a row of syndromes more
 pub sums-first : (p : Parameters) (a : ℕ) (ws rows : List ℕ) → length rows ≡ 192 → Below (p .q) rows → Sums p a ws 0 rows
 sums-first p a ws rows e h = record { size = e; below = h; is = λ l k i j. absurd (Nat.not-suc-le-zero i) }
 
-module _ {p : Parameters} {a : ℕ} {ws : List ℕ} {l : ℕ} {rows : List ℕ} (S : Sums p a ws l rows) (known : Known (p .q)) (few : strength p a ≤ 64)
+module _ {p : Parameters} {a : ℕ} {ws : List ℕ} {l : ℕ} {rows : List ℕ} (A : Accepted p) (av : a ≤ p .v) (S : Sums p a ws l rows)
     {r b : List ℕ} (e : r ≡ oddSyndromes p (strength p a) (nested p l ws)) (P : PutRow r l rows b) where
-  size : length r ≡ strength p a
-  size = ap length e ∙ length-odd p (strength p a) (nested p l ws)
+  abbrev size : length r ≡ strength p a
+  size = row-size p (strength p a) (nested p l ws) r e
 
   here : (k : ℕ) → k < strength p a → getD b (64 * l + k) 0 ≡ syndrome (p .q) (nested p l ws) (2 * k + 1)
   here k h = P .inside k (omega (arith, size)) ∙ ap (λ (r : List ℕ). getD r k 0) e ∙ odd-at p (strength p a) (nested p l ws) k h
@@ -87,8 +94,8 @@ module _ {p : Parameters} {a : ℕ} {ws : List ℕ} {l : ℕ} {rows : List ℕ} 
       small i (no h) (yes o) = rw (P .outside i (inr (omega (arith, size)))) (S .below .lt i)
       small i (no h) (no o) =
           let j : 64 * l + (i - 64 * l) ≡ i = omega arith in
-          rw (← j, here (i - 64 * l) (omega arith)) (syndrome-lt (p .q) known (nested p l ws) (2 * (i - 64 * l) + 1))
+          rw (← j, here (i - 64 * l) (omega arith)) (syndrome-lt (p .q) (accepted p A .known) (nested p l ws) (2 * (i - 64 * l) + 1))
 
       row : (i k : ℕ) → k < strength p a → (i ≡ l) ⊎ (i < l) → getD b (64 * i + k) 0 ≡ syndrome (p .q) (nested p i ws) (2 * k + 1)
       row i k h (inl j) = rw j (here k h)
-      row i k h (inr j) = P .outside (64 * i + k) (inl (omega arith)) ∙ S .is i k j h
+      row i k h (inr j) = P .outside (64 * i + k) (inl (omega (arith, row-room p A a av))) ∙ S .is i k j h
