@@ -5,7 +5,8 @@ use mathlib.Core.List.{List, [], _∷_}
 use Prim.Native.Nat.{ℕ, zero, suc, _+_, _*_, _≤_, _<_}
 use native.Mathlib.Nat as Nat
 use native.Mathlib.Omega.{arith}
-use lib.ListN.{length, getD}
+use lib.ListN.{length, getD, replicate}
+use lib.Pow.{pow-pos}
 use Rattle.field.specs.Elements.{syndrome}
 use Rattle.field.specs.Flips.{Rising}
 use Rattle.field.specs.Odd.{fromOdd}
@@ -15,6 +16,7 @@ use Rattle.code.specs.Code.{nested}
 use Rattle.code.specs.Nest.{Mem, Work, errorOf, errorSyndrome, errorSyndrome-eq, found, found-eq, others, round, round-broken, round-words, roundLevel}
 use Rattle.code.specs.Parameters.{Accepted, strength}
 use Rattle.code.specs.Rounds.{error-agree, error-odd, mem-from, mendAll-agree, others-apart, others-fewer, round-level, unfound-agree}
+use Rattle.massey.specs.Entries.{Below}
 use Rattle.mend.specs.Settled.{Held, Passed, pass-last}
 use Rattle.unmix.specs.Nodes.{unmixedAt, weightAt-eq}
 use Rattle.unmix.specs.Weights.{weight-agree}
@@ -56,3 +58,12 @@ module _ (p : Parameters) (A : Accepted p) (W : Work) (few : length (W .broken) 
       pass-last p (foundBy p a rows (W .broken)) (W .broken) (W .words) y l c b P h k (round p W)
       (round-words p W ∙ sym (mendAll-agree (foundBy p a rows (W .broken)) (found p W) (W .broken) (W .words) found-same))
       (round-broken p W ∙ sym (unfound-agree (foundBy p a rows (W .broken)) (found p W) (W .broken) found-same))
+
+-- rows before the first sums
+pub below-zeros : (q n : ℕ) → Below q (replicate n 0)
+below-zeros q n = record { lt = λ i. rw (zeros-at n i) (pow-pos q) }
+  where
+    zeros-at : (n i : ℕ) → getD (replicate n 0) i 0 ≡ 0
+    zeros-at zero i = refl
+    zeros-at (suc n) zero = refl
+    zeros-at (suc n) (suc i) = zeros-at n i
