@@ -5,8 +5,8 @@ use mathlib.Core.Path.{_≡_, sym, ap, _∙_}
 use mathlib.Core.Bool.{Bool, not}
 use mathlib.Core.Logic.{_≢_}
 use mathlib.Core.List.{List, [], _∷_, map}
-use mathlib.Core.Option.{Option, some}
-use Prim.Native.Nat.{ℕ, suc, _+_, _-_, _*_, _/_, _%_, _^_, _≤_, _<_, zero-le}
+use mathlib.Core.Option.{Option}
+use Prim.Native.Nat.{ℕ, _+_, _-_, _*_, _/_, _^_, _≤_, _<_, zero-le}
 use native.Mathlib.Nat as Nat
 use native.Mathlib.Omega.{arith}
 use lib.Dec.{leb}
@@ -15,7 +15,7 @@ use lib.ListN.{length, getD, take}
 use Rattle.polynomial.specs.Sums.{All}
 use Rattle.field.specs.Elements.{power, power-num, times}
 use Rattle.field.specs.Field.{pow-mul}
-use Rattle.field.specs.Fields.{BinaryField, Known, fieldOf, fieldOf-exponent}
+use Rattle.field.specs.Fields.{Known, fieldOf, fieldOf-exponent}
 use Rattle.field.specs.Flips.{Rising}
 use Rattle.field.specs.Odd.{fromOdd, fromOdd-even, fromOdd-is, fromOdd-odd}
 use Rattle.field.specs.Unmix.{unmix}
@@ -140,9 +140,11 @@ module _ {p : Parameters} {f : Field} {powers logs : List ℕ} (L : Lent p f pow
     others-small = rw e (below-eight i (p .m) (others i ks) (rules .m-high) (others-apart i 0 (p .m) ks (Q .rising)))
 
     pub others-nodes : (t : ℕ) → t ≡ k → Apart (f .q) t i l
-    others-nodes t w = rw (L .field, e) (record { at = λ j h.
-        apart-at p (L .accepts) a (Q .level) (2 * j + 1) i (omega arith)
-        (omega (arith, h, w, Q .strength, rising p rules a (p .v) (Q .level) (Nat.le-refl (p .v)))) asked-below (others i ks) (others-apart i 0 (p .m) ks (Q .rising)) })
+    others-nodes t w = rw (L .field, e) (record {
+      at = λ j h.
+          apart-at p (L .accepts) a (Q .level) (2 * j + 1) i (omega arith)
+          (omega (arith, h, w, Q .strength, rising p rules a (p .v) (Q .level) (Nat.le-refl (p .v)))) asked-below (others i ks) (others-apart i 0 (p .m) ks (Q .rising));
+    })
 
     -- its odd syndromes, and what is found by them
     module _ (t : ℕ) (w : t ≡ k) (o : List ℕ) (made : o ≡ map (unmixedAt (f .q) rows l i) (range 0 t)) where

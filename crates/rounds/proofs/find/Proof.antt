@@ -47,8 +47,7 @@ error-into-requires : tie.Need-error-into-requires
 error-into-requires c κs =
     let o = c .before .before .before .before in
     let s = start o in
-    let l = o .others-into .ensures .1 in
-    (
+    let l = o .others-into .ensures .1 in (
       s .pre .0 .tables,
       rw (s .pre .0 .field) (s .pre .1 .below),
       s .pre .1 .size,
@@ -68,8 +67,7 @@ locate-requires c κs =
     let e = z .before .before .before in
     let o = e .before .before .before .before .before in
     let s = start o in
-    let l = o .others-into .ensures .1 in
-    (
+    let l = o .others-into .ensures .1 in (
       s .pre .0 .tables,
       odd-below (s .pre .0) (s .pre .1) (s .args .i) (s .pre .2) _ l _ (size o) _ (e .error-into .ensures),
       asked-few (s .pre .0) (s .pre .1) (s .args .i) (s .pre .2),

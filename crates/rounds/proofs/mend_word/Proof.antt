@@ -22,8 +22,7 @@ settle-requires : tie.Need-settle-requires
 settle-requires c κs =
     let r = c .before .before in
     let f = r .before in
-    let s = start f in
-    (
+    let s = start f in (
       s .pre .0 .accepts,
       s .pre .3,
       asked-below (s .pre .0) (s .pre .1) (s .args .i) (s .pre .2),
@@ -39,7 +38,8 @@ returns c =
     let t = c .before .before in
     let f = t .before .before .before .before in
     let s = start f in
-    settled-found (s .args .p) (s .args .page .now) (s .args .i) _ (f .find .result) (s .args .k) (take (f .find .result) (f .find .last .1 .1 .1 .1 .1 .1 .1 .1 .1 .0)) _ _ (f .find .ensures) (t .settle .ensures)
+    let l = take (f .find .result) (f .find .last .1 .1 .1 .1 .1 .1 .1 .1 .1 .0) in
+    settled-found (s .args .p) (s .args .page .now) (s .args .i) _ (f .find .result) (s .args .k) l _ _ (f .find .ensures) (t .settle .ensures)
 
 pub mend-word-spec : {M : Type 1} → statement M
 mend-word-spec =

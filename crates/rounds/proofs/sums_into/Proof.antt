@@ -55,8 +55,11 @@ put-row-requires : tie.Need-put-row-requires Inv-loop μ-loop
 put-row-requires c κs =
     let n = c .before .before .before .before in
     let l = n .before .before .before in
-    let s = start (l .before .before) in
-    (l .loop .inv .0 .size, omega (arith, n .before .before .loop-test .taken, s .pre .7, accepted _ (s .pre .0) .v-high), Nat.le-trans (Nat.le-of-eq (row-size _ _ _ _ (n .nested-sums .ensures))) (row-room (s .args .p) (s .pre .0) (s .args .a) (s .pre .4)))
+    let s = start (l .before .before) in (
+      l .loop .inv .0 .size,
+      omega (arith, n .before .before .loop-test .taken, s .pre .7, accepted _ (s .pre .0) .v-high),
+      Nat.le-trans (Nat.le-of-eq (row-size _ _ _ _ (n .nested-sums .ensures))) (row-room (s .args .p) (s .pre .0) (s .args .a) (s .pre .4)),
+    )
 
 add-l : tie.Need-add-l Inv-loop μ-loop
 add-l c = search needs
@@ -69,8 +72,11 @@ loop-again c =
     let r = c .before .before in
     let n = r .before .before .before .before .before in
     let l = n .before .before .before in
-    let s = start (l .before .before) in
-    (sums-next (s .pre .0) (s .pre .4) (l .loop .inv .0) (n .nested-sums .ensures) (r .put-row .ensures), row-size _ _ _ _ (n .nested-sums .ensures), search needs)
+    let s = start (l .before .before) in (
+      sums-next (s .pre .0) (s .pre .4) (l .loop .inv .0) (n .nested-sums .ensures) (r .put-row .ensures),
+      row-size _ _ _ _ (n .nested-sums .ensures),
+      search needs,
+    )
 
 same-length : tie.Need-same-length Inv-loop μ-loop
 same-length c = search needs
