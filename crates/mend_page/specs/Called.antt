@@ -1,18 +1,21 @@
 -- What the call answers, and the page copied.
-use mathlib.Core.Path.{_≡_, sym, ap, ap₂, _∙_}
+use mathlib.Core.Path.{_≡_, refl, sym, ap, ap₂, _∙_}
 use mathlib.Core.Bool.{Bool, true, false, not, _&&_}
 use mathlib.Core.List.{List}
+use mathlib.Core.Option.{Option, none, some}
 use Prim.Native.Nat.{ℕ, _*_, _%_, _^_, _<_}
 use native.Mathlib.Nat as Nat
 use lib.Dec.{T, eqb, eqb→eq, lit<}
 use lib.ListN.{length, getD}
-use Rattle.polynomial.specs.Digits.{digits, digits-value, value, value-lt}
+use Rattle.polynomial.specs.Digits.{digits, digits-value, value}
+use Rattle.kernels.specs.Value.{value-lt}
 use Rattle.polynomial.specs.Sums.{at-all}
 use Rattle.code.specs.declared.Outcome.{Outcome}
 use Rattle.code.specs.declared.Parameters.{Parameters}
 use Rattle.code.specs.Accepted.{Rules, accepted}
 use Rattle.code.specs.Answers.{made-done, made-refused, number-member}
 use Rattle.code.specs.Calls.{PageMended}
+use Rattle.code.specs.Chains.{true-false}
 use Rattle.code.specs.Code.{failingNumber}
 use Rattle.code.specs.Judge.{verdict-member}
 use Rattle.code.specs.Layout.{IsPage, blank, wordsOf}
@@ -22,7 +25,7 @@ use Rattle.code.specs.Nest.{mendPage}
 use Rattle.code.specs.Pages.{page-words}
 use Rattle.code.specs.Parameters.{Accepted}
 use Rattle.code.specs.Recovery.{mendPage-member}
-use Rattle.code.specs.Refusals.{mendPageRefusal, pageRefusal}
+use Rattle.code.specs.Refusals.{mendPageRefusal, nowhere, pageRefusal}
 use Rattle.mend_page.specs.Ends.{Ends}
 
 -- ---- bytes copied
@@ -30,10 +33,19 @@ pub copied : (x y : List ℕ) → ((i : ℕ) → getD x i 0 < 2 ^ 8) → ((i : �
     → value 8 y ≡ value 8 x * 2 ^ 0 % 2 ^ (8 * length y) → y ≡ x
 copied x y bx by e v =
     let X = at-all (λ d. d < 2 ^ 8) x (λ i l. bx i) in
-    let w : value 8 y ≡ value 8 x = v ∙ ap (λ (n : ℕ). n % 2 ^ (8 * length y)) (Nat.mul-one (value 8 x)) ∙ Nat.mod-eq-of-lt (rw e (value-lt 8 x X)) in
+    let w : value 8 y ≡ value 8 x = v ∙ ap (λ (n : ℕ). n % 2 ^ (8 * length y)) (Nat.mul-one (value 8 x)) ∙ Nat.mod-eq-of-lt (rw e (value-lt 8 x bx)) in
     sym (digits-value 8 y (at-all (λ d. d < 2 ^ 8) y (λ i l. by i))) ∙ ap₂ (digits 8) e w ∙ digits-value 8 x X
 
 -- ---- the answer
+both : (a b : Bool) → true ≡ (a && b) → T a × T b
+both true true e = (tt, tt)
+both true false e = absurd (true-false e)
+both false b e = absurd (true-false e)
+
+none-found : (o : Option (List ℕ)) → false ≡ not (nowhere o) → T (nowhere o)
+none-found none e = tt
+none-found (some R) e = absurd (true-false (sym e))
+
 module _ (p : Parameters) (x : List ℕ) where
   pub mended-refused : (k : ℕ) → k ≡ pageRefusal p x → (k ≡ 0 → ⊥) → PageMended p x x (Outcome.Refused k)
   mended-refused k e h = made-refused (mendPageRefusal p x) k _ x (sym (mend-page-first p x k e h)) (Nat.pos-of-ne-zero h) (mend-page-le p x)
@@ -49,7 +61,7 @@ module _ (p : Parameters) (x : List ℕ) where
 
     pub mended-nowhere : (y : List ℕ) → Ends p (mendPage p (wordsOf p x)) y false → PageMended p x x (Outcome.Refused 17)
     mended-nowhere y E =
-        made-refused (mendPageRefusal p x) 17 _ x (mend-page-17 p A x (h .bytes) .1 (h, is-nowhere (mendPage p (wordsOf p x)) (none-found E))) (lit< tt) (mend-page-le p x)
+        made-refused (mendPageRefusal p x) 17 _ x (mend-page-17 p A x (h .bytes) .1 (h, is-nowhere (mendPage p (wordsOf p x)) (none-found (mendPage p (wordsOf p x)) (E .found)))) (lit< tt) (mend-page-le p x)
 
     pub mended-member : true ≡ (eqb (failingNumber p (wordsOf p x)) 0 && not (blank p x)) → PageMended p x x Outcome.Done
     mended-member e =

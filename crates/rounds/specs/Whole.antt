@@ -63,7 +63,7 @@ module _ (p : Parameters) (A : Accepted p) (W : Work) (few : length (W .broken) 
 pub below-zeros : (q n : ℕ) → Below q (replicate n 0)
 below-zeros q n = record { lt = λ i. rw (zeros-at n i) (pow-pos q) }
   where
-    zeros-at : (n i : ℕ) → getD (replicate n 0) i 0 ≡ 0
+    zeros-at : (n i : ℕ) → _≡_ {A = ℕ} (getD (replicate n 0) i 0) 0
     zeros-at zero i = refl
     zeros-at (suc n) zero = refl
     zeros-at (suc n) (suc i) = zeros-at n i

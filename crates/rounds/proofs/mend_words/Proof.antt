@@ -4,7 +4,7 @@ use mathlib.Core.List.{List}
 use Prim.Native.Nat.{ℕ, _+_, _-_, _≤_, _<_, zero-le}
 use native.Mathlib.Nat as Nat
 use native.Mathlib.Omega.{arith}
-use lib.Dec.{lit≤}
+use lib.Dec.{lit<, lit≤}
 use lib.ListN.{length, getD}
 use Rattle.code.specs.declared.Parameters.{Parameters}
 use Rattle.code.specs.Accepted.{Rules, accepted}
@@ -114,7 +114,10 @@ note-requires c κs =
     omega (arith, t .loop-test .taken, s l .pre .6, accepted (p l) (s l .pre .0 .accepts) .v-high, l .loop .inv .0 .room, l .loop .inv .0 .size)
 
 add-c : tie.Need-add-c Inv-loop μ-loop
-add-c c = search needs
+add-c c =
+    let t = c .before .before .before .before .before .before .before .before .before .before in
+    let l = t .before in
+    record { fits = Nat.lt-of-le-of-lt (omega (arith, t .loop-test .taken, s l .pre .6, accepted (p l) (s l .pre .0 .accepts) .v-high)) (lit< {m = 3} tt) }
 
 loop-less : tie.Need-loop-less Inv-loop μ-loop
 loop-less c = search needs
