@@ -1,5 +1,5 @@
 -- What the call answers, and the page copied.
-use mathlib.Core.Path.{_≡_, refl, sym, ap, ap₂, _∙_}
+use mathlib.Core.Path.{_≡_, sym, ap, ap₂, _∙_}
 use mathlib.Core.Bool.{Bool, true, false, not, _&&_}
 use mathlib.Core.List.{List}
 use mathlib.Core.Option.{Option, none, some}
@@ -29,12 +29,15 @@ use Rattle.code.specs.Refusals.{mendPageRefusal, nowhere, pageRefusal}
 use Rattle.mend_page.specs.Ends.{Ends}
 
 -- ---- bytes copied
-pub copied : (x y : List ℕ) → ((i : ℕ) → getD x i 0 < 2 ^ 8) → ((i : ℕ) → getD y i 0 < 2 ^ 8) → length y ≡ length x
-    → value 8 y ≡ value 8 x * 2 ^ 0 % 2 ^ (8 * length y) → y ≡ x
-copied x y bx by e v =
+pub copied : (x y : List ℕ) (k : ℕ) → ((i : ℕ) → getD x i 0 < 2 ^ 8) → ((i : ℕ) → getD y i 0 < 2 ^ 8) → length y ≡ length x → k ≡ length x
+    → value 8 y ≡ value 8 x * 2 ^ 0 % 2 ^ (8 * k) → y ≡ x
+copied x y k bx by e f v =
     let X = at-all (λ d. d < 2 ^ 8) x (λ i l. bx i) in
-    let w : value 8 y ≡ value 8 x = v ∙ ap (λ (n : ℕ). n % 2 ^ (8 * length y)) (Nat.mul-one (value 8 x)) ∙ Nat.mod-eq-of-lt (rw e (value-lt 8 x bx)) in
+    let w : value 8 y ≡ value 8 x = v ∙ ap (λ (n : ℕ). n % 2 ^ (8 * k)) (Nat.mul-one (value 8 x)) ∙ Nat.mod-eq-of-lt (rw f (value-lt 8 x bx)) in
     sym (digits-value 8 y (at-all (λ d. d < 2 ^ 8) y (λ i l. by i))) ∙ ap₂ (digits 8) e w ∙ digits-value 8 x X
+
+pub ends-copied : (p : Parameters) (x w y : List ℕ) (r : Bool) → w ≡ x → Ends p (mendPage p (wordsOf p w)) y r → Ends p (mendPage p (wordsOf p x)) y r
+ends-copied p x w y r e E = rw e at E
 
 -- ---- the answer
 both : (a b : Bool) → true ≡ (a && b) → T a × T b
@@ -54,14 +57,14 @@ module _ (p : Parameters) (x : List ℕ) where
     R : Rules p
     R = accepted p A
 
-    pub mended-done : (y z : List ℕ) → Ends p (mendPage p (wordsOf p x)) y true → z ≡ y → PageMended p x z Outcome.Done
-    mended-done y z E e =
-        let c = page-comes p A x h y (E .page) (E .words refl) in
+    pub mended-done : (y z : List ℕ) (r : Bool) → r ≡ true → Ends p (mendPage p (wordsOf p x)) y r → z ≡ y → PageMended p x z Outcome.Done
+    mended-done y z r t E e =
+        let c = page-comes p A x h y (E .page) (E .words t) in
         made-done (mendPageRefusal p x) _ x z (c .0) (e ∙ sym (c .1))
 
-    pub mended-nowhere : (y : List ℕ) → Ends p (mendPage p (wordsOf p x)) y false → PageMended p x x (Outcome.Refused 17)
-    mended-nowhere y E =
-        made-refused (mendPageRefusal p x) 17 _ x (mend-page-17 p A x (h .bytes) .1 (h, is-nowhere (mendPage p (wordsOf p x)) (none-found (mendPage p (wordsOf p x)) (E .found)))) (lit< tt) (mend-page-le p x)
+    pub mended-nowhere : (y : List ℕ) (r : Bool) → r ≡ false → Ends p (mendPage p (wordsOf p x)) y r → PageMended p x x (Outcome.Refused 17)
+    mended-nowhere y r t E =
+        made-refused (mendPageRefusal p x) 17 _ x (mend-page-17 p A x (h .bytes) .1 (h, is-nowhere (mendPage p (wordsOf p x)) (none-found (mendPage p (wordsOf p x)) (sym t ∙ E .found)))) (lit< tt) (mend-page-le p x)
 
     pub mended-member : true ≡ (eqb (failingNumber p (wordsOf p x)) 0 && not (blank p x)) → PageMended p x x Outcome.Done
     mended-member e =

@@ -2,6 +2,7 @@
 --   Stands p y l b    a page, and the first b numbers of a list of 8 are those of its broken sub-words, rising
 --   inWork p y l b    such a page in work
 --   Ends p o y r      r says whether o, the words of the mended page, are found, and then the page y has them
+--   saysMember r      the verdict is that of a member
 --   Turning p o y l n after some rounds such a page stands from which o comes
 use mathlib.Core.Path.{_≡_, refl, sym, ap, ap₂, _∙_}
 use mathlib.Core.Bool.{Bool, true, false, not, _&&_, cond}
@@ -10,13 +11,16 @@ use mathlib.Core.Option.{Option, none, some}
 use Prim.Native.Nat.{ℕ, _≤_, _<_}
 use native.Mathlib.Nat as Nat
 use native.Mathlib.Omega.{arith}
-use lib.Dec.{eqb}
+use lib.Dec.{T, eqb, eqb→eq}
 use lib.ListN.{length, take}
 use lib.Seq.{length-take-le}
 use Rattle.field.specs.Flips.{Rising}
 use Rattle.code.specs.declared.Parameters.{Parameters}
+use Rattle.code.specs.declared.Verdict.{Verdict}
 use Rattle.code.specs.Accepted.{Rules, accepted}
-use Rattle.code.specs.Chains.{true-false}
+use Rattle.code.specs.Answers.{number-member}
+use Rattle.code.specs.Calls.{Named, verdictNumber}
+use Rattle.code.specs.Chains.{both-ways, true-false}
 use Rattle.code.specs.Code.{failingNumber}
 use Rattle.code.specs.Layout.{IsPage, blank, wordsOf}
 use Rattle.code.specs.Mending.{blank-words}
@@ -45,6 +49,34 @@ pub record Ends (p : Parameters) (o : Option (List ℕ)) (y : List ℕ) (r : Boo
 pub record Turning (p : Parameters) (o : Option (List ℕ)) (y l : List ℕ) (n : ℕ) : Type 0 where
   pub stands : Stands p y l n
   pub same : o ≡ rounds p (p .v) (inWork p y l n)
+
+-- ---- a member
+abbrev pub saysMember : Verdict → Bool
+saysMember Verdict.Member = true
+saysMember Verdict.Blank = false
+saysMember (Verdict.SubWord i) = false
+saysMember (Verdict.NestedWord l) = false
+saysMember (Verdict.Refused k) = false
+
+pub member-blank : (a b : Bool) → b ≡ true → false ≡ (a && not b)
+member-blank true b e = rw e refl
+member-blank false b e = refl
+
+pub member-else : (p : Parameters) (cs : List ℕ) (r : Verdict) (m b : Bool) → Named p cs r → m ≡ saysMember r → b ≡ false → m ≡ (eqb (failingNumber p cs) 0 && not b)
+member-else p cs r m b N e f =
+    e ∙ both-ways (saysMember r) (eqb (failingNumber p cs) 0) (says r (N .number)) (λ t. rw (N .answers ∙ number-member p cs (eqb→eq (failingNumber p cs) 0 t)) tt)
+    ∙ sym (ap (λ (b : Bool). eqb (failingNumber p cs) 0 && not b) f ∙ and-true (eqb (failingNumber p cs) 0))
+  where
+    and-true : (a : Bool) → (a && true) ≡ a
+    and-true true = refl
+    and-true false = refl
+
+    says : (r : Verdict) → verdictNumber r ≡ failingNumber p cs → T (saysMember r) → T (eqb (failingNumber p cs) 0)
+    says Verdict.Member n t = rw (← n) tt
+    says Verdict.Blank n t = absurd t
+    says (Verdict.SubWord i) n t = absurd t
+    says (Verdict.NestedWord l) n t = absurd t
+    says (Verdict.Refused k) n t = absurd t
 
 -- ---- the end
 pub ends-none : (p : Parameters) (o : Option (List ℕ)) (y : List ℕ) → IsPage p y → o ≡ none → Ends p o y false

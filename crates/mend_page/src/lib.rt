@@ -2,16 +2,15 @@
 // is broken; the end page must be a member. A member is left as it is.
 ghost use mathlib.Core.Path.{_≡_};
 ghost use mathlib.Core.Bool.{_&&_, not};
-ghost use Prim.Native.Nat.{_≤_, _<_};
 ghost use lib.Dec.{eqb};
-ghost use lib.ListN.{length, take};
+ghost use lib.ListN.{take};
 ghost use Rattle.code.specs.Calls.{PageMended, generators};
 ghost use Rattle.code.specs.Code.{failingNumber};
 ghost use Rattle.code.specs.Layout.{IsPage, blank, wordsOf};
 ghost use Rattle.code.specs.Nest.{mendPage, rounds};
 ghost use Rattle.code.specs.Parameters.{Accepted};
 ghost use Rattle.mend.specs.Settled.{Lent};
-ghost use Rattle.mend_page.specs.Ends.{Ends, Stands};
+ghost use Rattle.mend_page.specs.Ends.{Ends, Stands, saysMember};
 use code::Outcome;
 use code::Parameters;
 use code::Verdict;
@@ -23,6 +22,19 @@ use tables::powers4;
 use tables::powers8;
 use tables::powers12;
 
+// Is it the verdict of a member?
+fn says_member(r: Verdict) -> bool
+    ensures { λ b. ⌜ b ≡ saysMember r ⌝ }
+{
+    match r {
+        Verdict::Member => true,
+        Verdict::Blank => false,
+        Verdict::SubWord(_) => false,
+        Verdict::NestedWord(_) => false,
+        Verdict::Refused(_) => false,
+    }
+}
+
 // Is the page a member, and not blank?
 fn is_member(p: Parameters, rows: [[u64; 13]; 4], page: &[u8]) -> bool
     requires { ⌜ Accepted p × (rows ≡ generators p) × IsPage p (now page) ⌝ }
@@ -31,23 +43,8 @@ fn is_member(p: Parameters, rows: [[u64; 13]; 4], page: &[u8]) -> bool
     if layout::page_blank(p, page) {
         return false;
     }
-    let Verdict::Member = judge::verdict_of(p, rows, page) else {
-        return false;
-    };
-    true
-}
-
-// The numbers of one list put into another.
-fn copy(to: &mut [u16], from: &[u16])
-    requires { ⌜ length (now to) ≡ length (now from) ⌝ }
-    ensures { λ x. ⌜ now (to .exit) ≡ now (from .entry) ⌝ }
-{
-    let n = to.len();
-    let mut i: usize = 0;
-    while i < n {
-        to[i] = from[i];
-        i += 1;
-    }
+    let r = judge::verdict_of(p, rows, page);
+    says_member(r)
 }
 
 // Rounds until none is broken, the first b numbers of the list being those of the broken sub-words: whether a member comes of it, and then the page
@@ -76,7 +73,7 @@ fn mend_rounds(
         if n <= c {
             return false;
         }
-        copy(broken, &left);
+        syndrome::copy(broken, &left);
         n = c;
     }
     is_member(p, rows, page)

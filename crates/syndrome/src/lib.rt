@@ -82,7 +82,8 @@ fn advance(f: Field, e: &mut [u16], d: &[u16])
     }
 }
 
-fn copy(to: &mut [u16], from: &[u16])
+// The numbers of one list put into another.
+pub fn copy(to: &mut [u16], from: &[u16])
     requires { ⌜ length (now to) ≡ length (now from) ⌝ }
     ensures { λ x. ⌜ now (to .exit) ≡ now (from .entry) ⌝ }
 {
@@ -94,7 +95,7 @@ fn copy(to: &mut [u16], from: &[u16])
     }
 }
 
-// S_1, S_3, .., as many as the list has places, of the word with ones at the places l; e and d hold these.
+// S_1, S_3, .., as many as the list has places, of the word with ones at the places that e and d hold.
 fn sums_into(list: &mut [u16], powers: &[u16], f: Field, e: &mut [u16], d: &mut [u16])
     requires { ⌜ Roots f (now powers) × (length (now e) ≡ length (now d)) × Places (2 ^ f .q - 1) (length (now e)) (now e)
         × Places (2 ^ f .q - 1) (length (now d)) (now d) × (now d ≡ now e) ⌝ }

@@ -128,10 +128,9 @@ loop-again c =
     let w = n .before .before .before .before in
     let t = w .before .before .before .before in
     let l = t .before in
-    let g = foundBy (p l) (s l .args .a) (rows l) (ks l) in
-    (
+    let g = foundBy (p l) (s l .args .a) (rows l) (ks l) in (
       pass-next (p l) g (ks l) (ws l) (l .loop .page) (l .loop .left) (l .loop .c) (l .loop .n) (l .loop .inv .0) (t .loop-test .taken) (s l .pre .7) (g (getD (ks l) (l .loop .c) 0)) _ _ _ _
-      refl (w .mend-word .ensures .0) (w .mend-word .ensures .1) (n .note .ensures .0) (c .before .left .given) (n .note .ensures .1),
+          refl (w .mend-word .ensures .0) (w .mend-word .ensures .1) (n .note .ensures .0) (c .before .left .given) (n .note .ensures .1),
       omega (arith, t .loop-test .taken),
     )
 
