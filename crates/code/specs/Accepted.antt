@@ -214,3 +214,6 @@ module _ (p : Parameters) (R : Rules p) where
 
   pub degree-of : (a : ℕ) → a ≤ p .v → Deg (gen p a) (degree p a)
   degree-of = lawful .degrees
+
+pub strength-high : (p : Parameters) → Accepted p → (a : ℕ) → a ≤ p .v → strength p a ≤ 64
+strength-high p A a h = let R = accepted p A in Nat.le-trans (rising p R a (p .v) h (Nat.le-refl (p .v))) (R .high)

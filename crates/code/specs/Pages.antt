@@ -345,3 +345,8 @@ module _ (p : Parameters) (R : Rules p) where
 -- ---- a part of a room of zeros
 pub zeros-length : (n m : ℕ) → n ≤ m → length {A = ℕ} (take n (replicate m 0)) ≡ n
 zeros-length n m h = length-take n (replicate {A = ℕ} m 0) ∙ Nat.min-eq-left (rw (length-replicate {A = ℕ} m 0) h)
+
+pub zeros-at : (n i : ℕ) → _≡_ {A = ℕ} (getD (replicate n 0) i 0) 0
+zeros-at zero i = refl
+zeros-at (suc n) zero = refl
+zeros-at (suc n) (suc i) = zeros-at n i

@@ -5,7 +5,7 @@
 use mathlib.Core.Path.{_≡_, refl, sym, ap, _∙_}
 use mathlib.Core.Bool.{Bool, true, false}
 use mathlib.Core.List.{List}
-use Prim.Native.Nat.{ℕ, zero, suc, _+_, _*_, _/_, _%_, _^_, _≤_, _<_}
+use Prim.Native.Nat.{ℕ, suc, _+_, _*_, _/_, _%_, _^_, _≤_, _<_}
 use native.Mathlib.Nat as Nat
 use native.Mathlib.Omega.{arith}
 use lib.Dec.{ltb}
@@ -15,6 +15,7 @@ use lib.Seq.{ext-getD, getD-set-other}
 use borrow.Author.Tests.{ltb-true, ltb-false}
 use Rattle.polynomial.specs.Digits.{digits, digits-at, length-digits}
 use Rattle.field.specs.Fields.{fieldOf}
+use Rattle.code.specs.Pages.{zeros-at}
 use Rattle.code.specs.Placement.{first-more}
 use Rattle.generator.specs.Generator.{generator}
 use Rattle.tables.specs.Generators.{Generators}
@@ -33,12 +34,7 @@ pub record Filled (f : ℕ → ℕ) (k : ℕ) (l : List ℕ) : Type 0 where
 
 module _ (f : ℕ → ℕ) where
   pub filled-start : (n : ℕ) → Filled f 0 (replicate n 0)
-  filled-start n = record { first = λ a h. absurd (Nat.not-suc-le-zero h); rest = λ a h. go n a }
-    where
-      go : (n a : ℕ) → _≡_ {A = ℕ} (getD (replicate n 0) a 0) 0
-      go zero a = refl
-      go (suc n) zero = refl
-      go (suc n) (suc a) = go n a
+  filled-start n = record { first = λ a h. absurd (Nat.not-suc-le-zero h); rest = λ a h. zeros-at n a }
 
   pub filled-next : (k d : ℕ) (l : List ℕ) → k < length l → Filled f k l → d ≡ f k → Filled f (k + 1) (set l k d)
   filled-next k d l h c e = record {

@@ -6,7 +6,7 @@ use native.Mathlib.Nat as Nat
 use native.Mathlib.Omega.{arith}
 use lib.Dec.{lit<}
 use Rattle.code.specs.declared.Parameters.{Parameters}
-use Rattle.code.specs.Accepted.{accepted}
+use Rattle.code.specs.Accepted.{accepted, strength-high}
 use Rattle.code.specs.Answers.{size-c}
 use Rattle.code.specs.Calls.{SizeC, sizeUnless}
 use Rattle.code.specs.Code.{distance}
@@ -16,7 +16,6 @@ use Rattle.code.specs.Theorems.{demand3}
 use Rattle.layout.specs.Parts.{block-room, bytes-high}
 use Rattle.layout.specs.Sizes.{data-low, page-high, stored-low}
 use Rattle.sizes.specs.declared.Size.{Size}
-use Rattle.sizes.specs.Least.{strength-high}
 use Rattle.sizes.specs.Sized.{Sized, sizeBy}
 
 abbrev pub sizeFound : Size → ℕ

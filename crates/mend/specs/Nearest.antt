@@ -3,7 +3,7 @@
 use mathlib.Core.Path.{_≡_, refl, sym, ap, _∙_}
 use mathlib.Core.Logic.{_↔_}
 use mathlib.Core.List.{List, map}
-use mathlib.Core.Option.{Option, none, some}
+use mathlib.Core.Option.{Option}
 use Prim.Native.Nat.{ℕ, suc, _-_, _*_, _^_, _≤_, _<_, zero-le, _+_}
 use native.Mathlib.Nat as Nat
 use native.Mathlib.Decide.{decLe}

@@ -27,7 +27,7 @@ use Rattle.code.specs.Mend.{flipped-page, flipped-words}
 use Rattle.code.specs.Nest.{Mem, Work, keptBy, mendAll, mendAll-nil, mendBy, unfound, unfound-nil}
 use Rattle.code.specs.Parameters.{Accepted, stored}
 use Rattle.code.specs.Refusals.{nowhere}
-use Rattle.code.specs.Rounds.{mem-from, mendAll-append, mendAll-else, mendAll-one, unfound-append, unfound-one}
+use Rattle.code.specs.Rounds.{mendAll-append, mendAll-else, mendAll-one, unfound-append, unfound-one}
 use Rattle.element.specs.declared.Field.{Field}
 use Rattle.element.specs.Fields.{fieldAt}
 use Rattle.element.specs.Lent.{Tables}

@@ -22,7 +22,7 @@ use Rattle.field.specs.Unmix.{unmix}
 use Rattle.locator.specs.Found.{complete, locate-agree, sound}
 use Rattle.locator.specs.Locate.{kept, locate}
 use Rattle.code.specs.declared.Parameters.{Parameters}
-use Rattle.code.specs.Accepted.{Rules, accepted, rising, stored-le}
+use Rattle.code.specs.Accepted.{Rules, accepted, rising, stored-le, strength-high}
 use Rattle.code.specs.Filled.{map-at, map-length}
 use Rattle.code.specs.Lists.{range}
 use Rattle.code.specs.Mend.{same-option}
@@ -36,7 +36,6 @@ use Rattle.massey.specs.Entries.{Below, el}
 use Rattle.mend.specs.Settled.{Lent, Settled, found-is}
 use Rattle.unmix.specs.Nodes.{Apart, unmixedAt, weightAt, weightAt-eq}
 use Rattle.unmix.specs.Sums.{below-map}
-use Rattle.rounds.specs.Rows.{row-room}
 
 abbrev pub foundBy : Parameters → ℕ → List ℕ → List ℕ → ℕ → Option (List ℕ)
 foundBy p a rows ks i = errorOf p a (fromOdd (p .q) (unmixedAt (p .q) rows (others i ks) i))
@@ -114,7 +113,7 @@ module _ {p : Parameters} {f : Field} {powers logs : List ℕ} (L : Lent p f pow
   rules = accepted p (L .accepts)
 
   pub asked-few : k ≤ 64
-  asked-few = rw (Q .strength) (row-room p (L .accepts) a (Q .level))
+  asked-few = rw (Q .strength) (strength-high p (L .accepts) a (Q .level))
 
   pub asked-below : i < p .m
   asked-below = mem-from 0 (p .m) ks i (Q .rising) m .1

@@ -13,7 +13,7 @@ use lib.ListN.{length, getD, set, length-set}
 use lib.Seq.{getD-set-same, getD-set-other}
 use Rattle.field.specs.Elements.{syndrome, syndrome-lt}
 use Rattle.code.specs.declared.Parameters.{Parameters}
-use Rattle.code.specs.Accepted.{accepted, rising}
+use Rattle.code.specs.Accepted.{accepted, strength-high}
 use Rattle.code.specs.Code.{nested, oddSyndromes}
 use Rattle.code.specs.Odd.{length-odd, odd-at}
 use Rattle.code.specs.Parameters.{Accepted, strength}
@@ -63,10 +63,6 @@ putting-last {r} {l} {k} {a} {b} P h = record { size = P .size; inside = λ i j.
     out e (inl j) = P .outside e (inl j)
     out e (inr j) = P .outside e (inr (omega (arith, P .within)))
 
--- a row has room for the syndromes
-pub row-room : (p : Parameters) → Accepted p → (a : ℕ) → a ≤ p .v → strength p a ≤ 64
-row-room p A a h = let R = accepted p A in Nat.le-trans (rising p R a (p .v) h (Nat.le-refl (p .v))) (R .high)
-
 pub row-size : (p : Parameters) (t c : ℕ) (r : List ℕ) → r ≡ oddSyndromes p t c → length r ≡ t
 row-size p t c r e = ap length e ∙ length-odd p t c
 
@@ -98,4 +94,4 @@ module _ {p : Parameters} {a : ℕ} {ws : List ℕ} {l : ℕ} {rows : List ℕ} 
 
       row : (i k : ℕ) → k < strength p a → (i ≡ l) ⊎ (i < l) → getD b (64 * i + k) 0 ≡ syndrome (p .q) (nested p i ws) (2 * k + 1)
       row i k h (inl j) = rw j (here k h)
-      row i k h (inr j) = P .outside (64 * i + k) (inl (omega (arith, row-room p A a av))) ∙ S .is i k j h
+      row i k h (inr j) = P .outside (64 * i + k) (inl (omega (arith, strength-high p A a av))) ∙ S .is i k j h

@@ -14,6 +14,7 @@ use Rattle.code.specs.declared.Parameters.{Parameters}
 use Rattle.code.specs.Accepted.{Rules, accepted, rising}
 use Rattle.code.specs.Code.{nested}
 use Rattle.code.specs.Nest.{Mem, Work, errorOf, errorSyndrome, errorSyndrome-eq, found, found-eq, others, round, round-broken, round-words, roundLevel}
+use Rattle.code.specs.Pages.{zeros-at}
 use Rattle.code.specs.Parameters.{Accepted, strength}
 use Rattle.code.specs.Rounds.{error-agree, error-odd, mem-from, mendAll-agree, others-apart, others-fewer, round-level, unfound-agree}
 use Rattle.massey.specs.Entries.{Below}
@@ -62,8 +63,3 @@ module _ (p : Parameters) (A : Accepted p) (W : Work) (few : length (W .broken) 
 -- rows before the first sums
 pub below-zeros : (q n : ℕ) → Below q (replicate n 0)
 below-zeros q n = record { lt = λ i. rw (zeros-at n i) (pow-pos q) }
-  where
-    zeros-at : (n i : ℕ) → _≡_ {A = ℕ} (getD (replicate n 0) i 0) 0
-    zeros-at zero i = refl
-    zeros-at (suc n) zero = refl
-    zeros-at (suc n) (suc i) = zeros-at n i

@@ -5,17 +5,13 @@ use Prim.Native.Nat.{ℕ, zero, suc, _+_, _-_, _*_, _≤_, _<_, min}
 use native.Mathlib.Nat as Nat
 use native.Mathlib.Omega.{arith}
 use Rattle.code.specs.declared.Parameters.{Parameters}
-use Rattle.code.specs.Accepted.{accepted, rising}
 use Rattle.code.specs.Code.{distance, least}
-use Rattle.code.specs.Parameters.{Accepted, strength}
+use Rattle.code.specs.Parameters.{strength}
 
 pub record Lowest (p : Parameters) (b d : ℕ) : Type 0 where
   pub low : 1 ≤ b
   pub high : b ≤ p .v + 1
   pub is : d ≡ least p (b - 1)
-
-pub strength-high : (p : Parameters) → Accepted p → (a : ℕ) → a ≤ p .v → strength p a ≤ 64
-strength-high p A a h = let R = accepted p A in Nat.le-trans (rising p R a (p .v) h (Nat.le-refl (p .v))) (R .high)
 
 module _ (p : Parameters) where
   pub lowest-start : (t d : ℕ) → t ≡ strength p 0 → d ≡ (p .v + 1) * (2 * t + 1) → Lowest p 1 d

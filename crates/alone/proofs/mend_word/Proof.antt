@@ -1,9 +1,9 @@
 use borrow.Author.Needs.{needs}
-use mathlib.Core.Path.{_≡_, refl, sym, ap, _∙_}
-use mathlib.Core.Bool.{Bool, not}
+use mathlib.Core.Path.{_≡_, sym, ap, _∙_}
+use mathlib.Core.Bool.{not}
 use mathlib.Core.List.{List}
 use mathlib.Core.Option.{Option}
-use Prim.Native.Nat.{ℕ, _^_, _<_, zero-le}
+use Prim.Native.Nat.{ℕ, zero-le}
 use native.Mathlib.Nat as Nat
 use native.Mathlib.Omega.{arith}
 use lib.Dec.{leb}
@@ -14,7 +14,6 @@ use Rattle.code.specs.Accepted.{accepted, rising}
 use Rattle.code.specs.Code.{nearest}
 use Rattle.code.specs.Layout.{wordsOf}
 use Rattle.code.specs.Pages.{word-lt}
-use Rattle.code.specs.Parameters.{stored}
 use Rattle.code.specs.Refusals.{nowhere}
 use Rattle.mend.specs.Settled.{found-is}
 use Rattle.alone.specs.Alone.{places-rise}

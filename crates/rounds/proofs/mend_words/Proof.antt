@@ -1,18 +1,18 @@
 use borrow.Author.Needs.{needs}
-use mathlib.Core.Path.{_≡_, refl, sym, ap, _∙_}
+use mathlib.Core.Path.{refl}
 use mathlib.Core.List.{List}
-use Prim.Native.Nat.{ℕ, _+_, _-_, _≤_, _<_, zero-le}
+use Prim.Native.Nat.{ℕ, _-_, _≤_, _<_, zero-le}
 use native.Mathlib.Nat as Nat
 use native.Mathlib.Omega.{arith}
 use lib.Dec.{lit<, lit≤}
 use lib.ListN.{length, getD}
 use Rattle.code.specs.declared.Parameters.{Parameters}
-use Rattle.code.specs.Accepted.{Rules, accepted}
+use Rattle.code.specs.Accepted.{accepted}
 use Rattle.code.specs.Layout.{wordsOf}
-use Rattle.code.specs.Nest.{Mem, Work}
+use Rattle.code.specs.Nest.{Work}
 use Rattle.mend.specs.Settled.{Passed, pass-first, pass-next}
 use Rattle.syndrome.specs.Sum.{table-roots}
-use Rattle.rounds.specs.Found.{Asked, foundBy}
+use Rattle.rounds.specs.Found.{foundBy}
 use Rattle.rounds.specs.Rows.{Sums}
 use Rattle.rounds.specs.Whole.{below-zeros, mem-at, round-held}
 use Rattle.rounds.proofs.mend_words.Statement.{statement}

@@ -4,11 +4,11 @@ use Prim.Native.Nat.{_-_, _≤_}
 use native.Mathlib.Nat as Nat
 use native.Mathlib.Omega.{arith}
 use lib.ListN.{length}
-use Rattle.code.specs.Accepted.{accepted}
+use Rattle.code.specs.Accepted.{accepted, strength-high}
 use Rattle.code.specs.Layout.{wordsOf}
 use Rattle.code.specs.Pages.{zeros-length}
 use Rattle.code.specs.Parameters.{strength}
-use Rattle.rounds.specs.Rows.{Sums, row-room, row-size, sums-first, sums-next}
+use Rattle.rounds.specs.Rows.{Sums, row-size, sums-first, sums-next}
 use Rattle.rounds.proofs.sums_into.Statement.{statement}
 use Rattle.rounds.proofs.sums_into.Tie as tie
 
@@ -22,7 +22,7 @@ abbrev start : tie.After-strength-at Inv-loop μ-loop → tie.Start Inv-loop μ-
 start k = k .before .before .before .before .before
 
 few : (k : tie.After-strength-at Inv-loop μ-loop) → k .strength-at .result ≤ 64
-few k = let s = start k in rw (k .strength-at .ensures) (row-room (s .args .p) (s .pre .0) (s .args .a) (s .pre .4))
+few k = let s = start k in rw (k .strength-at .ensures) (strength-high (s .args .p) (s .pre .0) (s .args .a) (s .pre .4))
 
 cast-strength-at : tie.Need-cast-strength-at Inv-loop μ-loop
 cast-strength-at c = let s = c .before .before .before .before in omega (arith, s .pre .4, accepted _ (s .pre .0) .v-high)
@@ -58,7 +58,7 @@ put-row-requires c κs =
     let s = start (l .before .before) in (
       l .loop .inv .0 .size,
       omega (arith, n .before .before .loop-test .taken, s .pre .7, accepted _ (s .pre .0) .v-high),
-      Nat.le-trans (Nat.le-of-eq (row-size _ _ _ _ (n .nested-sums .ensures))) (row-room (s .args .p) (s .pre .0) (s .args .a) (s .pre .4)),
+      Nat.le-trans (Nat.le-of-eq (row-size _ _ _ _ (n .nested-sums .ensures))) (strength-high (s .args .p) (s .pre .0) (s .args .a) (s .pre .4)),
     )
 
 add-l : tie.Need-add-l Inv-loop μ-loop

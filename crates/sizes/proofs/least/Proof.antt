@@ -1,8 +1,8 @@
 use borrow.Author.Needs.{needs}
 use native.Mathlib.Omega.{arith}
 use Prim.Native.Nat.{_+_, _-_, _≤_, zero-le}
-use Rattle.code.specs.Accepted.{accepted}
-use Rattle.sizes.specs.Least.{Lowest, lowest-start, lowest-turn, lowest-done, strength-high}
+use Rattle.code.specs.Accepted.{accepted, strength-high}
+use Rattle.sizes.specs.Least.{Lowest, lowest-start, lowest-turn, lowest-done}
 use Rattle.sizes.proofs.least.Statement.{statement}
 use Rattle.sizes.proofs.least.Tie as tie
 
