@@ -1,5 +1,5 @@
 // The C calls: the numbers of a sheet one by one, buffers as byte slices, the answer as a number. Each tests everything.
-ghost use Rattle.code.specs.Calls.{AlteredC, MendedC, WrittenC, WrittenManyC, JudgedC, ReadOutC, SyndromesMadeC, NestedSyndromesMadeC, AllMadeC, QuoteMadeC, SizeC};
+ghost use Rattle.code.specs.Calls.{AlteredC, MendedC, PageMendedC, WrittenC, WrittenManyC, JudgedC, ReadOutC, SyndromesMadeC, NestedSyndromesMadeC, AllMadeC, QuoteMadeC, SizeC};
 ghost use Rattle.code.specs.Code.{distance};
 ghost use Rattle.code.specs.Layout.{dataBytes, pageBytes};
 ghost use Rattle.code.specs.Parameters.{sheet};
@@ -144,6 +144,35 @@ pub extern "C" fn gii_mend(
         s,
     };
     mend_bytes(p, page, index as usize, places, flips)
+}
+
+// The page mended, each sub-word by itself and then through the nested words.
+#[no_mangle]
+pub extern "C" fn gii_mend_page(
+    q: u32,
+    m: u32,
+    v: u32,
+    t0: u32,
+    t1: u32,
+    t2: u32,
+    t3: u32,
+    s: u32,
+    page: &mut [u8],
+) -> u32
+    ensures { λ r. ⌜ PageMendedC (sheet q m v t0 t1 t2 t3 s) (now (page .entry)) (now (page .exit)) r ⌝ }
+{
+    let p = Parameters {
+        q,
+        m,
+        v,
+        t0,
+        t1,
+        t2,
+        t3,
+        s,
+    };
+    let r = mend_page::mend_page(p, page);
+    outcome_number(r)
 }
 
 // Is the page a member, and if not, which word fails first?
