@@ -9,7 +9,7 @@
  *   machine   x86-64 with SSE2, which every x86-64 has, and the System V calling convention, its red zone included; the
  *             code is position-independent
  *   symbols   memcpy and memset, from the C library or the firmware; nothing else is left undefined
- *   stack     at most 128 KiB for gii_write_many, at most 64 KiB for gii_mend, at most 64 KiB for gii_mend_page, and at most
+ *   stack     at most 128 KiB for gii_write_many, at most 64 KiB for gii_mend, at most 96 KiB for gii_mend_page, and at most
  *             32 KiB for every other function
  *   threads   calls may run at once in several threads, each on buffers of its own
  *

@@ -1,6 +1,6 @@
 /*
  * How much stack each call takes, on the largest sheet and on shortened ones: a thread on a painted stack. Prints the most of
- * all sheets. Fails above 128 KiB for write of many pages, above 64 KiB for mend and for mend page, and above 32 KiB for every
+ * all sheets. Fails above 128 KiB for write of many pages, above 64 KiB for mend, above 96 KiB for mend page, and above 32 KiB for every
  * other call.
  */
 #define _GNU_SOURCE
@@ -16,7 +16,7 @@
 #define LIMIT ((size_t)32 * 1024)
 #define MANY_LIMIT ((size_t)128 * 1024)
 #define MEND_LIMIT ((size_t)64 * 1024)
-#define MEND_PAGE_LIMIT ((size_t)64 * 1024)
+#define MEND_PAGE_LIMIT ((size_t)96 * 1024)
 #define PAINT 0xA5
 
 /* Full sub-words; half of them; a whole number of bytes; the least that is accepted; the most that are flipped. */
