@@ -87,10 +87,10 @@ def powers(q):
 
 def syndrome(q, word, j):
     """The sum over k of the coefficient of x^k times alpha^(j k)."""
-    alpha, out = powers(q), 0
+    alpha, n, out = powers(q), 2 ** q - 1, 0
     for k, b in enumerate(word):
         if b:
-            out ^= alpha[j * k % len(alpha)]
+            out ^= alpha[j * k % n]
     return out
 
 
@@ -258,7 +258,8 @@ def blocks_of_page(sheet, page):
 
 def turned(word, places):
     """x^places times the word, where x^n = 1."""
-    return [word[(k - places) % len(word)] for k in range(len(word))]
+    cut = -places % len(word)
+    return word[cut:] + word[:cut]
 
 
 def nested(sheet, ws, l):
@@ -290,7 +291,7 @@ def conditions(sheet, ws, nested_words):
     """The values that must vanish, all their bits in one number: linear in the words."""
     q, m, v, *t, s = sheet
     values = [syndrome(q, w, j) for w in ws for j in range(1, 2 * t[0] + 1)]
-    values += [syndrome(q, nested(sheet, ws, l), j) for l in nested_words for j in range(1, 2 * t[v - l] + 1)]
+    values += [x for l in nested_words for x in syndromes(q, nested(sheet, ws, l), 2 * t[v - l])]
     return sum(x << q * k for k, x in enumerate(values))
 
 
@@ -595,6 +596,12 @@ def error_syndromes(sheet, ws, left, i):
     return [error_values(sheet, tuple(map(tuple, ws)), tuple(left), j)[left.index(i)] for j in range(1, 2 * t + 1)]
 
 
+def round_found(sheet, ws, left):
+    """The places of the errors of the sub-words left, by the nested words; None for an error of more than the level's strength."""
+    given = errors(sheet, strength(sheet, sheet[2] - len(left) + 1))
+    return {i: given.get(tuple(error_syndromes(sheet, ws, left, i))) for i in left}
+
+
 def mended(sheet, page):
     """The member that comes of the page, and the number of rounds; or None, and why: more broken words than v, a round that leaves as many,
     an end that is no member, a blank one."""
@@ -612,8 +619,7 @@ def mended(sheet, page):
             return None, 'many'
         if rest == left:
             return None, 'stuck'
-        given = errors(sheet, strength(sheet, sheet[2] - len(left) + 1))
-        found = {i: given.get(tuple(error_syndromes(sheet, ws, left, i))) for i in left}
+        found = round_found(sheet, ws, left)
         rounds += 1
     after = page_of_words(sheet, ws)
     if blank(sheet, after):

@@ -4,9 +4,10 @@
     python3 tools/trial.py crates/gate_trial
 
 writes stdin and stdout there. The answers come from tools/cases.py, another encoder written from the requirement
-(docs/REQUIREMENT.md). For the large fields three of its parts are done again here: generators by the product of
-x + alpha^s over the roots, the elimination on the code's conditions with its columns as numbers, and near multiples by
-Euclid's algorithm on the syndromes, with a division to confirm them. Nothing is drawn at random but from its fixed sequence.
+(docs/REQUIREMENT.md). For the large fields four of its parts are done again here: generators by the product of
+x + alpha^s over the roots, the elimination on the code's conditions with its columns as numbers, near multiples by
+Euclid's algorithm on the syndromes, with a division to confirm them, and the errors of a round by an elimination on the
+nested words' syndromes and Euclid's algorithm on each error's. Nothing is drawn at random but from its fixed sequence.
 """
 import sys
 from functools import lru_cache
@@ -17,7 +18,7 @@ import cases
 from cases import A, A3, A6, ALIKE, B, B4, BYTE, CLASH, DEEP, DEEP4, EIGHT, FIELD, LARGE, PAIR, PAIR24, SMALL, THREE, TIGHT, TWELVE, TWO, TWO4, U32, U64, WIDE
 from cases import below, exponents, largest, nesting, number, refusal, shortened, some_bytes, some_places, strength
 
-TEST, NESTING, GENERATORS, ELEMENTS, OPEN, FEED, REMAINDER, SHORT, NESTED, SYNDROMES, NESTED_SYNDROMES, JUDGE, READ_OUT, WRITE, QUOTE, WRITE_MANY, ALTER, MEND, ALL = range(19)
+TEST, NESTING, GENERATORS, ELEMENTS, OPEN, FEED, REMAINDER, SHORT, NESTED, SYNDROMES, NESTED_SYNDROMES, JUDGE, READ_OUT, WRITE, QUOTE, WRITE_MANY, ALTER, MEND, ALL, MEND_PAGE = range(20)
 WIDTHS = (1, 7, 8, 63, 64)
 
 FULL = (8, 5, 3, 2, 4, 6, 7, 0)
@@ -160,31 +161,77 @@ def locator(q, syndromes):
     return b
 
 
-def faults(s, page, i):
-    q, t, word = s[0], strength(s, 0), cases.words(s, page)[i]
-    terms = [(logs(q)[c], k) for k, c in enumerate(locator(q, [cases.syndrome(q, word, j) for j in range(1, 2 * t + 1)])) if c]
-    places = []
+def divides(g, word):
+    f, g = number(word), number(g)
+    while f.bit_length() >= g.bit_length():
+        f ^= g << f.bit_length() - g.bit_length()
+    return f == 0
+
+
+def roots(s, syndromes):
+    """The stored places, rising, that the locator has."""
+    q, places = s[0], []
+    terms = [(logs(q)[c], k) for k, c in enumerate(locator(q, syndromes)) if c]
     for k in range(cases.stored(s)):
         value = 0
         for c, e in terms:
             value ^= alphas(q)[(c - e * k) % (2 ** q - 1)]
         if value == 0:
             places.append(k)
+    return places
+
+
+def faults(s, page, i):
+    q, t, word = s[0], strength(s, 0), cases.words(s, page)[i]
+    places = roots(s, cases.syndromes(q, word, 2 * t))
     if len(places) > t:
         return None
     for k in places:
         word[k] ^= 1
-    return None if cases.divided(word, cases.gen(s, 0))[1] else places
+    return places if divides(cases.gen(s, 0), word) else None
 
 
 by_multiples = cases.faults
 cases.faults = faults
 
 
+# ---- rounds: nested word l has at alpha^j the sum of the errors' values there, that of sub-word k times alpha^(j k l)
+
+def eliminated(q, rows):
+    """The unknowns of as many equations: rows of coefficients, then the sum."""
+    for c in range(len(rows)):
+        at = next(r for r in range(c, len(rows)) if rows[r][c])
+        rows[c], rows[at] = rows[at], rows[c]
+        inverse = alphas(q)[-logs(q)[rows[c][c]] % (2 ** q - 1)]
+        rows[c] = [times(q, inverse, x) for x in rows[c]]
+        rows = [row if r == c else [x ^ times(q, row[c], y) for x, y in zip(row, rows[c])] for r, row in enumerate(rows)]
+    return [row[-1] for row in rows]
+
+
+def round_found(s, ws, left):
+    q, t = s[0], strength(s, s[2] - len(left) + 1)
+    nested = [cases.syndromes(q, cases.nested(s, ws, l), 2 * t) for l in range(len(left))]
+    values = [eliminated(q, [[alphas(q)[j * k * l % (2 ** q - 1)] for k in left] + [sums[j - 1]] for l, sums in enumerate(nested)])
+              for j in range(1, 2 * t + 1)]
+    found = {}
+    for i, syndromes in zip(left, zip(*values)):
+        places = roots(s, syndromes)
+        word = cases.bits(sum(1 << k for k in places))
+        found[i] = tuple(places) if len(places) <= t and cases.syndromes(q, word, 2 * t) == list(syndromes) else None
+    return found
+
+
+by_trying = cases.round_found
+cases.round_found = round_found
+mended = cases.mended
+of_page = lru_cache(None)(lambda s, page: mended(s, list(page)))
+cases.mended = lambda s, page: of_page(s, tuple(page))
+
+
 # ---- records
 
 given, expected = bytearray(), bytearray()
-seen = [set() for _ in range(19)]
+seen = [set() for _ in range(20)]
 
 
 def le(x, size=8):
@@ -731,6 +778,94 @@ def all_from_odd():
     assert seen[ALL] == {0, 1, 2, 3, 4, 9, 10, 14}
 
 
+def page_mendings():
+    """A page mended: members with flips, up to what rounds mend and past it, blank pages, pages of zeros and any; and what refuses it."""
+    ends = set()
+
+    def mend(s, page):
+        code, *after = cases.mend_page(s, page)
+        record(MEND_PAGE, s, bytes([code, *after]), page=page)
+        if code in (0, 17):
+            ends.add(cases.mended(s, page)[1])
+        return code, after
+
+    def some_words(s, count):
+        """So many different sub-words, in an order drawn."""
+        left = list(range(s[1]))
+        return [left.pop(below(len(left))) for _ in range(count)]
+
+    def damaged(s, page, counts, order=None):
+        """So many flips in its sub-words, in an order drawn or given."""
+        return cases.flipped(s, page, *[(i, k) for i, f in zip(order or some_words(s, len(counts)), counts) for k in some_places(s, f)])
+
+    def outside(s, page, top, f):
+        """The page with a fault in a place that is not stored, as all syndromes have it, and so many flips, in sub-word 0."""
+        ws = cases.words(s, page)
+        ws[0] = cases.added(ws[0], cases.divided([0] * top + [1], cases.gen(s, s[2]))[1])
+        return cases.flipped(s, cases.page_of_words(s, ws), *[(0, k) for k in some_places(s, f)])
+
+    for s in (A3, A6, B, B4, TWO, TWO4, DEEP, DEEP4, cases.EVEN):
+        for b in range(1, s[2] + 1):
+            for _ in range(4):
+                left = sorted(some_words(s, b))
+                ws = cases.words(s, damaged(s, cases.some_member(s), [below(strength(s, s[2]) + 2) for _ in left], left))
+                assert round_found(s, ws, left) == by_trying(s, ws, left)
+
+    gate = (8, 8, 3, 6, 9, 12, 25, 0)
+    for s in (A, A3, A6, B, B4, WIDE, DEEP, DEEP4, TWO, TWO4, THREE, TIGHT, ALIKE, SMALL, cases.EVEN, PAIR24, BYTE, EIGHT, shortened(BYTE, 6), gate, shortened(gate, 50), shortened(TWELVE, 1903)):
+        q, m, v, *t, short = s
+        n, room = cases.stored(s), cases.page_bytes(s)
+        page = cases.drawn(lambda: cases.some_member(s), lambda x: not cases.blank(s, x))
+        assert mend(s, page) == (0, page)
+        assert mend(s, [0] * room) == (0, [0] * room)
+        mend(s, cases.some_page(s))
+        # up to t_0 in each; b sub-words with t_(v-b+1); one more a round; one too many; more than v sub-words; any
+        assert mend(s, damaged(s, page, [t[0]] * m)) == (0, page)
+        for b in range(1, v + 1):
+            mend(s, damaged(s, page, [t[v - b + 1]] * b + [t[0]] * (m - b)))
+        mend(s, damaged(s, page, t[v:0:-1] + [t[0]] * (m - v)))
+        mend(s, damaged(s, page, [t[v] + 1]))
+        mend(s, damaged(s, page, [t[1]] * (v + 1)))
+        for _ in range(4 if q == 4 else 2):
+            mend(s, damaged(s, page, [below(t[v] + 2) for _ in range(m)]))
+        # at the ends of a sub-word
+        mend(s, cases.flipped(s, page, (0, 0), (m - 1, 0), (m - 1, n - 1)))
+        clear, full, mixed = [cases.erased(s, [all_spare(s) * (spare >> i & 1) for i in range(m)]) for spare in (0, 255, 0x55)]
+        assert short or mend(s, clear)[0] == mend(s, damaged(s, clear, [t[0]] * m))[0] == 17
+        # faults in the top s places
+        if short:
+            mend(s, clear)
+            assert mend(s, outside(s, page, n, 0)) == (17, outside(s, page, n, 0))
+            mend(s, outside(s, page, cases.length(s) - 1, t[v] - 1))
+        # lengths, spare bits
+        for x in (page[:-1], page + [0], [255] * (room + 1)):
+            assert mend(s, x) == (7, x)
+        for k in ends_of_spare(s):
+            for x in (cases.flipped(s, page, (0, k)), cases.flipped(s, damaged(s, clear, [1]), (m - 1, k))):
+                assert mend(s, x) == (8, x)
+        if cases.spare_bits(s):
+            assert mend(s, full)[0] == mend(s, mixed)[0] == 8
+    # many faults, in pages of zeros
+    for s in ((8, 2, 1, 63, 64, 0, 0, 0), (12, 2, 1, 63, 64, 0, 0, 0), (12, 8, 3, 61, 62, 63, 64, 0)):
+        m, v, *t = s[1:7]
+        zeros = [0] * cases.page_bytes(s)
+        for past in (0, 1):
+            code, after = mend(s, damaged(s, zeros, [t[v] + past] + t[v - 1:0:-1] + [t[0]] * (m - v)))
+            assert (code, after) == (0, zeros) if past == 0 else code == 17
+    # document 002's sheet: the flips, and the rounds or why none mends it
+    most = ((58, 39, 32) + (28,) * 5, 3)
+    for s, given in ((LARGE, (((), 0), most, ((39, 39), 1), ((32, 32, 32), 1), ((58, 30), 2), ((59,), 'stuck'), ((58, 40), 'stuck'), ((29,) * 4, 'many'))),
+                     (shortened(LARGE, 1900), (most, ((28,) * 7 + (59,), 'stuck')))):
+        page = cases.some_member(s)
+        for counts, end in given:
+            x = damaged(s, page, counts)
+            assert mend(s, x) == ((17, x) if isinstance(end, str) else (0, page)) and cases.mended(s, x)[1] == end
+    for s in REFUSED:
+        mend(s, [255])
+        mend(s, [0] * 4)
+    assert ends == {0, 1, 2, 3, 'many', 'stuck', 'other', 'blank'} and seen[MEND_PAGE] == {0, 1, 2, 3, 4, 7, 8, 14, 17}
+
+
 if __name__ == '__main__':
     tests()
     quotes()
@@ -745,6 +880,7 @@ if __name__ == '__main__':
     alterations()
     mendings()
     all_from_odd()
+    page_mendings()
     assert seen[JUDGE] == {0, 1, 2, 3, 4, 7, 8, 14, 32, 64, 96} and seen[READ_OUT] == seen[JUDGE] | {6} and seen[WRITE] == {*range(9), 13, 14}
     room = Path(sys.argv[1])
     (room / 'stdin').write_bytes(given)

@@ -2,11 +2,11 @@
 //   record   36 bytes: call, q, m, v, t0 to t3, index, second index, width, 0, page length, buffer length (two bytes each, low first), u,
 //            count (eight bytes each), s (four); then the page's bytes, for a writing the blocks', for a feeding the register's 96.
 //            A writing of many pages has their number in count, the length of all in the buffer's length, and the list's in u; an alteration
-//            the block and the bit in the lower and the upper four bytes of u, and the value in count; a mending the sub-word in u, the
+//            the block and the bit in the lower and the upper four bytes of u, and the value in count; a sub-word's mending its index in u, the
 //            list's length in the buffer's length, and what the number of flips is before the call in count; all syndromes from the odd
 //            ones the level in u, and in the page's bytes the odd ones, two each
 //   answer   the refusal's number or 0, then what the call gives, and the lent buffer whole, of many pages that and the list, of an
-//            alteration the page, of a mending the page, the list and the number of flips;
+//            alteration and of a whole page's mending the page, of a sub-word's the page, the list and the number of flips;
 //            of a verdict 0, 32 or 64, then the word's index; 96 for blank
 use code::Nesting;
 use code::Outcome;
@@ -312,6 +312,12 @@ fn mend_call(p: Parameters, page: &mut [u8], i: usize, list: &mut [u16], flips: 
     put(*flips);
 }
 
+// The page through its nested words.
+fn mend_page_call(p: Parameters, page: &mut [u8]) {
+    let r = mend_page::mend_page(p, page);
+    put_bytes(r, page);
+}
+
 // Those that give syndromes, and the quote.
 fn list_call(call: u8, p: Parameters, page: &[u8], i: usize, list: &mut [u16]) {
     if call == 14 {
@@ -397,6 +403,10 @@ fn change(call: u8, p: Parameters, page: &mut [u8], size: usize, u: u64, count: 
         );
         return;
     }
+    if call == 19 {
+        mend_page_call(p, page);
+        return;
+    }
     lend_mending(p, page, u as usize, size, (count % 256) as u8);
 }
 
@@ -469,7 +479,7 @@ fn run(h: &[u8], page: &mut [u8], size: usize) {
     if call == 18 {
         lend_all(p, (u % 4294967296) as u32, page, size);
     }
-    if call == 16 || call == 17 {
+    if call == 16 || call == 17 || call == 19 {
         change(call, p, page, size, u, count);
     }
 }
