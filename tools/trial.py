@@ -15,7 +15,7 @@ from itertools import cycle, product as tuples
 from pathlib import Path
 
 import cases
-from cases import A, A3, A6, ALIKE, B, B4, BYTE, CLASH, DEEP, DEEP4, EIGHT, FIELD, LARGE, PAIR, PAIR24, SMALL, THREE, TIGHT, TWELVE, TWO, TWO4, U32, U64, WIDE
+from cases import A, A3, A6, ALIKE, B, B4, BYTE, CLASH, DEEP, DEEP4, EIGHT, EVEN, FIELD, LARGE, PAIR, PAIR24, SMALL, THREE, TIGHT, TWELVE, TWO, TWO4, U32, U64, WIDE
 from cases import below, exponents, largest, nesting, number, refusal, shortened, some_bytes, some_places, strength
 
 TEST, NESTING, GENERATORS, ELEMENTS, OPEN, FEED, REMAINDER, SHORT, NESTED, SYNDROMES, NESTED_SYNDROMES, JUDGE, READ_OUT, WRITE, QUOTE, WRITE_MANY, ALTER, MEND, ALL, MEND_PAGE = range(20)
@@ -162,6 +162,7 @@ def locator(q, syndromes):
 
 
 def divides(g, word):
+    """By numbers, the sooner."""
     f, g = number(word), number(g)
     while f.bit_length() >= g.bit_length():
         f ^= g << f.bit_length() - g.bit_length()
@@ -804,7 +805,7 @@ def page_mendings():
         ws[0] = cases.added(ws[0], cases.divided([0] * top + [1], cases.gen(s, s[2]))[1])
         return cases.flipped(s, cases.page_of_words(s, ws), *[(0, k) for k in some_places(s, f)])
 
-    for s in (A3, A6, B, B4, TWO, TWO4, DEEP, DEEP4, cases.EVEN):
+    for s in (A3, A6, B, B4, TWO, TWO4, DEEP, DEEP4, EVEN):
         for b in range(1, s[2] + 1):
             for _ in range(4):
                 left = sorted(some_words(s, b))
@@ -812,7 +813,7 @@ def page_mendings():
                 assert round_found(s, ws, left) == by_trying(s, ws, left)
 
     gate = (8, 8, 3, 6, 9, 12, 25, 0)
-    for s in (A, A3, A6, B, B4, WIDE, DEEP, DEEP4, TWO, TWO4, THREE, TIGHT, ALIKE, SMALL, cases.EVEN, PAIR24, BYTE, EIGHT, shortened(BYTE, 6), gate, shortened(gate, 50), shortened(TWELVE, 1903)):
+    for s in (A, A3, A6, B, B4, WIDE, DEEP, DEEP4, TWO, TWO4, THREE, TIGHT, ALIKE, SMALL, EVEN, PAIR24, BYTE, EIGHT, shortened(BYTE, 6), gate, shortened(gate, 50), shortened(TWELVE, 1903)):
         q, m, v, *t, short = s
         n, room = cases.stored(s), cases.page_bytes(s)
         page = cases.drawn(lambda: cases.some_member(s), lambda x: not cases.blank(s, x))
@@ -854,10 +855,10 @@ def page_mendings():
             assert (code, after) == (0, zeros) if past == 0 else code == 17
     # document 002's sheet: the flips, and the rounds or why none mends it
     most = ((58, 39, 32) + (28,) * 5, 3)
-    for s, given in ((LARGE, (((), 0), most, ((39, 39), 1), ((32, 32, 32), 1), ((58, 30), 2), ((59,), 'stuck'), ((58, 40), 'stuck'), ((29,) * 4, 'many'))),
+    for s, tries in ((LARGE, (((), 0), most, ((39, 39), 1), ((32, 32, 32), 1), ((58, 30), 2), ((59,), 'stuck'), ((58, 40), 'stuck'), ((29,) * 4, 'many'))),
                      (shortened(LARGE, 1900), (most, ((28,) * 7 + (59,), 'stuck')))):
         page = cases.some_member(s)
-        for counts, end in given:
+        for counts, end in tries:
             x = damaged(s, page, counts)
             assert mend(s, x) == ((17, x) if isinstance(end, str) else (0, page)) and cases.mended(s, x)[1] == end
     for s in REFUSED:
