@@ -2,11 +2,11 @@
 """Worked cases for the definitions of crates/code: another encoder and judge, written from the requirement
 (docs/REQUIREMENT.md).
 
-    python3 tools/cases.py > crates/cases/specs/Own.antt
+    python3 tools/cases.py
     python3 tools/cases.py --check
 
-The first writes the tables of Own.antt, in rt fmt's layout; the second says nothing where they stand there already, else
-it names the file and ends with 1. A row has what a definition gives, as a term, and what this program works out, as
+The first writes the tables of crates/cases/specs/Own.antt and crates/cases_mended/specs/Own.antt, in rt fmt's layout; the
+second says nothing where they stand there already, else it names the files that differ and ends with 1. A row has what a definition gives, as a term, and what this program works out, as
 numbers; the rows are of definitions that no compiled call gives back, and of the calls on erased pages, on shortened
 sheets, on many pages, on one bit of a page, on a sub-word to mend, on a page to mend and on odd syndromes. What the calls give is compared by programs: tools/trial.py,
 tools/counter.py and tools/writer.py take their answers from here.
@@ -20,7 +20,9 @@ from functools import lru_cache
 from itertools import combinations, product as tuples
 from pathlib import Path
 
+ROOT = Path(__file__).resolve().parent.parent
 OWN = 'crates/cases/specs/Own.antt'
+MENDED = 'crates/cases_mended/specs/Own.antt'
 
 FIELD = {4: 19, 8: 285, 12: 4179}
 BLANK = 96                                 # the number of the answer blank
@@ -726,12 +728,13 @@ def some_places(sheet, count):
 
 # ---- the tables as text
 
-TABLES = []
+TABLES = {OWN: [], MENDED: []}
+into = OWN                                 # the file that tables and rows go to
 
 
-def table(name, about, unfolding, apart=False):
-    """Declares a table; rows go to the last one declared. Rows apart are equations of their own, the quicker form where a row is long to compute."""
-    TABLES.append((name, about, unfolding, [], apart))
+def table(name, about, unfolding):
+    """Declares a table; rows go to the last one declared."""
+    TABLES[into].append((name, about, unfolding, []))
 
 
 def hexed(xs):
@@ -753,15 +756,16 @@ def data(xs):
     return '[]' if not xs else '(%s)' % listed(hexed(xs))
 
 
+# the sheets with a name in OWN
 NAMES = {(4, 2, 1, 1, 2, 0, 0, 0): 'A', (4, 3, 2, 1, 2, 3, 0, 0): 'B'}
 
 
 def named(sheet):
-    return NAMES.get(sheet) or '(sheet %s)' % ' '.join(map(str, sheet))
+    return into == OWN and NAMES.get(sheet) or '(sheet %s)' % ' '.join(map(str, sheet))
 
 
 def row(term, expected):
-    TABLES[-1][3].append((term, expected))
+    TABLES[into][-1][3].append((term, expected))
 
 
 WIDTH = 140
@@ -1365,7 +1369,7 @@ def mend_refused():
         for unit in (1, 2):
             sizes(s, page, unit, sorted({0, t - 1, t, t + 1, 2 * t - 1, 2 * t, 2 * t + 1, 4 * t, 256, U64}))
 
-    table('mendNowhere', 'Words drawn, and each pair of neighbours alone: 15 where no multiple of g_0 is near, else 0.', 'mendRefusal pow', apart=True)
+    table('mendNowhere', 'Words drawn, and each pair of neighbours alone: 15 where no multiple of g_0 is near, else 0.', 'mendRefusal pow')
     answers = set()
     neighbours = lambda s: [flipped(s, [0x00] * page_bytes(s), (0, k), (0, k + 1)) for k in range(stored(s) - 1)]
     for s, pages in [(A6, neighbours(A6)), (B4, neighbours(B4))] + [(s, [some_page(s) for _ in range(count)]) for s, count in ((A6, 12), (B4, 10), (TWO, 4), (TWO4, 6))]:
@@ -1390,7 +1394,7 @@ def mend_made():
     for s in (A, TWO, THREE, ALIKE, A3, A6, B4, TWO4, PAIR24):
         faults_test(s)
     table('mendMembers', 'A member with flips, 0 to t_0 of them, in one sub-word, and one in each other: the number, then page, list and number of flips.',
-          'mendRefusal mending flipped placeList pow', apart=True)
+          'mendRefusal mending flipped placeList pow')
     for s in (A, A3, B4, TWO, TWO4, THREE, ALIKE):
         for f in range(strength(s, 0) + 1 if s != ALIKE else 2):
             i = below(s[1])
@@ -1399,7 +1403,7 @@ def mend_made():
     for i, s, places in [(0, A, (0,)), (1, A, (14,)), (0, A6, (8,)), (1, A6, (7,)), (0, TWO, (0, 14)), (2, TWO, (7, 8)), (2, TWO4, (0, 10)), (0, PAIR24, (23,)), (1, PAIR24, (16,))]:
         assert made(s, flipped(s, some_member(s), *[(i, k) for k in places]), i) == (0, len(places))
 
-    table('mendPages', 'More flips than t_0, any page, pages of zeros and of ones: a multiple, or 15 and nothing changed.', 'mendRefusal mending flipped placeList pow', apart=True)
+    table('mendPages', 'More flips than t_0, any page, pages of zeros and of ones: a multiple, or 15 and nothing changed.', 'mendRefusal mending flipped placeList pow')
     answers = set()
     for s in (A, A6, B4, TWO, TWO4):
         for page in [damaged(s, strength(s, 0) + f, 0) for f in (1, 2)] + [some_page(s)]:
@@ -1584,7 +1588,7 @@ def mended_test(sheet):
 
 def mend_page_errors():
     table('errorSyndromes', 'The syndromes of one error out of those of the nested words, of words drawn: S_1 to S_2t of the level of so many broken words.',
-          'errorSyndrome pow range', apart=True)
+          'errorSyndrome pow range')
     for s, left in [(A, [0]), (A6, [1]), (B3, [2]), (B3, [0, 1]), (B4, [0, 2]), (B, [1, 2]), (DEEP4, [3]), (DEEP4, [1, 4]), (DEEP4, [0, 2, 3]), (DEEP4, [2, 3, 4]), (EVEN, [0, 2])]:
         ws = [[below(2) for _ in range(stored(s))] + [0] * s[7] for _ in range(s[1])]
         for i in left:
@@ -1616,7 +1620,7 @@ def mend_page_made():
 
     for s in (A, A3, A6, B, B3, B4, TWO, TWO4, DEEP4, EVEN):
         mended_test(s)
-    table('pageBack', 'Members as they are, and with flips in their sub-words that the first pass and rounds mend: the member.', 'mendedPage pow', apart=True)
+    table('pageBack', 'Members as they are, and with flips in their sub-words that the first pass and rounds mend: the member.', 'mendedPage pow')
     for s in (A, B3, EVEN):
         page = some_member(s)
         assert made(s, page) == (page, 0)
@@ -1628,7 +1632,7 @@ def mend_page_made():
         assert made(s, damaged) == (page, rounds)
 
     table('pageElse', 'Other pages: another member where words were mended wrong, or none: no member at the end, a blank one, more than v sub-words left, a round that finds none.',
-          'mendedPage pow', apart=True)
+          'mendedPage pow')
     for s, ends in [(A, ('other', 0)), (A6, ('other', 'many', 'stuck', 1)), (B4, ('other', 'stuck')), (TWO, ('many',)), (TWO4, ('stuck', 1)), (DEEP4, ('other', 'stuck'))]:
         for end in ends:
             damage = lambda: some_damage(s, [below(strength(s, s[2]) + 1) for _ in range(s[1])])
@@ -1645,7 +1649,7 @@ def mend_page_made():
     for s in (A3, B4):
         made(s, some_page(s))
 
-    table('pageCalled', 'The call: the number, then what it leaves in the page.', 'mendPageRefusal mendedPage pow', apart=True)
+    table('pageCalled', 'The call: the number, then what it leaves in the page.', 'mendPageRefusal mendedPage pow')
     x = some_member(A)
     given = [(A, x), (A, flipped(A, x, (0, 3), (1, 14))), (A6, drawn(lambda: some_damage(A6, (2, 1)), lambda y: hoped(A6, *y))[1]),
              (A6, drawn(lambda: some_page(A6), lambda y: mended(A6, y)[0] is None)), (A, erased(A, (0, 0))),
@@ -1655,12 +1659,12 @@ def mend_page_made():
         row(call('mendPaged', *g), listed(mend_page(*g)[:1] + hexed(mend_page(*g)[1:])))
 
 
-HEAD = '''-- Cases of our own, of definitions that no compiled call gives back, and of the calls on erased pages, on shortened sheets,
--- on many pages, on one bit of a page, on a sub-word to mend, on a page to mend and on odd syndromes: each row has what a definition gives and what an independent program says.
+HEADS = {
+    OWN: '''-- Cases of our own, of definitions that no compiled call gives back, and of the calls on erased pages, on shortened sheets,
+-- on many pages, on one bit of a page and on odd syndromes: each row has what a definition gives and what an independent program says.
 -- Written by tools/cases.py, which works every number out by other means; see there. The calls' own cases are run: tools/trial.py.
 use mathlib.Core.Path.{_≡_, refl}
 use mathlib.Core.List.{List, [], _∷_, map}
-use mathlib.Core.Option.{none, some}
 use Prim.Native.Nat.{_*_}
 use lib.ListN.{drop, replicate}
 use Rattle.polynomial.specs.Bits.{coefficient}
@@ -1673,24 +1677,38 @@ use Rattle.code.specs.Lists.{range, sum}
 use Rattle.code.specs.Parameters.{sheet, sheetRefusal}
 use Rattle.code.specs.Code.{allSyndromes, carried, combine, degree, distance, divisor, gen, N, nested, newton, oddSyndromes}
 use Rattle.code.specs.Code.{remainder, shortRemainder, syndromes}
-use Rattle.code.specs.Layout.{blockOffset, wordsOf, pageOf, pageBytes, dataBytes, coefficientOf, blockBit, differences}
-use Rattle.code.specs.Layout.{altered, flipped, mendedPage, mending, placeList}
-use Rattle.code.specs.Nest.{errorSyndrome}
+use Rattle.code.specs.Layout.{altered, blockOffset, wordsOf, pageOf, pageBytes, dataBytes, coefficientOf, blockBit, differences}
 use Rattle.code.specs.Refusals.{writeRefusal, wordRefusal, remainderRefusal, nestedRefusal, syndromesRefusal, nestedSyndromesRefusal, allRefusal}
-use Rattle.code.specs.Refusals.{manyRefusal, alterRefusal, mendPageRefusal, mendRefusal, openRefusal, feedRefusal, quoteRefusal}
+use Rattle.code.specs.Refusals.{manyRefusal, alterRefusal, openRefusal, feedRefusal, quoteRefusal}
 use Rattle.code.specs.Calls.{asBytes, asNumbers, empty, fed, judgeNumber, judgeValues, readNumber, readLeaves, writeLeaves, quote}
 use Rattle.code.specs.Calls.{statuses, pagesBy}
 use Rattle.code.specs.Calls.{remainderBytes, shortBytes, nestedWordBytes, syndromeList, nestedSyndromeList}
 use Rattle.code.specs.Registers.{cut, feedings}
 use Rattle.code.specs.Writer.{writer}
-use Rattle.cases.specs.Sheets.{Row, A, B, held, many, alter, mend, mendPaged, all}
-'''
+use Rattle.cases.specs.Sheets.{Row, A, B, held, many, alter, all}
+''',
+    MENDED: '''-- Cases of our own of a sub-word to mend and of a page to mend: each equation has what a definition gives and what an independent program says.
+-- Written by tools/cases.py, which works every number out by other means; see there. The calls' own cases are run: tools/trial.py.
+use mathlib.Core.Path.{_≡_, refl}
+use mathlib.Core.List.{[], _∷_, map}
+use mathlib.Core.Option.{none, some}
+use lib.ListN.{replicate}
+use Rattle.field.specs.Field.{pow}
+use Rattle.code.specs.Lists.{range}
+use Rattle.code.specs.Parameters.{sheet}
+use Rattle.code.specs.Layout.{flipped, mendedPage, mending, placeList}
+use Rattle.code.specs.Nest.{errorSyndrome}
+use Rattle.code.specs.Refusals.{mendPageRefusal, mendRefusal}
+use Rattle.cases_mended.specs.Calls.{mend, mendPaged}
+''',
+}
 
 
-def printed():
-    out = [HEAD]
-    for name, about, unfolding, rows, apart in TABLES:
-        if apart:
+def printed(file):
+    """In OWN a table is a list of rows with one proof; in MENDED, whose rows are long to compute, equations, the quicker form."""
+    out = [HEADS[file]]
+    for name, about, unfolding, rows in TABLES[file]:
+        if file == MENDED:
             out.append('-- %s\npub %s :\n    %s\nunfolding %s\n%s = (%s)\n' % (about, name, equations(rows), unfolding, name, ', '.join(['refl'] * len(rows))))
             continue
         out.append('-- %s\npub %s : List Row\n%s\n' % (about, name, laid(name, rows)))
@@ -1698,19 +1716,29 @@ def printed():
     return '\n'.join(out)
 
 
+# by the file that they write to, in the order in which they draw
+PARTS = [
+    (OWN, (layouts, equal_form, divisors, page_differences, parts, field_sums, bytes_for_c, writings, huge_numbers, erased_pages,
+           short_sheets, short_sizes, short_pages, short_words, short_registers, many_refused, many_pages, alter_refused, alter_made)),
+    (MENDED, (mend_refused, mend_made)),
+    (OWN, (odd_lists, all_by_odd, all_refused, all_made)),
+    (MENDED, (mend_page_errors, mend_page_refused, mend_page_made)),
+]
+
+
 def main(words):
+    global into
     self_test()
-    for part in (layouts, equal_form, divisors, page_differences, parts, field_sums, bytes_for_c, writings, huge_numbers, erased_pages,
-                 short_sheets, short_sizes, short_pages, short_words, short_registers, many_refused, many_pages, alter_refused,
-                 alter_made, mend_refused, mend_made, odd_lists, all_by_odd, all_refused, all_made, mend_page_errors,
-                 mend_page_refused, mend_page_made):
-        part()
+    for into, some in PARTS:
+        for part in some:
+            part()
+    differ = [file for file in HEADS if not (ROOT / file).is_file() or (ROOT / file).read_text(encoding='utf-8') != printed(file)]
     if words == ['--check']:
-        if (Path(__file__).resolve().parent.parent / OWN).read_text(encoding='utf-8') != printed():
-            print(OWN, file=sys.stderr)
-            return 1
-        return 0
-    print(printed(), end='')
+        for file in differ:
+            print('%s is not what tools/cases.py makes' % file, file=sys.stderr)
+        return 1 if differ else 0
+    for file in differ:
+        (ROOT / file).write_text(printed(file), encoding='utf-8')
     return 0
 
 

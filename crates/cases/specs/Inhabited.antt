@@ -1,21 +1,20 @@
--- The theorems' hypotheses hold of something, and thirteen statements that go further than the theorems are false. All by computation.
+-- The theorems' hypotheses hold of something, and ten statements that go further than the theorems are false. All by computation.
+-- Those on mended sub-words and pages stand in `cases_mended`.
 use mathlib.Core.Path.{_≡_, refl, sym, ap, _∙_}
 use mathlib.Core.Logic.{_≢_, _⊎_, inl, inr}
 use mathlib.Core.Bool.{Bool, true, false, not, _&&_, _||_}
 use mathlib.Core.List.{List, [], _∷_}
-use Prim.Native.Nat.{ℕ, zero, suc, _+_, _-_, _*_, _≤_, _<_, zero-le}
+use Prim.Native.Nat.{ℕ, zero, suc, _+_, _-_, _≤_, _<_, zero-le}
 use native.Mathlib.Nat.{le-of-suc-le-suc, not-suc-le-zero, lt-irrefl, zero-add}
 use native.Mathlib.Omega.{arith}
 use lib.Dec.{T, eqb, eqb→eq, lit<, lit≤, ltb, ltb→lt}
-use lib.ListN.{length, getD, replicate}
+use lib.ListN.{getD, replicate}
 use Rattle.polynomial.specs.Clmul.{clmul}
 use Rattle.polynomial.specs.Division.{rem}
 use Rattle.polynomial.specs.Multiple.{Multiple}
 use Rattle.polynomial.specs.Sums.{All}
 use Rattle.polynomial.specs.Xor.{xor}
-use Rattle.field.specs.Bch.{weight}
 use Rattle.field.specs.Field.{pow}
-use Rattle.field.specs.Flips.{flips}
 use Rattle.field.specs.Irreducible.{both}
 use Rattle.code.specs.declared.Outcome.{Outcome}
 use Rattle.code.specs.declared.Parameters.{Parameters}
@@ -24,17 +23,16 @@ use Rattle.code.specs.Accepted.{accepted, any-none}
 use Rattle.code.specs.Answers.{judged, made-done, made-refused, read}
 use Rattle.code.specs.Blank.{blank-iff}
 use Rattle.code.specs.Chains.{either}
-use Rattle.code.specs.Demands.{Burst, Damaged, MendLent, NamesBit, Recoverable, SetTo}
-use Rattle.code.specs.Lists.{any, countBelow, part, range}
-use Rattle.code.specs.Parameters.{Accepted, sheetRefusal, sheet, stored, strength}
-use Rattle.code.specs.Code.{gen, degree, remainder, nested, combine, N, newton, Flips, IsMember, Near, distance, verdict}
+use Rattle.code.specs.Demands.{Burst, NamesBit, SetTo}
+use Rattle.code.specs.Lists.{any, range}
+use Rattle.code.specs.Parameters.{Accepted, sheetRefusal, sheet, stored}
+use Rattle.code.specs.Code.{gen, degree, remainder, nested, combine, N, newton, IsMember, distance, verdict}
 use Rattle.code.specs.Code.{allSyndromes, oddSyndromes}
 use Rattle.code.specs.Layout.{dataBytes, pageBytes, blocksClear, blocksFull, pageClear, pageOf, blank, wordsOf, Fits, IsBlank, IsPage, Bytes}
-use Rattle.code.specs.Layout.{altered, blockBit, blockOffset, coefficientOf, differences, flipped, flipsIn, mendedPage, mending, placeList}
-use Rattle.code.specs.Nest.{Mem, Work, after, after-suc, round}
-use Rattle.code.specs.Calls.{AllMade, Altered, Judged, Mended, NestedSyndromesMade, PageMended, ReadOut, SyndromesMade, Written, WrittenMany}
-use Rattle.code.specs.Calls.{judgeAnswer, nestedSyndromeList, outcomeNumber, pagesBy, readAnswer, readLeaves, statuses, subWordOf, syndromeList, verdictNumber}
-use Rattle.code.specs.Refusals.{allRefusal, alterRefusal, manyRefusal, mendPageRefusal, mendRefusal, wordRefusal, writeRefusal}
+use Rattle.code.specs.Layout.{altered, blockBit, blockOffset, coefficientOf, differences}
+use Rattle.code.specs.Calls.{AllMade, Altered, Judged, NestedSyndromesMade, ReadOut, SyndromesMade, Written, WrittenMany}
+use Rattle.code.specs.Calls.{judgeAnswer, nestedSyndromeList, pagesBy, readAnswer, readLeaves, statuses, syndromeList, verdictNumber}
+use Rattle.code.specs.Refusals.{allRefusal, alterRefusal, manyRefusal, wordRefusal, writeRefusal}
 use Rattle.cases.specs.Sheets.{A, B}
 
 -- ---- accepted sheets
@@ -386,187 +384,6 @@ alter-set = record {
 pub alter-written : Written A 8 blocks-0 (replicate 4 0xA5) page-0 Outcome.Done
 unfolding writeRefusal pageOf pow
 alter-written = made-done _ _ _ _ refl refl
-
--- ---- one sub-word mended: the page of blocks 01 01 00 with place 3 of sub-word 0 flipped
-abbrev page-3 : List ℕ
-page-3 = 0xCA ∷ 0x01 ∷ 0x13 ∷ 0x00 ∷ []
-
-pub mend-done : Mended A page-3 page-1 0 (7 ∷ []) (3 ∷ []) 9 1 Outcome.Done
-unfolding mendRefusal mending flipped placeList pow
-mend-done = (made-done _ _ _ _ refl refl, made-done _ _ _ _ refl refl, made-done _ _ _ _ refl refl)
-
--- free of faults
-pub mend-clean : Mended A page-1 page-1 0 (7 ∷ []) (65535 ∷ []) 9 0 Outcome.Done
-unfolding mendRefusal mending flipped placeList pow
-mend-clean = (made-done _ _ _ _ refl refl, made-done _ _ _ _ refl refl, made-done _ _ _ _ refl refl)
-
--- places 0 and 3 of the shortened zero page flipped: no multiple is near
-pub mend-nowhere :
-    Mended short (0x09 ∷ 0x00 ∷ 0x00 ∷ 0x00 ∷ []) (0x09 ∷ 0x00 ∷ 0x00 ∷ 0x00 ∷ []) 0 (7 ∷ []) (7 ∷ []) 9 9 (Outcome.Refused 15)
-unfolding mendRefusal pow
-mend-nowhere = (
-  made-refused _ 15 _ _ refl (lit< tt) (lit≤ tt),
-  made-refused _ 15 _ _ refl (lit< tt) (lit≤ tt),
-  made-refused _ 15 _ _ refl (lit< tt) (lit≤ tt),
-)
-
--- what the law on members supposes, beside the judged page above: flips in one sub-word, and what mend is to be lent
-pub mend-damaged : Damaged A page-1 page-3 0
-unfolding differences
-mend-damaged = record { elsewhere = go; few = lit≤ tt }
-  where
-    go : (j : ℕ) → j < 2 → j ≢ 0 → part 2 j page-3 ≡ part 2 j page-1
-    go zero h n = absurd (n refl)
-    go (suc zero) h n = refl
-    go (suc (suc j)) h n = absurd (not-suc-le-zero (le-of-suc-le-suc (le-of-suc-le-suc h)))
-
-pub mend-lent : MendLent 1 A page-3 0 1
-unfolding pageClear
-mend-lent = record {
-  page = record { bytes = (lit< tt, (lit< tt, (lit< tt, (lit< tt, tt)))); exact = refl; clear = tt };
-  sub-word = lit< tt;
-  list = refl;
-}
-
--- what the laws on words suppose: the multiple near, and the flips
-pub mend-near : Near A 0 0x1CA 0x1C2
-unfolding clmul gen pow xor rem weight
-mend-near = record { stores = lit< tt; multiple = (0x1E, refl); near = lit≤ tt }
-
-pub mend-flips : Flips A 0 0x1CA (3 ∷ [])
-unfolding clmul gen pow xor rem flips
-mend-flips = record { rising = (zero-le, lit< tt, tt); few = lit≤ tt; multiple = (0x1E, refl) }
-
--- ---- places 0 and 1 of the zero page flipped, one place more than t_0
-abbrev page-03 : List ℕ
-page-03 = 0x03 ∷ 0x00 ∷ 0x00 ∷ 0x00 ∷ []
-
-abbrev page-13 : List ℕ
-page-13 = 0x13 ∷ 0x00 ∷ 0x00 ∷ 0x00 ∷ []
-
--- another multiple is near
-pub mend-other : Mended A page-03 page-13 0 (7 ∷ []) (4 ∷ []) 9 1 Outcome.Done
-unfolding mendRefusal mending flipped placeList pow
-mend-other = (made-done _ _ _ _ refl refl, made-done _ _ _ _ refl refl, made-done _ _ _ _ refl refl)
-
--- so that a member with t_0 + 1 bits of a sub-word flipped comes back is false
-pub not-back :
-    ((z x after : List ℕ) (i : ℕ) (l listed : List ℕ) (n counted : ℕ) → Judged A z Verdict.Member
-    → ((j : ℕ) → j < A .m → j ≢ i → part 2 j x ≡ part 2 j z) → differences A x z ≤ strength A 0 + 1
-    → Mended A x after i l listed n counted Outcome.Done → after ≡ z)
-    → ⊥
-unfolding differences
-not-back h =
-    let e : page-13 ≡ zeros =
-    h zeros page-03 page-13 0 (7 ∷ []) (4 ∷ []) 9 1 (judged A zeros Verdict.Member (sym zeros-member)) go (lit≤ tt) mend-other in
-    let z : _≡_ {A = ℕ} 0x13 0x00 = ap (λ (x : List ℕ). getD x 0 0x00) e in omega arith
-  where
-    go : (j : ℕ) → j < 2 → j ≢ 0 → part 2 j page-03 ≡ part 2 j zeros
-    go zero h n = absurd (n refl)
-    go (suc zero) h n = refl
-    go (suc (suc j)) h n = absurd (not-suc-le-zero (le-of-suc-le-suc (le-of-suc-le-suc h)))
-
--- and that a page with its one faulty sub-word mended is a member: nested word 0 fails
-pub not-member-mended :
-    ((x after : List ℕ) (i : ℕ) (l listed : List ℕ) (n counted : ℕ) → Mended A x after i l listed n counted Outcome.Done
-    → judgeAnswer A after ≡ Verdict.Member)
-    → ⊥
-not-member-mended h =
-    let e : Verdict.NestedWord 0 ≡ Verdict.Member = sym burst-nested ∙ h page-03 page-13 0 (7 ∷ []) (4 ∷ []) 9 1 mend-other in
-    let z : _≡_ {A = ℕ} 64 0 = ap verdictNumber e in omega arith
-
--- ---- a page mended through its nested words: sheet B with 12 stored places, the page of bit 0 of block 2
-abbrev B3 : Parameters
-B3 = sheet 4 3 2 1 2 3 0 3
-
-pub accepted-B3 : Accepted B3
-unfolding sheetRefusal
-accepted-B3 = refl
-
-abbrev whole-B : List ℕ
-whole-B = 0x26 ∷ 0x00 ∷ 0x35 ∷ 0x00 ∷ 0x13 ∷ 0x00 ∷ []
-
-pub whole-member : judgeAnswer B3 whole-B ≡ Verdict.Member
-unfolding judgeAnswer pow
-whole-member = refl
-
--- with one flip in sub-word 0, three in sub-word 1 and two in sub-word 2
-abbrev hurt-B : List ℕ
-hurt-B = 0xA6 ∷ 0x00 ∷ 0x31 ∷ 0x0C ∷ 0x52 ∷ 0x00 ∷ []
-
-pub hurt-page : IsPage B3 hurt-B
-unfolding pageClear
-hurt-page = record { bytes = (lit< tt, (lit< tt, (lit< tt, (lit< tt, (lit< tt, (lit< tt, tt)))))); exact = refl; clear = tt }
-
--- the first pass mends sub-word 0, a round sub-word 2 and a second one sub-word 1; no other changes anything
-abbrev work : ℕ → Work
-work k = after B3 (wordsOf B3 hurt-B) k
-
-work-0 : work 0 ≡ record { words = 0x26 ∷ 0xC31 ∷ 0x52 ∷ []; broken = 1 ∷ 2 ∷ [] }
-unfolding after wordsOf pow
-work-0 = refl
-
-work-1 : work 1 ≡ record { words = 0x26 ∷ 0xC31 ∷ 0x13 ∷ []; broken = 1 ∷ [] }
-unfolding round pow
-work-1 = after-suc B3 (wordsOf B3 hurt-B) 0 ∙ ap (round B3) work-0
-
-abbrev last-work : Work
-last-work = record { words = 0x26 ∷ 0x35 ∷ 0x13 ∷ []; broken = [] }
-
-work-2 : (k : ℕ) → work (suc (suc k)) ≡ last-work
-unfolding round pow
-work-2 zero = after-suc B3 (wordsOf B3 hurt-B) 1 ∙ ap (round B3) work-1
-work-2 (suc k) = after-suc B3 (wordsOf B3 hurt-B) (suc (suc k)) ∙ ap (round B3) (work-2 k)
-
-pub hurt-recoverable : Recoverable B3 whole-B hurt-B
-unfolding countBelow wordsOf
-hurt-recoverable = record { few = lit≤ tt; right = right; light = light }
-  where
-    right : (k i : ℕ) → i < 3 → ¬ Mem i (work k .broken) → getD (work k .words) i 0 ≡ subWordOf B3 whole-B i
-    right zero = rw work-0 right-0
-      where
-        right-0 : (i : ℕ) → i < 3 → ¬ Mem i (1 ∷ 2 ∷ []) → getD (0x26 ∷ 0xC31 ∷ 0x52 ∷ []) i 0 ≡ subWordOf B3 whole-B i
-        right-0 zero l n = refl
-        right-0 (suc zero) l n = absurd (n (inl refl))
-        right-0 (suc (suc zero)) l n = absurd (n (inr (inl refl)))
-        right-0 (suc (suc (suc i))) l n = absurd (not-suc-le-zero (le-of-suc-le-suc (le-of-suc-le-suc (le-of-suc-le-suc l))))
-    right (suc zero) = rw work-1 right-1
-      where
-        right-1 : (i : ℕ) → i < 3 → ¬ Mem i (1 ∷ []) → getD (0x26 ∷ 0xC31 ∷ 0x13 ∷ []) i 0 ≡ subWordOf B3 whole-B i
-        right-1 zero l n = refl
-        right-1 (suc zero) l n = absurd (n (inl refl))
-        right-1 (suc (suc zero)) l n = refl
-        right-1 (suc (suc (suc i))) l n = absurd (not-suc-le-zero (le-of-suc-le-suc (le-of-suc-le-suc (le-of-suc-le-suc l))))
-    right (suc (suc k)) = rw (work-2 k) (λ i l n. refl)
-
-    light : (k : ℕ) → 0 < length (work k .broken) → (i : ℕ) × Mem i (work k .broken) × (flipsIn B3 hurt-B whole-B i ≤ strength B3 (2 - length (work k .broken) + 1))
-    light zero = rw work-0 (λ o. (2, inr (inl refl), lit≤ tt))
-    light (suc zero) = rw work-1 (λ o. (1, inl refl, lit≤ tt))
-    light (suc (suc k)) = rw (work-2 k) (λ o. absurd (not-suc-le-zero o))
-
-pub page-done : PageMended B3 hurt-B whole-B Outcome.Done
-unfolding mendPageRefusal mendedPage pow
-page-done = made-done _ _ _ _ refl refl
-
--- a blank page, which no call takes for a member
-pub page-blank : PageMended A (0xFF ∷ 0x7F ∷ 0xFF ∷ 0x7F ∷ []) (0xFF ∷ 0x7F ∷ 0xFF ∷ 0x7F ∷ []) (Outcome.Refused 17)
-unfolding mendPageRefusal pow
-page-blank = made-refused _ 17 _ _ refl (lit< tt) (lit≤ tt)
-
--- two places of the zero page flipped: the first pass takes sub-word 0 for another multiple
-pub page-wrong : PageMended A page-03 page-03 (Outcome.Refused 17)
-unfolding mendPageRefusal pow
-page-wrong = made-refused _ 17 _ _ refl (lit< tt) (lit≤ tt)
-
--- so that a member comes back where fewer than half as many places as the distance are flipped is false
-pub not-half :
-    ((z x after : List ℕ) (o : Outcome) → Judged A z Verdict.Member → 2 * differences A x z < distance A → PageMended A x after o
-    → o ≡ Outcome.Done)
-    → ⊥
-unfolding differences distance
-not-half h =
-    let e = h zeros page-03 page-03 (Outcome.Refused 17) (judged A zeros Verdict.Member (sym zeros-member)) (lit< tt) page-wrong in
-    let z : _≡_ {A = ℕ} 17 0 = ap outcomeNumber e in omega arith
 
 -- ---- odd syndromes: a page whose sub-word 0 and nested word 0 are x^4
 abbrev page-10 : List ℕ

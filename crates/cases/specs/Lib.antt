@@ -1,4 +1,5 @@
 -- Worked cases of the definitions, each a row of what a definition gives and what it should give.
+-- Those of mended sub-words and mended pages stand in `cases_mended`, a crate beside this one: the two are proved at the same time.
 pub mod Sheets
 pub mod Starred
 pub mod Own

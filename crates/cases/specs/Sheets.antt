@@ -5,19 +5,17 @@
 --   held r            a register's level, count and words
 --   many p L c b x    what a write of c pages lists, then what it leaves in the pages x
 --   alter p x i r b   what refuses bit r of block i made b, or 0, then what that leaves in the page x
---   mend p x i l n    what refuses the mending of sub-word i, or 0, then what that leaves in the page x, the list l and the number n
---   mendPaged p x     what refuses the page x mended through its nested words, or 0, then what that leaves in it
 --   all p a l x       what refuses all syndromes of level a from the odd ones l, or 0, then what that leaves in the list x
-use mathlib.Core.List.{List, [], _∷_, _++_}
+use mathlib.Core.List.{List, _∷_, _++_}
 use Prim.Native.Nat.{ℕ}
 use lib.ListN.{length, replicate}
 use Rattle.code.specs.declared.Parameters.{Parameters}
 use Rattle.code.specs.Register.{Register}
-use Rattle.code.specs.Calls.{leaves, listOf, pagesBy, placesOf, statuses, writeLeaves}
+use Rattle.code.specs.Calls.{leaves, pagesBy, statuses, writeLeaves}
 use Rattle.code.specs.Code.{allSyndromes}
-use Rattle.code.specs.Layout.{altered, flipped, mendedPage, placeList}
-use Rattle.code.specs.Parameters.{sheet, strength}
-use Rattle.code.specs.Refusals.{allRefusal, alterRefusal, mendPageRefusal, mendRefusal}
+use Rattle.code.specs.Layout.{altered}
+use Rattle.code.specs.Parameters.{sheet}
+use Rattle.code.specs.Refusals.{allRefusal, alterRefusal}
 
 abbrev pub Row : Type 0
 Row = List ℕ × List ℕ
@@ -39,17 +37,6 @@ many p L count blocks pages = statuses p L count blocks ++ pagesBy p (statuses p
 
 abbrev pub alter : Parameters → List ℕ → ℕ → ℕ → ℕ → List ℕ
 alter p x i r b = alterRefusal p x i r b ∷ leaves (alterRefusal p x i r b) (altered p x i r b) x
-
--- where k refuses it, or 0, and R are the places
-abbrev pub mendBy : Parameters → List ℕ → ℕ → List ℕ → ℕ → ℕ → List ℕ → List ℕ
-mendBy p x i l n k R =
-    k ∷ leaves k (flipped p x i R) x ++ leaves k (placeList (strength p 0) R) l ++ leaves k (length R ∷ []) (n ∷ [])
-
-abbrev pub mend : Parameters → List ℕ → ℕ → List ℕ → ℕ → List ℕ
-mend p x i l n = mendBy p x i l n (mendRefusal 1 p x i (length l)) (placesOf p x i)
-
-abbrev pub mendPaged : Parameters → List ℕ → List ℕ
-mendPaged p x = mendPageRefusal p x ∷ leaves (mendPageRefusal p x) (listOf (mendedPage p x)) x
 
 abbrev pub all : Parameters → ℕ → List ℕ → List ℕ → List ℕ
 all p a l x = allRefusal 1 p a (length l) (length x) ∷ leaves (allRefusal 1 p a (length l) (length x)) (allSyndromes p l) x
