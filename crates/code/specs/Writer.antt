@@ -1,8 +1,9 @@
 -- The writer program as a function from its input's bytes to its output's.
---   lead input k         leading byte k of the input, 0 where it is missing
---   sheetGiven input     the parameters: bytes q, m, v, then L, then t_0 to t_v if v is 1 to 3
---   blocksGiven input    the blocks: the bytes behind them
---   writer input         byte 0 and the page, or one byte, the refusal's number
+--   lead input k            leading byte k of the input, 0 where it is missing
+--   sheetGiven input        the parameters: bytes q, m, v, then L, then t_0 to t_v if v is 1 to 3
+--   restGiven input         the bytes behind them: the blocks
+--   writer input            byte 0 and the page, or one byte, the refusal's number
+--   Puts out count bytes    an array of 4,097 bytes that begins with the `count` bytes of the output
 use mathlib.Core.Path.{_≡_}
 use mathlib.Core.Bool.{_&&_, cond}
 use mathlib.Core.List.{List, [], _∷_, _++_}
@@ -37,9 +38,9 @@ sheetGiven input = record {
   s = 0;
 }
 
-unfoldable pub blocksGiven : List ℕ → List ℕ
+unfoldable pub restGiven : List ℕ → List ℕ
 unfolding strengthsGiven
-blocksGiven input = drop (4 + strengthsGiven input) input
+restGiven input = drop (4 + strengthsGiven input) input
 
 abbrev pub outputOf : ℕ → List ℕ → List ℕ
 outputOf zero page = 0 ∷ page
@@ -47,13 +48,16 @@ outputOf (suc k) page = suc k ∷ []
 
 -- the page's length is always exact: the program makes the page's room itself
 unfoldable pub writer : List ℕ → List ℕ
-unfolding sheetGiven blocksGiven writeRefusal pageOf
+unfolding sheetGiven restGiven writeRefusal pageOf
 writer input =
     let p = sheetGiven input in
-    let blocks = blocksGiven input in
+    let blocks = restGiven input in
     outputOf (writeRefusal p (lead input 3) blocks (pageBytes p)) (pageOf p blocks)
 
--- the function behind the program: how many bytes are written, and an array of 4,097 bytes that begins with them, the rest 0
-pub record Wrote (input : List ℕ) (count : ℕ) (bytes : List ℕ) : Type 0 where
-  pub counted : count ≡ length (writer input)
-  pub output : bytes ≡ writer input ++ replicate (4097 - length (writer input)) 0
+-- the function behind a program: how many bytes are written, and an array of 4,097 bytes that begins with them, the rest 0
+pub record Puts (out : List ℕ) (count : ℕ) (bytes : List ℕ) : Type 0 where
+  pub counted : count ≡ length out
+  pub output : bytes ≡ out ++ replicate (4097 - length out) 0
+
+abbrev pub Wrote : List ℕ → ℕ → List ℕ → Type 0
+Wrote input count bytes = Puts (writer input) count bytes
