@@ -9,7 +9,7 @@ The first writes the tables of crates/cases/specs/Own.antt and crates/cases_mend
 second says nothing where they stand there already, else it names the files that differ and ends with 1. A row has what a definition gives, as a term, and what this program works out, as
 numbers; the rows are of definitions that no compiled call gives back, and of the calls on erased pages, on shortened
 sheets, on many pages, on one bit of a page, on a sub-word to mend, on a page to mend and on odd syndromes. What the calls give is compared by programs: tools/trial.py,
-tools/counter.py and tools/writer.py take their answers from here.
+tools/counter.py, tools/writer.py and tools/returns.py take their answers from here.
 
 It shares no method with the definitions: generators by trying every polynomial, pages by elimination on the code's
 linear conditions, membership by evaluation at the roots, nested words by turning lists of bits, remainders by long
@@ -653,14 +653,24 @@ def judged(sheet, page):
     return [answer] + ([answer % 32] if 32 <= answer < BLANK else [])
 
 
-def writer(data):
+def head(data):
+    """Of a program's input the sheet, the width and the rest."""
     lead = lambda k: data[k] if k < len(data) else 0
     q, m, v, width = [lead(k) for k in range(4)]
     count = v + 1 if v in (1, 2, 3) else 0
-    sheet = (q, m, v, *[lead(4 + a) if a < count else 0 for a in range(4)], 0)
-    blocks = data[4 + count:]
+    return (q, m, v, *[lead(4 + a) if a < count else 0 for a in range(4)], 0), width, data[4 + count:]
+
+
+def writer(data):
+    sheet, width, blocks = head(data)
     code = refusal(sheet, width=width, blocks=blocks)
     return [code] if code else [0] + page_of_blocks(sheet, blocks)
+
+
+def mender(data):
+    sheet, width, page = head(data)
+    code, *after = mend_page(sheet, page)
+    return [code] if code else [0] + after
 
 
 # ---- the fixed sequence

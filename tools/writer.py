@@ -117,9 +117,10 @@ def cases_of():
     yield 'no end, width', endless([4, 2, 1, 0, 1, 2], [0] * 4096), [5]
 
 
-def main(path):
+def differing(path, cases):
+    """Names the inputs for which the program does not write what is expected, and gives their number."""
     failed = 0
-    for name, pieces, expected in cases_of():
+    for name, pieces, expected in cases:
         try:
             out = program(path, pieces)
         except (subprocess.TimeoutExpired, AssertionError) as reason:
@@ -127,8 +128,8 @@ def main(path):
         if out != expected:
             failed += 1
             print('%s: writes %s, expected %s' % (name, str(out)[:200], str(expected)[:200]), file=sys.stderr)
-    return 1 if failed else 0
+    return failed
 
 
 if __name__ == '__main__':
-    sys.exit(main(sys.argv[1]))
+    sys.exit(1 if differing(sys.argv[1], cases_of()) else 0)

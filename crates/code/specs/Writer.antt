@@ -1,8 +1,10 @@
--- The writer program as a function from its input's bytes to its output's.
---   lead input k         leading byte k of the input, 0 where it is missing
---   sheetGiven input     the parameters: bytes q, m, v, then L, then t_0 to t_v if v is 1 to 3
---   blocksGiven input    the blocks: the bytes behind them
---   writer input         byte 0 and the page, or one byte, the refusal's number
+-- The writer program and the one of the returns desk, as functions from the input's bytes to the output's.
+--   lead input k            leading byte k of the input, 0 where it is missing
+--   sheetGiven input        the parameters: bytes q, m, v, then L, then t_0 to t_v if v is 1 to 3
+--   restGiven input         the bytes behind them: the blocks, or the page to mend
+--   writer input            byte 0 and the page, or one byte, the refusal's number
+--   mender input            byte 0 and the mended page, or one byte, the refusal's number; L counts for nothing
+--   Puts out count bytes    an array of 4,097 bytes that begins with the `count` bytes of the output
 use mathlib.Core.Path.{_≡_}
 use mathlib.Core.Bool.{_&&_, cond}
 use mathlib.Core.List.{List, [], _∷_, _++_}
@@ -10,8 +12,9 @@ use Prim.Native.Nat.{ℕ, zero, suc, _+_, _-_}
 use lib.Dec.{leb}
 use lib.ListN.{length, getD, drop, replicate}
 use Rattle.code.specs.declared.Parameters.{Parameters}
-use Rattle.code.specs.Layout.{pageBytes, pageOf}
-use Rattle.code.specs.Refusals.{writeRefusal}
+use Rattle.code.specs.Calls.{listOf}
+use Rattle.code.specs.Layout.{mendedPage, pageBytes, pageOf}
+use Rattle.code.specs.Refusals.{mendPageRefusal, writeRefusal}
 
 abbrev pub lead : List ℕ → ℕ → ℕ
 lead input k = getD input k 0
@@ -37,9 +40,9 @@ sheetGiven input = record {
   s = 0;
 }
 
-unfoldable pub blocksGiven : List ℕ → List ℕ
+unfoldable pub restGiven : List ℕ → List ℕ
 unfolding strengthsGiven
-blocksGiven input = drop (4 + strengthsGiven input) input
+restGiven input = drop (4 + strengthsGiven input) input
 
 abbrev pub outputOf : ℕ → List ℕ → List ℕ
 outputOf zero page = 0 ∷ page
@@ -47,13 +50,26 @@ outputOf (suc k) page = suc k ∷ []
 
 -- the page's length is always exact: the program makes the page's room itself
 unfoldable pub writer : List ℕ → List ℕ
-unfolding sheetGiven blocksGiven writeRefusal pageOf
+unfolding sheetGiven restGiven writeRefusal pageOf
 writer input =
     let p = sheetGiven input in
-    let blocks = blocksGiven input in
+    let blocks = restGiven input in
     outputOf (writeRefusal p (lead input 3) blocks (pageBytes p)) (pageOf p blocks)
 
--- the function behind the program: how many bytes are written, and an array of 4,097 bytes that begins with them, the rest 0
-pub record Wrote (input : List ℕ) (count : ℕ) (bytes : List ℕ) : Type 0 where
-  pub counted : count ≡ length (writer input)
-  pub output : bytes ≡ writer input ++ replicate (4097 - length (writer input)) 0
+unfoldable pub mender : List ℕ → List ℕ
+unfolding sheetGiven restGiven mendPageRefusal mendedPage
+mender input =
+    let p = sheetGiven input in
+    let page = restGiven input in
+    outputOf (mendPageRefusal p page) (listOf (mendedPage p page))
+
+-- the function behind a program: how many bytes are written, and an array of 4,097 bytes that begins with them, the rest 0
+pub record Puts (out : List ℕ) (count : ℕ) (bytes : List ℕ) : Type 0 where
+  pub counted : count ≡ length out
+  pub output : bytes ≡ out ++ replicate (4097 - length out) 0
+
+abbrev pub Wrote : List ℕ → ℕ → List ℕ → Type 0
+Wrote input count bytes = Puts (writer input) count bytes
+
+abbrev pub Returned : List ℕ → ℕ → List ℕ → Type 0
+Returned input count bytes = Puts (mender input) count bytes

@@ -1,5 +1,4 @@
 -- The writer program: laws that its functions are proved by, and what the bytes that it does not read cannot alter.
-pub mod Input
 pub mod Output
 pub mod Sheet
 pub mod Room

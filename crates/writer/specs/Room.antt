@@ -2,42 +2,18 @@
 --   Asked input p L at k zeros    what the program holds where it asks write
 use mathlib.Core.Path.{_≡_, refl, sym, ap, _∙_}
 use mathlib.Core.List.{List, _∷_, _++_}
-use Prim.Native.Nat.{ℕ, zero, suc, _+_, _-_, _≤_, _<_}
-use native.Mathlib.Nat as Nat
+use Prim.Native.Nat.{ℕ, _+_, _-_, _≤_}
 use native.Mathlib.Omega.{arith}
-use lib.ListN.{length, take, drop, replicate, length-drop, length-replicate, length-take}
-use lib.Seq.{take-all}
+use lib.ListN.{length, take, drop, replicate}
 use Rattle.code.specs.declared.Outcome.{Outcome}
 use Rattle.code.specs.declared.Parameters.{Parameters}
-use Rattle.code.specs.Calls.{Written, leaves, outcome}
+use Rattle.code.specs.Calls.{Written, leaves}
 use Rattle.code.specs.Layout.{pageBytes, pageOf}
 use Rattle.code.specs.Refusals.{writeRefusal}
-use Rattle.code.specs.Writer.{Wrote, blocksGiven, lead, sheetGiven}
-use Rattle.writer.specs.Input.{Begins}
-use Rattle.writer.specs.Output.{pageGiven, refusalOf, writer-done, wrote-by, wrote-refused}
-
--- ---- n + 1 zeros
-drop-replicate : (k n : ℕ) → drop {A = ℕ} k (replicate n 0) ≡ replicate (n - k) 0
-drop-replicate zero n = let e : n ≡ n - 0 = omega arith in ap (λ (i : ℕ). replicate i 0) e
-drop-replicate (suc k) zero = let e : 0 ≡ 0 - suc k = omega arith in ap (λ (i : ℕ). replicate i 0) e
-drop-replicate (suc k) (suc n) = let e : n - k ≡ suc n - suc k = omega arith in drop-replicate k n ∙ ap (λ (i : ℕ). replicate i 0) e
-
--- with x from place 1 on
-room-filled : (n k : ℕ) (zeros x : List ℕ) → zeros ≡ replicate (suc n) 0 → k ≡ length x
-    → take 1 zeros ++ (x ++ drop k (drop 1 zeros)) ≡ (0 ∷ x) ++ replicate (suc n - length (0 ∷ x)) 0
-room-filled n k zeros x z e =
-    let f : n - k ≡ suc n - length (0 ∷ x) = omega arith in
-    ap (λ (l : List ℕ). take 1 l ++ (x ++ drop k (drop 1 l))) z
-    ∙ ap (λ (l : List ℕ). 0 ∷ (x ++ l)) (drop-replicate k n ∙ ap (λ (i : ℕ). replicate i 0) f)
-
-room-length : (n k : ℕ) (zeros : List ℕ) → zeros ≡ replicate (suc n) 0 → k ≤ n → length (take k (drop 1 zeros)) ≡ k
-room-length n k zeros z h =
-    length-take k (drop 1 zeros) ∙ Nat.min-eq-left (rw z (rw (length-replicate {A = ℕ} n 0) h))
-
--- ---- a refusal that write answers is above 0
-outcome-pos : (r n : ℕ) → Outcome.Refused n ≡ outcome r → 0 < n
-outcome-pos zero n e = let z : _≡_ {A = ℕ} 0 1 = cc in absurd (omega arith)
-outcome-pos (suc r) n e = let f : n ≡ suc r = cc in omega arith
+use Rattle.code.specs.Writer.{Wrote, lead, restGiven, sheetGiven, writer}
+use Rattle.given.specs.Input.{Begins, rest-lent}
+use Rattle.given.specs.Output.{outcome-pos, puts-done, room-filled, room-length}
+use Rattle.writer.specs.Output.{pageGiven, refusalOf, writer-eq, wrote-refused}
 
 -- ---- write's answer
 pub record Asked (input : List ℕ) (p : Parameters) (L at k : ℕ) (zeros : List ℕ) : Type 0 where
@@ -59,8 +35,8 @@ module _ (input : List ℕ) (p : Parameters) (L at k : ℕ) (zeros : List ℕ) (
   size : 1 + k - 1 ≡ k
   size = omega arith
 
-  given-is : given ≡ blocksGiven input
-  given-is = take-all (length input - at) (drop at input) (Nat.le-of-eq (length-drop at input)) ∙ a .begins .rest
+  given-is : given ≡ restGiven input
+  given-is = rest-lent input at (a .begins)
 
   lent-length : length lent ≡ pageBytes (sheetGiven input)
   lent-length =
@@ -82,7 +58,7 @@ module _ (input : List ℕ) (p : Parameters) (L at k : ℕ) (zeros : List ℕ) (
       let x : after ≡ pageOf p given = w .buffer ∙ ap (λ (r : ℕ). leaves r (pageOf p given) lent) (sym z) in
       let y : after ≡ pageGiven input = x ∙ rw (given-is, a .sheet) refl in
       let m : length after ≡ 1 + k - 1 = l ∙ lent-length ∙ ap pageBytes (sym (a .sheet)) ∙ sym (a .page) ∙ sym size in
-      wrote-by input (0 ∷ after) (1 + k) (take 1 zeros ++ (after ++ drop (1 + k - 1) (drop 1 zeros)))
-      (writer-done input (sym refusal-is ∙ sym z) ∙ ap (λ (t : List ℕ). 0 ∷ t) (sym y))
-      (omega arith)
-      (room-filled 4096 (1 + k - 1) zeros after (a .clear) (sym m))
+      let full : take 1 zeros ++ (after ++ drop (1 + k - 1) (drop 1 zeros)) ≡ (0 ∷ after) ++ replicate (4097 - length (0 ∷ after)) 0 =
+      room-filled 4096 (1 + k - 1) zeros after (a .clear) (sym m) in
+      puts-done (writer input) (refusalOf input) (pageGiven input) (writer-eq input) (1 + k) _ (sym refusal-is ∙ sym z) (omega (arith, ap length y))
+      (full ∙ ap (λ (t : List ℕ). (0 ∷ t) ++ replicate (4097 - length (0 ∷ t)) 0) y)

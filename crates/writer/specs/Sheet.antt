@@ -13,7 +13,7 @@ use Rattle.code.specs.Layout.{blank, blocksClear, dataBytes, pageBytes, pageOf}
 use Rattle.code.specs.Lists.{_orElse_, _when_}
 use Rattle.code.specs.Parameters.{Accepted, Tests, sheetRefusal, testedNumber, testedOf}
 use Rattle.code.specs.Refusals.{badWidth, notExact, writeLengths, writeRefusal}
-use Rattle.code.specs.Writer.{Wrote, blocksGiven, lead, sheetGiven}
+use Rattle.code.specs.Writer.{Wrote, restGiven, lead, sheetGiven}
 use Rattle.writer.specs.Output.{wrote-refused}
 
 -- ---- write's chain of refusals: the sheet's stands first
@@ -42,8 +42,8 @@ sheet-refused input p t n k count bytes e s r f a b =
     let h : 0 < k = rw (f, r) (sheet-pos p n (rw r at s)) in
     let g : k ≡ sheetRefusal p = f ∙ s .number in
     wrote-refused input k count bytes
-    (g ∙ sym (write-sheet p (lead input 3) (blocksGiven input) (pageBytes p) (rw (← g) h))
-    ∙ ap (λ (q : Parameters). writeRefusal q (lead input 3) (blocksGiven input) (pageBytes q)) e) h a b
+    (g ∙ sym (write-sheet p (lead input 3) (restGiven input) (pageBytes p) (rw (← g) h))
+    ∙ ap (λ (q : Parameters). writeRefusal q (lead input 3) (restGiven input) (pageBytes q)) e) h a b
 
 -- ---- the test's answer is the sheet
 accepted-by : (p : Parameters) (r q m v t0 t1 t2 t3 s : ℕ) → r ≡ 0 → Tested.Accepted q m v t0 t1 t2 t3 s ≡ testedOf p r

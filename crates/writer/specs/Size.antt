@@ -1,15 +1,15 @@
 -- At most 4,097 bytes are written: byte 0 and a page of accepted parameters.
-use mathlib.Core.Path.{_≡_, refl, sym, ap, _∙_}
+use mathlib.Core.Path.{_≡_, refl}
 use mathlib.Core.Logic.{_⊎_, inl, inr}
 use mathlib.Core.List.{List}
-use Prim.Native.Nat.{ℕ, _+_, _-_, _≤_, _<_}
+use Prim.Native.Nat.{ℕ, _≤_, _<_}
 use native.Mathlib.Nat as Nat
 use native.Mathlib.Omega.{arith}
 use lib.Dec.{lit≤}
-use lib.ListN.{length, replicate, take, length-append, length-replicate, length-take}
+use lib.ListN.{length}
 use Rattle.code.specs.Layout.{pageBytes}
 use Rattle.code.specs.Pages.{page-length}
-use Rattle.code.specs.Writer.{Wrote, blocksGiven, lead, sheetGiven, writer}
+use Rattle.code.specs.Writer.{lead, restGiven, sheetGiven, writer}
 use Rattle.layout.specs.Sizes.{page-high}
 use Rattle.writer.specs.Output.{refusalOf, writer-done, writer-refused}
 use Rattle.writer.specs.Sheet.{write-accepted}
@@ -20,15 +20,6 @@ module _ (input : List ℕ) where
     where
       go : (refusalOf input ≡ 0) ⊎ (0 < refusalOf input) → length (writer input) ≤ 4097
       go (inl z) =
-          let A = write-accepted (sheetGiven input) (lead input 3) (blocksGiven input) (pageBytes (sheetGiven input)) z in
-          rw (writer-done input z) (omega (arith, page-length (sheetGiven input) (blocksGiven input), page-high (sheetGiven input) A))
+          let A = write-accepted (sheetGiven input) (lead input 3) (restGiven input) (pageBytes (sheetGiven input)) z in
+          rw (writer-done input z) (omega (arith, page-length (sheetGiven input) (restGiven input), page-high (sheetGiven input) A))
       go (inr h) = rw (writer-refused input (refusalOf input) refl h) (lit≤ tt)
-
-  -- the bytes written stand at the front of the 4,097
-  pub wrote-fits : (count : ℕ) (bytes : List ℕ) → Wrote input count bytes → (count ≤ length bytes) × (count ≡ length (take count bytes))
-  wrote-fits count bytes w =
-      let e : length bytes ≡ length (writer input) + (4097 - length (writer input)) =
-      ap length (w .output) ∙ length-append (writer input) (replicate (4097 - length (writer input)) 0)
-      ∙ ap (λ (k : ℕ). length (writer input) + k) (length-replicate (4097 - length (writer input)) 0) in
-      let h : count ≤ length bytes = omega (arith, w .counted) in
-      (h, sym (length-take count bytes ∙ Nat.min-eq-left h))

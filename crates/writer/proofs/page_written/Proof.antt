@@ -11,8 +11,8 @@ use Rattle.writer.proofs.page_written.Tie as tie
 lead-requires : tie.Need-lead-requires
 lead-requires c κs = search needs
 
-blocks-begin-requires : tie.Need-blocks-begin-requires
-blocks-begin-requires c κs = search needs
+rest-begins-requires : tie.Need-rest-begins-requires
+rest-begins-requires c κs = search needs
 
 sub-blocks : tie.Need-sub-blocks
 sub-blocks c = search needs
@@ -53,14 +53,14 @@ enum-told : tie.Need-enum-told
 enum-told c = search needs
 
 -- what write was asked
-asked : (c : tie.After-zeros) → (let s = c .before .before .before .before .before .before in Asked (s .args .input .now) (s .args .p) (c .before .before .before .before .lead .result) (c .before .before .before .blocks-begin .result) (c .before .page-bytes .result) (c .zeros .result))
+asked : (c : tie.After-zeros) → (let s = c .before .before .before .before .before .before in Asked (s .args .input .now) (s .args .p) (c .before .before .before .before .lead .result) (c .before .before .before .rest-begins .result) (c .before .page-bytes .result) (c .zeros .result))
 asked c =
     let b = c .before .before .before in
     let s = b .before .before .before in
     record {
       sheet = s .pre .0;
       width = b .before .lead .ensures;
-      begins = b .blocks-begin .ensures;
+      begins = b .rest-begins .ensures;
       page = c .before .page-bytes .ensures;
       most = omega (arith, c .before .page-bytes .ensures, page-high (s .args .p) (s .pre .1));
       clear = c .zeros .ensures;
@@ -72,7 +72,7 @@ returns c =
     let z = w .before .before in
     let b = z .before .before .before in
     let s = b .before .before .before in
-    page-done (s .args .input .now) (s .args .p) (b .before .lead .result) (b .blocks-begin .result) (z .before .page-bytes .result) (z .zeros .result) (asked z)
+    page-done (s .args .input .now) (s .args .p) (b .before .lead .result) (b .rest-begins .result) (z .before .page-bytes .result) (z .zeros .result) (asked z)
     (w .write .last .1 .1 .1 .0) (rw (c .enum-told .given .1) at (w .write .ensures)) (c .before .before .bytes2 .given)
 
 refused-requires : tie.Need-refused-requires
@@ -85,7 +85,7 @@ returns-2 c =
     let z = w .before .before in
     let b = z .before .before .before in
     let s = b .before .before .before in
-    page-refused (s .args .input .now) (s .args .p) (b .before .lead .result) (b .blocks-begin .result) (z .before .page-bytes .result) (z .zeros .result) (asked z)
+    page-refused (s .args .input .now) (s .args .p) (b .before .lead .result) (b .rest-begins .result) (z .before .page-bytes .result) (z .zeros .result) (asked z)
     _ (c .refused .result .count) (w .write .last .1 .1 .1 .0) (c .refused .result .bytes) (rw (o .outcome .given .1) at (w .write .ensures)) (c .refused .ensures .0) (c .refused .ensures .1)
 
 pub page-written-spec : {M : Type 1} → statement M
@@ -93,7 +93,7 @@ page-written-spec =
     tie.close
     (tie.spec
     lead-requires
-    blocks-begin-requires
+    rest-begins-requires
     sub-blocks
     part-blocks-start
     part-blocks-end

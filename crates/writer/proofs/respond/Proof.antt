@@ -2,7 +2,9 @@ use borrow.Author.Needs.{needs}
 use mathlib.Core.Path.{sym, _∙_}
 use native.Mathlib.Nat as Nat
 use lib.ListN.{length-take, take}
-use Rattle.writer.specs.Beyond.{Answered, answered}
+use Rattle.code.specs.Writer.{writer}
+use Rattle.given.specs.Output.{Answered}
+use Rattle.writer.specs.Beyond.{owed}
 use Rattle.writer.specs.Sheet.{sheet-refused, accepted-is, accepted-sheet}
 use Rattle.writer.proofs.respond.Statement.{statement}
 use Rattle.writer.proofs.respond.Tie as tie
@@ -33,19 +35,19 @@ module _ (c : tie.After-refused) where
   abbrev s : tie.Start
   s = c .before .before .before .before .before .before .before .before
 
-  number-owed : Answered (s .args .room .now) (s .args .got) (c .refused .result .count) (c .refused .result .bytes)
+  number-owed : Answered writer (s .args .room .now) (s .args .got) (c .refused .result .count) (c .refused .result .bytes)
   number-owed =
       let n = c .before in
       let t = n .before .before .before in
       let g = t .before in
-      answered (s .args .room .now) (s .args .got) (c .refused .result .count) (c .refused .result .bytes) (s .pre .0)
+      owed (s .args .room .now) (s .args .got) (c .refused .result .count) (c .refused .result .bytes) (s .pre .0)
       (sheet-refused (take (s .args .got) (s .args .room .now)) (g .sheet-given .result) (t .test .result) _ (n .tested-number .result) (c .refused .result .count) (c .refused .result .bytes)
       (g .sheet-given .ensures) (t .test .ensures) (n .before .enum-told .given .1) (n .tested-number .ensures) (c .refused .ensures .0) (c .refused .ensures .1))
 
-page-owed : (c : tie.After-page-written) → let s = c .before .before .before .before .before .before .before .before in Answered (s .args .room .now) (s .args .got) (c .page-written .result .count) (c .page-written .result .bytes)
+page-owed : (c : tie.After-page-written) → let s = c .before .before .before .before .before .before .before .before in Answered writer (s .args .room .now) (s .args .got) (c .page-written .result .count) (c .page-written .result .bytes)
 page-owed c =
     let s = c .before .before .before .before .before .before .before .before in
-    answered (s .args .room .now) (s .args .got) (c .page-written .result .count) (c .page-written .result .bytes) (s .pre .0) (c .page-written .ensures)
+    owed (s .args .room .now) (s .args .got) (c .page-written .result .count) (c .page-written .result .bytes) (s .pre .0) (c .page-written .ensures)
 
 put-requires : tie.Need-put-requires
 put-requires c κs = number-owed c

@@ -1,8 +1,8 @@
 use borrow.Author.Needs.{needs}
 use native.Mathlib.Omega.{arith}
-use Rattle.writer.specs.Input.{many-most, strength-there, strength-past}
-use Rattle.writer.proofs.strength_given.Statement.{statement}
-use Rattle.writer.proofs.strength_given.Tie as tie
+use Rattle.given.specs.Input.{many-most, strength-there, strength-past}
+use Rattle.given.proofs.strength_given.Statement.{statement}
+use Rattle.given.proofs.strength_given.Tie as tie
 
 strengths-given-requires : tie.Need-strengths-given-requires
 strengths-given-requires c κs = search needs

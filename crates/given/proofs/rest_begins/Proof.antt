@@ -1,8 +1,8 @@
 use borrow.Author.Needs.{needs}
 use native.Mathlib.Omega.{arith}
-use Rattle.writer.specs.Input.{many-most, begins-within, begins-end}
-use Rattle.writer.proofs.blocks_begin.Statement.{statement}
-use Rattle.writer.proofs.blocks_begin.Tie as tie
+use Rattle.given.specs.Input.{many-most, begins-within, begins-end}
+use Rattle.given.proofs.rest_begins.Statement.{statement}
+use Rattle.given.proofs.rest_begins.Tie as tie
 
 strengths-given-requires : tie.Need-strengths-given-requires
 strengths-given-requires c κs = search needs
@@ -20,5 +20,5 @@ returns-2 c =
     let k = c .before in
     begins-end (k .before .before .args .input .now) (k .strengths-given .result) (k .strengths-given .ensures) (c .if1 .left)
 
-pub blocks-begin-spec : {M : Type 1} → statement M
-blocks-begin-spec = tie.close (tie.spec strengths-given-requires add-at returns returns-2)
+pub rest-begins-spec : {M : Type 1} → statement M
+rest-begins-spec = tie.close (tie.spec strengths-given-requires add-at returns returns-2)

@@ -1,8 +1,8 @@
 use borrow.Author.Needs.{needs}
 use mathlib.Core.Path.{refl}
-use Rattle.writer.specs.Input.{sheet-is}
-use Rattle.writer.proofs.sheet_given.Statement.{statement}
-use Rattle.writer.proofs.sheet_given.Tie as tie
+use Rattle.given.specs.Input.{sheet-is}
+use Rattle.given.proofs.sheet_given.Statement.{statement}
+use Rattle.given.proofs.sheet_given.Tie as tie
 
 lead-requires : tie.Need-lead-requires
 lead-requires c κs = search needs

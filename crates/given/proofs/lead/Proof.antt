@@ -1,8 +1,8 @@
 use borrow.Author.Needs.{needs}
 use mir.Facts.{fits-widen}
-use Rattle.writer.specs.Input.{lead-missing}
-use Rattle.writer.proofs.lead.Statement.{statement}
-use Rattle.writer.proofs.lead.Tie as tie
+use Rattle.given.specs.Input.{lead-missing}
+use Rattle.given.proofs.lead.Statement.{statement}
+use Rattle.given.proofs.lead.Tie as tie
 
 shared-slice-read-result : tie.Need-shared-slice-read-result
 shared-slice-read-result c = search needs

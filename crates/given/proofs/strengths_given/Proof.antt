@@ -1,7 +1,7 @@
 use borrow.Author.Needs.{needs}
-use Rattle.writer.specs.Input.{many-low, many-high, many-within}
-use Rattle.writer.proofs.strengths_given.Statement.{statement}
-use Rattle.writer.proofs.strengths_given.Tie as tie
+use Rattle.given.specs.Input.{many-low, many-high, many-within}
+use Rattle.given.proofs.strengths_given.Statement.{statement}
+use Rattle.given.proofs.strengths_given.Tie as tie
 
 lead-requires : tie.Need-lead-requires
 lead-requires c κs = search needs
