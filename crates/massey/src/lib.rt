@@ -19,7 +19,7 @@ pub fn product(powers: &[u16], logs: &[u16], f: Field, a: u16, b: u16) -> u16
 }
 
 // The product of the element with the log k and another.
-fn multiple(powers: &[u16], logs: &[u16], f: Field, k: u16, b: u16) -> u16
+pub fn multiple(powers: &[u16], logs: &[u16], f: Field, k: u16, b: u16) -> u16
     requires { ⌜ Tables f (now powers) (now logs) × (k < 2 ^ f .q - 1) × (b < 2 ^ f .q) ⌝ }
     ensures { λ r. ⌜ Product (f .q) (power (f .q) k) b r ⌝ }
 {

@@ -12,10 +12,11 @@ use lib.ListN.{length, getD, drop, length-drop, length-map, drop-of-length-le}
 use lib.Pow.{pow-pos}
 use lib.Seq.{drop-cons}
 use Rattle.polynomial.specs.Xor.{xor-is}
-use Rattle.field.specs.Elements.{element-num, power, power-num, times}
-use Rattle.field.specs.Field.{Field2, ring, add-eq-zero, mul-eq-zero, mul-one, mul-pow, pow-mul, zero-mul}
+use Rattle.field.specs.Elements.{element-num, element-zero, power, power-num, times}
+use Rattle.field.specs.Field.{Field2, ring, add-eq-zero, mul-eq-zero, mul-one, mul-pow, pow, pow-mul, pow≢zero, zero-mul}
 use Rattle.field.specs.Fields.{BinaryField, Known, fieldOf}
 use Rattle.field.specs.Inverse.{recip, recip-eq, recip-is, recip-unique}
+use Rattle.field.specs.Powers.{α≢0}
 use Rattle.field.specs.Unmix.{unmix, unmix-agree, unmix-cons, unmix-nil}
 use Rattle.tables.specs.Powers.{power-lt}
 use Rattle.code.specs.Filled.{map-at}
@@ -63,15 +64,23 @@ node-room {f} {p} {l} T e =
     let o : f .order ≡ 2 ^ f .q - 1 = T .field .order in
     Nat.lt-of-lt-of-le (Nat.mod-lt e (omega (arith, size-least (f .q) (T .field .known)))) (rw o (power-room f p l T))
 
+-- powers are above 0
+power-above : (q : ℕ) → Known q → (k : ℕ) → 0 < power q k
+power-above q known k =
+    let B = fieldOf q in
+    Nat.pos-of-ne-zero (λ e. pow≢zero (B .field) (B .α) (α≢0 B) k
+    (sym (element-num B (pow (B .field) (B .α) k)) ∙ ap (el q) (power-num q known k ∙ e) ∙ element-zero B))
+
 -- the entry j i, counted modulo the order, of the powers
-pub node-is : {f : Field} {p l : List ℕ} → Tables f p l → (j i : ℕ) → (getD p (j * i % f .order) 0 ≡ power (f .q) (j * i)) × (getD p (j * i % f .order) 0 < 2 ^ f .q)
+pub node-is : {f : Field} {p l : List ℕ} → Tables f p l → (j i : ℕ)
+    → (getD p (j * i % f .order) 0 ≡ power (f .q) (j * i)) × (0 < getD p (j * i % f .order) 0) × (getD p (j * i % f .order) 0 < 2 ^ f .q)
 node-is {f} {p} T j i =
     let known = T .field .known in
     let n = 2 ^ f .q - 1 in
     let e : getD p (j * i % f .order) 0 ≡ power (f .q) (j * i) =
     ap (λ (m : ℕ). getD p (j * i % m) 0) (T .field .order)
     ∙ root-in p (j * i % n) .root (f .q) (T .powers) (exponent-lt (f .q) known (j * i % n) (j * i) refl) ∙ power-mod (f .q) known (j * i) in
-    (e, rw e (power-lt (f .q) known (j * i)))
+    (e, rw e (power-above (f .q) known (j * i)), rw e (power-lt (f .q) known (j * i)))
 
 module _ (q : ℕ) (known : Known q) where
   abbrev B : BinaryField

@@ -13,6 +13,7 @@ ghost use Rattle.element.specs.Lent.{Tables};
 ghost use Rattle.massey.specs.Entries.{Below};
 ghost use Rattle.unmix.specs.Nodes.{Apart, Divided, TakenOut, unmixedAt, weightAt};
 use element::Field;
+use massey::multiple;
 use massey::product;
 
 // The numbers but for i: how many, and they stand first in the list.
@@ -36,7 +37,7 @@ pub fn others_into(list: &mut [u16], ks: &[u16], i: u16) -> usize
 // α^(j i).
 fn node(powers: &[u16], logs: &[u16], f: Field, j: usize, i: usize) -> u16
     requires { ⌜ Tables f (now powers) (now logs) × (j < 128) × (i < 8) ⌝ }
-    ensures { λ r. ⌜ (r ≡ power (f .q) (j * i)) × (r < 2 ^ f .q) ⌝ }
+    ensures { λ r. ⌜ (r ≡ power (f .q) (j * i)) × (0 < r) × (r < 2 ^ f .q) ⌝ }
 {
     let n = f.order as usize;
     powers[j * i % n]
@@ -58,15 +59,16 @@ fn quotient(powers: &[u16], logs: &[u16], f: Field, a: u16, d: u16) -> u16
     r as u16
 }
 
-// The node y taken out of the sums: entry l becomes entry l + 1 plus y times entry l; the last one stays.
+// The node y, which is above 0, taken out of the sums: entry l becomes entry l + 1 plus y times entry l; the last one stays.
 fn take_out(sums: &mut [u16], powers: &[u16], logs: &[u16], f: Field, y: u16)
-    requires { ⌜ Tables f (now powers) (now logs) × Below (f .q) (now sums) × (y < 2 ^ f .q) ⌝ }
+    requires { ⌜ Tables f (now powers) (now logs) × Below (f .q) (now sums) × (0 < y) × (y < 2 ^ f .q) ⌝ }
     ensures { λ x. ⌜ TakenOut (f .q) y (now (sums .entry)) (now (sums .exit)) ⌝ }
 {
+    let k = element::log(logs, y as u32);
     let n = sums.len();
     let mut l: usize = 0;
     while l + 1 < n {
-        let x = product(powers, logs, f, y, sums[l]);
+        let x = multiple(powers, logs, f, k, sums[l]);
         sums[l] = sums[l + 1] ^ x;
         l += 1;
     }

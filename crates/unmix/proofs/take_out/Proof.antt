@@ -3,33 +3,48 @@ use Prim.Native.Nat.{_-_}
 use native.Mathlib.Omega.{arith}
 use mathlib.Core.Path.{_≡_, refl}
 use lib.ListN.{length}
+use native.Mathlib.Nat as Nat
+use Rattle.element.specs.Lent.{LogOf, log-room}
+use Rattle.massey.specs.Entries.{product-log}
 use Rattle.unmix.specs.Sums.{Taking, taking-first, taking-last, taking-next}
 use Rattle.unmix.proofs.take_out.Statement.{statement}
 use Rattle.unmix.proofs.take_out.Tie as tie
 
 abbrev Inv-loop : tie.InvT-loop
-Inv-loop sums₀ powers logs f y n l₀ sums l = (n ≡ length sums₀) × Taking (f .q) y sums₀ l sums
+Inv-loop sums₀ powers logs f y k n l₀ sums l = (n ≡ length sums₀) × Taking (f .q) y sums₀ l sums
 
 abbrev μ-loop : tie.MeasureT-loop
-μ-loop sums₀ powers logs f y n l₀ sums l = n - l
+μ-loop sums₀ powers logs f y k n l₀ sums l = n - l
+
+log-requires : tie.Need-log-requires Inv-loop μ-loop
+log-requires c κs =
+    let s = c .before .before .before in
+    Nat.lt-of-lt-of-le (s .pre .3) (log-room (s .args .f) (s .args .powers .now) (s .args .logs .now) (s .pre .0))
+
+-- the log of y
+module _ (c : tie.After-log Inv-loop μ-loop) where
+  abbrev s : tie.Start Inv-loop μ-loop
+  s = c .before .before .before .before
+
+  log-is : LogOf (s .args .f .q) (s .args .y) (c .log .result)
+  log-is = c .log .ensures .log (s .args .f .q) (s .pre .0 .logs) (s .pre .2) (s .pre .3)
 
 loop-holds : tie.Need-loop-holds Inv-loop μ-loop
-loop-holds c = let s = c .before .before .before in (refl, taking-first _ _ _ (s .pre .1))
+loop-holds c = (refl, taking-first _ _ _ (s c .pre .1))
 
 add-loop : tie.Need-add-loop Inv-loop μ-loop
 add-loop c = search needs
 
-mul-product : tie.Need-mul-product Inv-loop μ-loop
-mul-product c = search needs
+mul-multiple : tie.Need-mul-multiple Inv-loop μ-loop
+mul-multiple c = search needs
 
-slice-read-product : tie.Need-slice-read-product Inv-loop μ-loop
-slice-read-product c = search needs
+slice-read-multiple : tie.Need-slice-read-multiple Inv-loop μ-loop
+slice-read-multiple c = search needs
 
-product-requires : tie.Need-product-requires Inv-loop μ-loop
-product-requires c κs =
+multiple-requires : tie.Need-multiple-requires Inv-loop μ-loop
+multiple-requires c κs =
     let l = c .before .before in
-    let s = l .before .before .before .before in
-    (s .pre .0, s .pre .2, l .loop .inv .1 .small .lt (l .loop .l))
+    (s (l .before) .pre .0, log-is (l .before) .below, l .loop .inv .1 .small .lt (l .loop .l))
 
 add-sums : tie.Need-add-sums Inv-loop μ-loop
 add-sums c = search needs
@@ -55,8 +70,8 @@ loop-less c = search needs
 loop-again : tie.Need-loop-again Inv-loop μ-loop
 loop-again c =
     let l = c .before .before .before .before in
-    let s = l .before .before .before .before in
-    (l .loop .inv .0, taking-next (s .pre .0 .field .known) (s .pre .2) (l .loop .inv .1) (omega (arith, l .loop .inv .0, c .before .before .before .loop-test .taken)) (c .before .product .result) (c .before .product .ensures))
+    let s = s (l .before) in
+    (l .loop .inv .0, taking-next (s .pre .0 .field .known) (s .pre .3) (l .loop .inv .1) (omega (arith, l .loop .inv .0, c .before .before .before .loop-test .taken)) (c .before .multiple .result) (product-log (log-is (l .before)) (c .before .multiple .ensures)))
 
 same-length : tie.Need-same-length Inv-loop μ-loop
 same-length c = search needs
@@ -70,11 +85,12 @@ take-out-spec =
     (tie.spec
     Inv-loop
     μ-loop
+    log-requires
     loop-holds
     add-loop
-    mul-product
-    slice-read-product
-    product-requires
+    mul-multiple
+    slice-read-multiple
+    multiple-requires
     add-sums
     mul-sums
     slice-read-sums

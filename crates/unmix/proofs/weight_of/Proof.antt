@@ -60,14 +60,14 @@ take-out-requires : tie.Need-take-out-requires Inv-loop μ-loop
 take-out-requires c κs =
     let t = c .before in
     let i = t .before .before in
-    (s i .pre .0, l i .loop .inv .1 .small, t .node2 .ensures .1)
+    (s i .pre .0, l i .loop .inv .1 .small, t .node2 .ensures .1, t .node2 .ensures .2)
 
 product-requires : tie.Need-product-requires Inv-loop μ-loop
 product-requires c κs =
     let t = c .before .before .before .before in
     let i = t .before .before in
     let x = l i .before .node in
-    (s i .pre .0, l i .loop .inv .1 .below, rw (xor-is (x .result) (t .node2 .result)) (xor-lt (s i .args .f .q) (x .result) (t .node2 .result) (x .ensures .1) (t .node2 .ensures .1)))
+    (s i .pre .0, l i .loop .inv .1 .below, rw (xor-is (x .result) (t .node2 .result)) (xor-lt (s i .args .f .q) (x .result) (t .node2 .result) (x .ensures .2) (t .node2 .ensures .2)))
 
 add-c : tie.Need-add-c Inv-loop μ-loop
 add-c c = search needs
