@@ -217,6 +217,7 @@ module _ (n : ℕ) where
   )
 
   flips-at : (k : ℕ) (R : List ℕ) → Rising k n R → All (λ i. coefficient (flips R) i ≡ 1) R
+  unfolding flips xor
   flips-at k [] r = tt
   flips-at k (j ∷ R) r =
       rw (flips-cons j R) (

@@ -26,15 +26,18 @@ module _ {A : Type 0} where
   map-all P f (x ∷ l) h = (h.0, map-all P f l h.1)
 
   pub mem-map : {B : Type 0} (f : A → B) (a : A) (l : List A) → Mem a l → Mem (f a) (map f l)
+  mem-map {B = B} f a [] x' = elim x' [ ]
   mem-map f a (x ∷ l) (inl e) = inl (ap f e)
   mem-map f a (x ∷ l) (inr m) = inr (mem-map f a l m)
 
   -- what is true of f at each member is true at each member of the image
   pub map-mem : {B : Type 0} (P : B → Type 0) (f : A → B) (l : List A) → ((a : A) → Mem a l → P (f a)) → (b : B) → Mem b (map f l) → P b
+  map-mem {B = B} P f [] h b x'' = elim x'' [ ]
   map-mem P f (x ∷ l) h b (inl e) = rw e (h x (inl refl))
   map-mem P f (x ∷ l) h b (inr m) = map-mem P f l (λ a k. h a (inr k)) b m
 
   pub mem-left : (a : A) (l k : List A) → Mem a l → Mem a (l ++ k)
+  mem-left a [] k x' = elim x' [ ]
   mem-left a (x ∷ l) k (inl e) = inl e
   mem-left a (x ∷ l) k (inr m) = inr (mem-left a l k m)
 
@@ -68,6 +71,7 @@ member-mem a (x ∷ l) t = go (eqb a x) (eqb→eq a x) (member-mem a l) t
 
 pub mem-member : (a : ℕ) (l : List ℕ) → Mem a l → T (member a l)
 unfolding member
+mem-member a [] x' = elim x' [ ]
 mem-member a (x ∷ l) (inl e) = go (eqb a x) (rw e (eqb_refl x))
   where
     go : (b : Bool) → T b → T (b || member a l)
@@ -118,6 +122,7 @@ distinct-once (x ∷ l) = go (distinct-once l)
     go o = rw (distinct_cons x l) (add-cases Once x (distinct l) (λ m. o) (λ n. (n, o)))
 
 pub mem-distinct : (a : ℕ) (l : List ℕ) → Mem a l → Mem a (distinct l)
+mem-distinct a [] x' = elim x' [ ]
 mem-distinct a (x ∷ l) (inl e) = rw (distinct_cons x l) (add-cases (λ k. Mem a k) x (distinct l) (λ m. rw e m) (λ n. inl e))
 mem-distinct a (x ∷ l) (inr m) = go (mem-distinct a l m)
   where

@@ -74,6 +74,7 @@ module _ (F : Field2) where
   mval-product r xs x = rw (product-cons r xs, mval-times r 𝟘 (product xs) x) (simp ring)
 
   pub product-root : (xs : List K) (x : K) → Mem x xs → mval (product xs) x ≡ 𝟘
+  product-root [] x x3 = elim x3 [ ]
   product-root (r ∷ xs) x (inl e) = mval-product r xs x ∙ rw e (simp ring)
   product-root (r ∷ xs) x (inr m) = mval-product r xs x ∙ simp (product-root xs x m, ring)
 
