@@ -1,6 +1,8 @@
 // Remainders with a byte for a digit. A table has a row for each byte of a word, so that a step adds half as many rows as with hex
 // digits (reduction::table), of whose rows these are sums. A row has six words: the generator has a degree of at most 384, and moved up
 // to degree 768 it is 0 in the six words below. 2,048 rows take 12,288 words, and as long to make as some eight remainders.
+#![tactic(auto)]
+
 ghost use Rattle.std.specs.Prelude.{◌≡◌, List, ℕ, ◌+◌, ◌-◌, ◌*◌, ◌/◌, ◌%◌, ◌^◌, ◌≤◌, ◌<◌, length, take};
 ghost use Rattle.polynomial.specs.Digits.{value};
 ghost use Rattle.polynomial.specs.Xor.{xor};

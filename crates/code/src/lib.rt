@@ -2,7 +2,7 @@
 
 // The parameters of a code: the requirement's sheet. Its strengths t0 to t3 are the errors each level corrects; places past v are 0.
 // The top s coefficients of every sub-word are 0 and not stored.
-#[derive(Drop)]
+#[derive(Clone, Copy)]
 pub struct Parameters {
     pub q: u32,
     pub m: u32,
@@ -15,7 +15,7 @@ pub struct Parameters {
 }
 
 // Tested parameters: their numbers, or the number of the refusal.
-#[derive(Drop)]
+#[derive(Clone, Copy)]
 pub enum Tested {
     Accepted {
         q: u32,
@@ -31,14 +31,14 @@ pub enum Tested {
 }
 
 // The answer of a call that makes something.
-#[derive(Drop)]
+#[derive(Clone, Copy)]
 pub enum Outcome {
     Done,
     Refused(u8),
 }
 
 // The answer of judge and of read out: member, blank, or the first word that fails.
-#[derive(Drop)]
+#[derive(Clone, Copy)]
 pub enum Verdict {
     Member,
     Blank,
@@ -48,7 +48,7 @@ pub enum Verdict {
 }
 
 // The answer of the nesting coefficient's call: a bit polynomial, or the number of the refusal.
-#[derive(Drop)]
+#[derive(Clone, Copy)]
 pub enum Nesting {
     Coefficient(u64),
     Refused(u8),

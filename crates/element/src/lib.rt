@@ -1,4 +1,6 @@
 // Elements of the three fields, as numbers below 2^q: sums, products and powers, by tables of powers and logs.
+#![tactic(auto)]
+
 ghost use Rattle.std.specs.Prelude.{◌≡◌, ◌+◌, ◌-◌, ◌%◌, ◌^◌, ◌<◌, length};
 ghost use Rattle.field.specs.Elements.{times, power};
 ghost use Rattle.field.specs.Fields.{Known};
@@ -11,7 +13,7 @@ ghost use Rattle.element.specs.Operations.{zero_of, one_of, alpha_of, refusal, G
 use tables::{logs4, logs8, logs12, powers4, powers8, powers12};
 
 // An element of a field: a number below 2^q, whose bit k is the coefficient of x^k.
-#[derive(Drop)]
+#[derive(Clone, Copy)]
 pub struct Element(pub u16);
 
 impl Element {
@@ -23,7 +25,7 @@ impl Element {
 }
 
 // A field GF(2^q): its field polynomial (bit k is the coefficient of x^k), its size 2^q, and the order 2^q - 1 of alpha.
-#[derive(Drop)]
+#[derive(Clone, Copy)]
 pub struct Field {
     pub q: u32,
     pub polynomial: u32,
@@ -53,14 +55,14 @@ pub const FIELDS: [Field; 3] = [
     },
 ];
 
-#[derive(Drop)]
+#[derive(Clone, Copy)]
 pub enum Made {
     Field(Field),
     Refused(u8),
 }
 
 // The answer of an operation: an element, or the number of the refusal.
-#[derive(Drop)]
+#[derive(Clone, Copy)]
 pub enum Computed {
     Element(Element),
     Refused(u8),

@@ -1,4 +1,6 @@
 // Lists of 16-bit numbers: filled from the front, and as bytes, two a number, low byte first.
+#![tactic(auto)]
+
 ghost use Rattle.std.specs.Prelude.{cond, ◌≡◌, [], ◌∷◌, ◌++◌, ◌+◌, ◌*◌, ◌<◌, ◌≤◌, length, take, drop};
 ghost use Rattle.polynomial.specs.Digits.{digits};
 ghost use Rattle.code.specs.Calls.{as_bytes, leaves, number_at};

@@ -15,7 +15,7 @@ ghost use Rattle.search.specs.Zeros.{Collected, Keeps, Rooted};
 use element::Field;
 
 // A term that the search runs through: α^e x^i, at x = 1/α^k for rising k, plus w. One whose coefficient is 0 has e = i = 0 and w = 1.
-#[derive(Drop)]
+#[derive(Clone, Copy)]
 struct Slot {
     e: usize,
     i: usize,
@@ -139,7 +139,7 @@ fn values(
 }
 
 // Values at three places.
-#[derive(Drop)]
+#[derive(Clone, Copy)]
 struct Three {
     x: u16,
     y: u16,

@@ -12,7 +12,7 @@ ghost use Rattle.sizes.specs.Sized.{Sized};
 use code::{Outcome, Parameters};
 
 // A size, or the number of the refusal.
-#[derive(Drop)]
+#[derive(Clone, Copy)]
 pub enum Size {
     Is(usize),
     Refused(u8),

@@ -1,4 +1,6 @@
 // The constant tables of each field: powers of alpha, their logs, and its generators.
+#![tactic(auto)]
+
 ghost use Rattle.std.specs.Prelude.{◌*◌, ◌<◌};
 ghost use Rattle.tables.specs.Generators.{Generators};
 ghost use Rattle.tables.specs.Tables.{Powers, Logs};

@@ -1,0 +1,28 @@
+use mathlib.Core.Path.{◌∙◌}
+use Prim.Native.Nat.{◌+◌, ◌-◌, ◌*◌, ◌/◌, ◌≤◌}
+use native.Mathlib.Nat as Nat
+use native.Mathlib.Omega.{arith}
+use lib.ListN.{length}
+use Rattle.polynomial.specs.Digits.{value}
+use Rattle.reduction.specs.Above.{short-rest, whole-rest}
+use Rattle.bytewise.specs.Bytes.{whole-remainder}
+use Rattle.bytewise.proofs.remainder_of.Goals as goal
+
+pub returns-then-n-w : goal.returns-then-n-w
+returns-then-n-w c =
+    let a = c.args in
+    let n = 8 * length a.s.now in
+    λ t W. whole-remainder t a.s.now (768 - a.w) n _ (λ i. (c.type_inv.s i).fits) (Nat.le_refl n)
+    (short-rest t (768 - a.w) n (value 8 a.s.now) _ _ (omega (arith, c.requires.2)) (omega (arith, c.if-n-w.true, c.requires.3)) c.clear.ensures c.add_low.ensures)
+
+pub feed-requires : goal.feed-requires
+feed-requires c = (c.clear.auto.r ∙ c.requires.0, c.clear.ensures, c.requires.1, omega (arith, c.requires.4), omega (arith, c.requires.3))
+
+pub returns : goal.returns
+returns c =
+    let a = c.args in
+    let l = 8 * length a.s.now in
+    let n = a.w + 64 * ((l - a.w + 63) / 64) in
+    let h : l ≤ n = omega (arith, c.if-n-w.false) in
+    λ t W. whole-remainder t a.s.now (768 - a.w) n _ (λ i. (c.type_inv.s i).fits) h
+    (whole-rest t (768 - a.w) n a.w (value 8 a.s.now) _ _ _ (omega (arith, c.requires.2)) (omega (arith, c.requires.3)) (omega arith) (c.feed.ensures t W) c.lower.ensures c.add_low-2.ensures)

@@ -1,0 +1,22 @@
+-- The loop: i words are written, the lowest of g * 2 ^ s. All of it fits: align-lt.
+use mathlib.Core.Path.{◌∙◌}
+use native.Mathlib.Nat.{mod-eq_of_lt}
+use native.Mathlib.Omega.{arith}
+use Rattle.polynomial.specs.Digits.{value}
+use Rattle.kernels.specs.Move.{align-lt}
+use Rattle.kernels.specs.Write.{written_start, written-digit, written-done}
+use Rattle.kernels.proofs.row.align.Goals as goal
+
+pub loop-i-init : goal.loop-i-init
+loop-i-init c = (omega arith, written_start 64 _ _)
+
+pub loop-i-preserved : goal.loop-i-preserved
+loop-i-preserved c =
+    let l = c.loop-i in
+    (omega arith, written-digit 64 _ l.r _ l.i _ (omega arith) c.window_up.ensures l.invariant.1)
+
+pub returns : goal.returns
+returns c =
+    let l = c.loop-i in
+    let a = c.args in
+    written-done 64 _ l.r _ l.i 13 (omega arith) (omega arith) l.invariant.1 ∙ mod-eq_of_lt (align-lt (value 64 a.g.now) a.w c.requires.2 c.requires.1)

@@ -1,0 +1,25 @@
+-- The loop: the i lowest words are 0.
+use mathlib.Core.Path.{refl, sym, ap, ◌∙◌}
+use native.Mathlib.Omega.{arith}
+use lib.ListN.{length, length-set}
+use lib.Seq.{take_all}
+use Rattle.polynomial.specs.Digits.{value}
+use Rattle.kernels.specs.Value.{value-nil}
+use Rattle.kernels.specs.Zero.{zero-set}
+use Rattle.kernels.proofs.row.clear.Goals as goal
+
+pub loop-i-init : goal.loop-i-init
+loop-i-init c = (omega arith, refl, value-nil 64)
+
+pub loop-i-smaller : goal.loop-i-smaller
+loop-i-smaller c = simp length-set (omega arith)
+
+pub loop-i-preserved : goal.loop-i-preserved
+loop-i-preserved c =
+    let l = c.loop-i in
+    (simp length-set (omega arith), length-set l.r l.i 0 ∙ l.invariant.1, zero-set 64 l.r l.i _ (omega arith) l.invariant.2)
+
+pub returns : goal.returns
+returns c =
+    let l = c.loop-i in
+    ap (value 64) (sym (take_all l.i l.r (omega arith))) ∙ l.invariant.2

@@ -1,0 +1,17 @@
+use mathlib.Core.Path.{sym, ap, ◌∙◌}
+use Prim.Native.Nat.{ℕ}
+use native.Mathlib.Nat as Nat
+use Rattle.code.specs.Answers.{leaves-refused}
+use Rattle.code.specs.Calls.{as_bytes, leaves}
+use Rattle.numbers.proofs.store_when.Goals as goal
+
+pub returns-then-n-ne0 : goal.returns-then-n-ne0
+returns-then-n-ne0 c = sym (leaves-refused _ _ _ (Nat.pos_of_ne-zero c.if-n-ne0.true))
+
+pub store-requires : goal.store-requires
+store-requires c = c.requires c.if-n-ne0.false
+
+pub returns : goal.returns
+returns c =
+    let a = c.args in
+    c.store.ensures ∙ sym (ap (λ (n : ℕ). leaves n (as_bytes a.numbers.now) a.list.now) c.if-n-ne0.false)

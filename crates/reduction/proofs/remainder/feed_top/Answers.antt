@@ -1,0 +1,58 @@
+-- The loop: what stands from x^q on is fed to v.
+use mathlib.Core.Path.{◌≡◌, refl, ◌∙◌}
+use Prim.Native.Nat.{◌-◌}
+use native.Mathlib.Nat as Nat
+use native.Mathlib.Omega.{arith}
+use Rattle.polynomial.specs.Digits.{value}
+use Rattle.reduction.specs.Feed.{held, row-of-zeros, start-fed, taken-over, turn-fed}
+use Rattle.reduction.specs.Step.{stepping-less}
+use Rattle.reduction.proofs.remainder.feed_top.Goals as goal
+use Rattle.reduction.proofs.remainder.feed_top.Goals.{then-l-eq64, else-l-eq64}
+
+pub feed_words-q-requires : goal.feed_words-q-requires
+feed_words-q-requires c =
+    let p = c.requires in
+    (refl, p.1, p.2, row-of-zeros, p.4, p.5, p.6)
+
+pub loop-q-init : goal.loop-q-init
+loop-q-init c =
+    elim c.if-l-eq64.branch [
+      then-l-eq64 w ↦
+        let f = w.feed_words-q in
+        rw (w.v-is, w.q-is, w.most-is) (omega arith, omega arith, f.ensures.1, f.ensures.0, f.auto.r, f.ensures.3)
+    | else-l-eq64 w ↦
+        rw (w.v-is, w.q-is, w.most-is)
+        (c.requires.7, omega (arith, c.requires.8, w.if-l-eq64.false), Nat.le_refl c.args.n, c.requires.4, refl,
+        start-fed c.args.t.now (value 8 c.args.s.now) c.args.n _ row-of-zeros)
+    ]
+
+pub step_part-requires : goal.step_part-requires
+step_part-requires c =
+    let l = c.loop-q in
+    let k = c.chunk_of-k.ensures in
+    (stepping-less _ _ c.args.p 0 (omega arith) (held l.v c.args.t.now _ c.args.p l.invariant.4 c.requires.1 c.requires.2 c.requires.6 l.invariant.5), k.0, omega (arith, k.1, l.invariant.1))
+
+pub loop-q-preserved : goal.loop-q-preserved
+loop-q-preserved c =
+    let x = c.step_part in
+    let k = c.chunk_of-k in
+    let l = c.loop-q in (
+      l.invariant.0,
+      l.invariant.1,
+      omega arith,
+      omega arith,
+      x.auto.r ∙ l.invariant.4,
+      turn-fed c.args.t.now (value 8 c.args.s.now) c.args.n l.q (l.q - k.result) k.result (value 64 l.v) _ (omega (arith, k.ensures.2)) l.invariant.2 l.invariant.5 (rw c.bits-u.ensures at x.ensures),
+    )
+
+pub copy-requires : goal.copy-requires
+copy-requires c =
+    let l = c.loop-q in
+    (omega (arith, c.requires.0), omega (arith, l.invariant.4), omega arith, refl)
+
+pub returns : goal.returns
+returns c =
+    let x = c.copy in
+    let l = c.loop-q in
+    let e : l.q ≡ c.args.w = omega arith in
+    rw (taken-over c.args.r.now x.new.dst l.v c.requires.0 (x.auto.dst ∙ c.requires.0) l.invariant.4 c.requires.3 l.invariant.5.small x.ensures, ← e) l.invariant.5

@@ -1,0 +1,40 @@
+-- The register is moved up and u added; both branches reduce the same sum.
+use mathlib.Core.Path.{◌≡◌, ap, ◌∙◌}
+use Prim.Native.Nat.{ℕ, ◌*◌, ◌^◌}
+use native.Mathlib.Omega.{arith}
+use Rattle.polynomial.specs.Digits.{value}
+use Rattle.polynomial.specs.Xor.{xor}
+use Rattle.kernels.specs.Row.{top-zero}
+use Rattle.kernels.specs.Shift.{low-fed}
+use Rattle.reduction.specs.Step.{Reducing, reducing-less}
+use Rattle.reduction.proofs.remainder.step.Goals as goal
+use Rattle.reduction.proofs.remainder.step.Goals.{After-slice_known-3-1}
+
+-- what is to be reduced
+fed : (k : After-slice_known-3-1) → value 64 k.insert.new.r ≡ xor (value 64 k.args.r.now * 2 ^ k.args.l) (k.args.u * 2 ^ k.args.p)
+fed k = let a = k.args in k.insert.ensures ∙ ap (λ (x : ℕ). xor x (a.u * 2 ^ a.p)) k.shift.ensures
+
+held : (k : After-slice_known-3-1) → (let a = k.args in Reducing k.insert.new.r a.t.now a.p)
+held k =
+    record {
+      words = k.insert.auto.r ∙ k.shift.auto.r ∙ k.requires.0.words;
+      table = k.requires.0.table;
+      place = omega (arith, k.requires.0.place);
+      moved = k.requires.0.moved;
+      low = rw (fed k) (low-fed (value 64 k.args.r.now) k.args.u k.args.l k.args.p k.requires.0.low);
+    }
+
+pub shift-requires : goal.shift-requires
+shift-requires c = (c.requires.0.words, c.requires.1, c.requires.2, top-zero c.args.r.now c.requires.0.words c.requires.0.small)
+
+pub reduce-requires : goal.reduce-requires
+reduce-requires c = reducing-less _ _ c.args.p 384 c.if-p-ge384.true (held (goal.at.reduce-requires c).After-slice_known-3-1)
+
+pub returns-then-p-ge384 : goal.returns-then-p-ge384
+returns-then-p-ge384 c = rw (← fed (goal.at.returns-then-p-ge384 c).After-slice_known-3-1) c.reduce.ensures
+
+pub reduce-requires-2 : goal.reduce-requires-2
+reduce-requires-2 c = reducing-less _ _ c.args.p 0 (omega arith) (held (goal.at.reduce-requires-2 c).After-slice_known-3-1)
+
+pub returns : goal.returns
+returns c = rw (← fed (goal.at.returns c).After-slice_known-3-1) c.reduce-2.ensures

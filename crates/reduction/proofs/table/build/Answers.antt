@@ -1,0 +1,62 @@
+-- The loop: the rows of k places are there.
+use mathlib.Core.Path.{◌≡◌, sym, ◌∙◌, subst}
+use mathlib.Core.List.{List}
+use Prim.Native.Nat.{ℕ, ◌+◌, ◌*◌}
+use native.Mathlib.Omega.{arith}
+use lib.ListN.{length, take}
+use lib.Seq.{length-take-le}
+use Rattle.polynomial.specs.Digits.{value}
+use Rattle.reduction.specs.Build.{Rows, rows-done, rows_start}
+use Rattle.reduction.proofs.table.build.Goals as goal
+
+-- the lower 12 words of 13
+twelve : (g : List ℕ) → length g ≡ 13 → length (take 12 g) ≡ 12
+twelve g e = length-take-le 12 g (omega arith)
+
+pub slice_bounds-put_row-end : goal.slice_bounds-put_row-end
+slice_bounds-put_row-end c = sym (twelve c.args.g.now c.requires.1)
+
+pub put_row-requires : goal.put_row-requires
+put_row-requires c = (c.clear_row.auto.t ∙ c.requires.0, twelve c.args.g.now c.requires.1, omega arith)
+
+pub fill_place-requires : goal.fill_place-requires
+fill_place-requires c =
+    let q = c.clear_row in
+    let r = c.put_row in (
+      record {
+        words = r.auto.t ∙ q.auto.t ∙ c.requires.0;
+        G = value 64 c.args.g.now;
+        deg = c.requires.2;
+        rows = rows_start c.args.t.now q.new.t r.new.t c.args.g.now (λ k. (c.type_inv.g k).fits) c.requires.1 c.requires.2 q.ensures r.ensures;
+      },
+      omega arith,
+    )
+
+pub loop-k-init : goal.loop-k-init
+loop-k-init c =
+    let q = c.clear_row in
+    let r = c.put_row in
+    let x = c.fill_place in (
+      omega arith,
+      omega arith,
+      x.auto.t ∙ r.auto.t ∙ q.auto.t ∙ c.requires.0,
+      x.ensures.grow (value 64 c.args.g.now) c.requires.2
+          (rows_start c.args.t.now q.new.t r.new.t c.args.g.now (λ k. (c.type_inv.g k).fits) c.requires.1 c.requires.2 q.ensures r.ensures),
+    )
+
+pub place-requires : goal.place-requires
+place-requires c =
+    let l = c.loop-k in
+    (record { words = l.invariant.2; G = value 64 c.args.g.now; deg = c.requires.2; rows = l.invariant.3 }, l.invariant.0, omega arith)
+
+pub loop-k-preserved : goal.loop-k-preserved
+loop-k-preserved c =
+    let l = c.loop-k in
+    let x = c.place in
+    let e : 16 * l.k + 16 ≡ 16 * (l.k + 1) = omega arith in
+    (omega arith, omega arith, x.auto.t ∙ l.invariant.2, subst (Rows (value 64 c.args.g.now) x.new.t) e (x.ensures.grow (value 64 c.args.g.now) c.requires.2 l.invariant.3))
+
+pub returns : goal.returns
+returns c =
+    let l = c.loop-k in
+    rows-done (value 64 c.args.g.now) l.t l.k c.requires.2 (omega arith) l.invariant.3
