@@ -1,4 +1,6 @@
 // The rows of the generators in the constant tables, and their degrees, by field and strength.
+#![tactic(auto)]
+
 ghost use Rattle.std.specs.Prelude.{◌≡◌, ◌+◌, ◌*◌, ◌≤◌, length};
 ghost use Rattle.field.specs.Fields.{Known, field_of};
 ghost use Rattle.generator.specs.Generator.{generator, width};

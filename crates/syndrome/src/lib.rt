@@ -1,4 +1,6 @@
 // The syndromes of odd number of a polynomial that stands in 64-bit words, by the places of its ones, and all syndromes from these.
+#![tactic(auto)]
+
 ghost use Rattle.std.specs.Prelude.{◌≡◌, map, ◌<◌, ◌≤◌, ◌+◌, ◌*◌, ◌-◌, ◌%◌, ◌^◌, length, get_or, take};
 ghost use Rattle.polynomial.specs.Bits.{coefficient};
 ghost use Rattle.polynomial.specs.Digits.{value};

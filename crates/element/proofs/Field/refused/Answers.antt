@@ -9,6 +9,9 @@ use Rattle.element.specs.Operations.{refusal-by}
 use Rattle.element.proofs.Field.refused.Goals as goal
 use Rattle.element.proofs.Field.refused.Goals.{Then-known}
 
+field : (c : Then-known) → is_field c.args.self ≡ true
+field c = sym c.known.ensures ∙ c.if-known.true
+
 -- where the field is known, an operand's test
 module _ (f : Field) (i : is_field f ≡ true) (x : ℕ) where
   inside : x < f.size → ltb x (2 ^ f.q) ≡ true
@@ -16,9 +19,6 @@ module _ (f : Field) (i : is_field f ≡ true) (x : ℕ) where
 
   outside : f.size ≤ x → ltb x (2 ^ f.q) ≡ false
   outside h = ap (ltb x) (sym (field-sized f i).size) ∙ le-ltb x f.size h
-
-field : (c : Then-known) → is_field c.args.self ≡ true
-field c = sym c.known.ensures ∙ c.if-known.true
 
 pub returns-then-b-self : goal.returns-then-b-self
 returns-then-b-self c =
