@@ -1,4 +1,6 @@
 // Berlekamp's and Massey's algorithm on lists of 16-bit numbers, by lent tables of powers and logs.
+#![tactic(auto)]
+
 ghost use Rattle.std.specs.Prelude.{◌≡◌, suc, ◌-◌, ◌*◌, ◌<◌, ◌≤◌, ◌^◌, length};
 ghost use Rattle.field.specs.Elements.{power, times};
 ghost use Rattle.element.specs.Lent.{Tables};

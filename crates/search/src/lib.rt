@@ -1,5 +1,7 @@
 // The places at whose inverse nodes a locator vanishes: its values at a third of them, of the terms 0, 3, .., of 1, 4, .. and of 2, 5, ..,
 // five terms at a time; from these the values at all; then the zeros.
+#![tactic(auto)]
+
 ghost use Rattle.std.specs.Prelude.{◌≡◌, suc, ◌+◌, ◌-◌, ◌*◌, ◌/◌, ◌%◌, ◌<◌, ◌≤◌, ◌^◌, length, get_or, take};
 ghost use Rattle.field.specs.Elements.{power};
 ghost use Rattle.element.specs.Fields.{Sized};

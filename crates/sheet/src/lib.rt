@@ -1,4 +1,6 @@
 // The sheet's test and the nesting coefficient.
+#![tactic(auto)]
+
 ghost use Rattle.std.specs.Prelude.{◌≡◌, ◌<◌, ◌≤◌};
 ghost use Rattle.code.specs.Code.{N};
 ghost use Rattle.code.specs.Calls.{NestingMade};

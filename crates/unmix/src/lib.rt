@@ -1,5 +1,7 @@
 // The syndromes of one error out of those of the nested words: Vandermonde's equations solved for one unknown, by lent tables. Sub-word i
 // enters nested word l at α^j with the factor α^(j i l), so its node is α^(j i).
+#![tactic(auto)]
+
 ghost use Rattle.std.specs.Prelude.{◌≡◌, map, ◌≢◌, suc, ◌+◌, ◌*◌, ◌<◌, ◌≤◌, ◌^◌, length, get_or, take};
 ghost use Rattle.field.specs.Elements.{power};
 ghost use Rattle.polynomial.specs.Sums.{All};
