@@ -1,5 +1,7 @@
 // The head of a program's input, which is q, m, v, L, then t_0 to t_v if v is 1 to 3, a missing byte counting as 0; what stands behind it; and
 // a program's output.
+#![tactic(auto)]
+
 ghost use Rattle.std.specs.Prelude.{◌≡◌, ◌∷◌, replicate};
 ghost use Rattle.code.specs.Writer.{lead, sheet_given, strength_given, strengths_given};
 ghost use Rattle.given.specs.Input.{Begins};

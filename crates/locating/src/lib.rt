@@ -1,4 +1,6 @@
 // The places of an error by its syndromes: Berlekamp's and Massey's locator, the search of places, and a last look.
+#![tactic(auto)]
+
 ghost use Rattle.std.specs.Prelude.{◌≡◌, map, ◌-◌, ◌*◌, ◌<◌, ◌≤◌, ◌^◌, leb, length, take};
 ghost use Rattle.code.specs.Lists.{range};
 ghost use Rattle.element.specs.Lent.{Tables};
