@@ -1,4 +1,6 @@
 // The refusal of every call: the number of the first condition that it meets, 0 for none. Each function tests in the order of its chain.
+#![tactic(auto)]
+
 ghost use Rattle.std.specs.Prelude.{◌≡◌, not, ◌&&◌, ◌+◌, ◌^◌, ◌≤◌, eqb, leb, ltb, length};
 ghost use Rattle.polynomial.specs.Digits.{value};
 ghost use Rattle.code.specs.Layout.{blocks_full, data_bytes};

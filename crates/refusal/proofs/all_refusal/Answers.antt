@@ -1,0 +1,29 @@
+use mathlib.Core.Path.{◌≡◌, sym, ◌∙◌}
+use native.Mathlib.Nat as Nat
+use native.Mathlib.Omega.{arith}
+use Prim.Native.Nat.{◌*◌}
+use Rattle.code.specs.Odd.{all-open, all_none, all-not-odd, all-not-out}
+use Rattle.code.specs.Parameters.{strength}
+use Rattle.code.specs.Refusals.{open_refusal}
+use Rattle.refusal.proofs.all_refusal.Goals as goal
+use Rattle.refusal.proofs.all_refusal.Goals.{After-strength_at-t}
+
+-- nothing is refused before the lengths, and t is the level's strength
+module _ (c : After-strength_at-t) where
+  opened : open_refusal c.args.p c.args.level ≡ 0
+  opened = sym c.open_refusal-k.ensures ∙ c.if-k-ne0.false
+
+  t-is : c.strength_at-t.result ≡ 1 * strength c.args.p c.args.level
+  t-is = c.strength_at-t.ensures ∙ sym (Nat.one-mul (strength c.args.p c.args.level))
+
+pub returns-then-k-ne0 : goal.returns-then-k-ne0
+returns-then-k-ne0 c = all-open _ _ _ _ _ _ c.open_refusal-k.ensures c.if-k-ne0.true
+
+pub returns-then-odd-t : goal.returns-then-odd-t
+returns-then-odd-t c = all-not-odd _ _ _ _ _ (opened (goal.at.returns-then-odd-t c).After-strength_at-t) (λ e. c.if-odd-t.true (e ∙ sym (t-is (goal.at.returns-then-odd-t c).After-strength_at-t)))
+
+pub returns-then-out-t : goal.returns-then-out-t
+returns-then-out-t c = all-not-out _ _ _ _ _ (opened (goal.at.returns-then-out-t c).After-strength_at-t) (c.if-odd-t.false ∙ t-is (goal.at.returns-then-out-t c).After-strength_at-t) (λ e. c.if-out-t.true (omega (arith, e, t-is (goal.at.returns-then-out-t c).After-strength_at-t)))
+
+pub returns : goal.returns
+returns c = sym (all_none _ _ _ _ _ (opened (goal.at.returns c).After-strength_at-t) (c.if-odd-t.false ∙ t-is (goal.at.returns c).After-strength_at-t) (omega (arith, c.if-out-t.false, t-is (goal.at.returns c).After-strength_at-t)))
