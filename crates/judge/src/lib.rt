@@ -1,4 +1,6 @@
 // Which word of a page fails: the lowest sub-word that is no multiple of g_0 or, if all are, the lowest nested word that fails.
+#![tactic(auto)]
+
 ghost use Rattle.std.specs.Prelude.{◌≡◌, ◌-◌, ◌<◌, ◌≤◌, ◌^◌, T, eqb, length, get_or};
 ghost use Rattle.polynomial.specs.Digits.{value};
 ghost use Rattle.code.specs.Calls.{Named, generators};

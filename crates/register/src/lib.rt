@@ -1,5 +1,7 @@
 // The register: opened empty at a level, then fed coefficients, highest power first.
 // Each feeding hands back the register that the next one takes.
+#![tactic(auto)]
+
 ghost use Rattle.std.specs.Prelude.{◌≡◌, ◌+◌, ◌*◌, ◌^◌, ◌≤◌, ◌<◌, length};
 ghost use Rattle.polynomial.specs.Digits.{value, digits};
 ghost use Rattle.polynomial.specs.Xor.{xor};
@@ -11,7 +13,7 @@ ghost use Rattle.register.specs.Register.{value_of, refused_with, OpenedAs, FedA
 use code::{Outcome, Parameters};
 
 // A level, the count of coefficients taken, and the remainder by the level's generator in 12 words, lowest first.
-#[derive(Drop)]
+#[derive(Clone, Copy)]
 pub struct Register {
     pub level: u32,
     pub count: u64,
@@ -19,7 +21,7 @@ pub struct Register {
 }
 
 // What opening and feeding hand back: the outcome beside the register.
-#[derive(Drop)]
+#[derive(Clone, Copy)]
 pub struct Fed {
     pub outcome: Outcome,
     pub register: Register,

@@ -1,5 +1,7 @@
 // The sizes of a sheet: the degrees of its generators, the bytes of a page and of its blocks, the distance, and the quote.
 // Each call takes any numbers.
+#![tactic(auto)]
+
 ghost use Rattle.std.specs.Prelude.{◌≡◌, ◌+◌, ◌*◌, ◌≤◌, ◌<◌, min, length, get_or};
 ghost use Rattle.code.specs.Calls.{quote as Calls·quote, QuoteMade};
 ghost use Rattle.code.specs.Code.{degree as Code·degree, distance as Code·distance};

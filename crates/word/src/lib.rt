@@ -1,4 +1,6 @@
 // The work on one word of a page, for accepted parameters. A word is a polynomial in bytes s, below x^n.
+#![tactic(auto)]
+
 ghost use Rattle.std.specs.Prelude.{◌≡◌, ◌*◌, ◌^◌, ◌≤◌, ◌<◌, min, length};
 ghost use Rattle.polynomial.specs.Digits.{value, digits};
 ghost use Rattle.polynomial.specs.Division.{deg, rem};
