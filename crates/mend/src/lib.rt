@@ -1,5 +1,7 @@
 // One sub-word of a page mended: the multiple of g_0 that is 0 in its top s places and within t_0 flips of it is put in its stead. The places to
 // flip are found by the odd syndromes of the sub-word, those of its remainder by g_0; where that is 0 there are none.
+#![tactic(auto)]
+
 ghost use Rattle.std.specs.Prelude.{◌≡◌, ◌-◌, ◌*◌, ◌^◌, ◌≤◌, ◌<◌, leb, length, get_or, take};
 ghost use Rattle.polynomial.specs.Digits.{value};
 ghost use Rattle.polynomial.specs.Xor.{xor};

@@ -1,4 +1,6 @@
 // The calls on one word of a page. Each tests everything: the parameters, the page, the word's number, the length of the lent buffer.
+#![tactic(auto)]
+
 ghost use Rattle.code.specs.Calls.{RemainderMade, ShortMade, NestedMade, SyndromesMade, NestedSyndromesMade, AllMade};
 
 use code::{Outcome, Parameters};

@@ -1,5 +1,7 @@
 // Pages from their blocks, one page or many: level by level, so that the table of a level is made once and serves every page. Blocks and
 // pages stand one behind another, and a list has a byte for each page: a page whose byte is not 0 is left as it is.
+#![tactic(auto)]
+
 ghost use Rattle.std.specs.Prelude.{true, ◌≡◌, ℕ, ◌≤◌, ◌<◌, length};
 ghost use Rattle.code.specs.Calls.{generators, pages_by};
 ghost use Rattle.code.specs.Code.{degree, level};

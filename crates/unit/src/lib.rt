@@ -1,5 +1,7 @@
 // The page of a single bit. Only the sub-words that it has bits in are worked out: its own, and those below both it and v; and all but the bit
 // itself in sub-words as short as the sheet's rules allow.
+#![tactic(auto)]
+
 ghost use Rattle.std.specs.Prelude.{◌≡◌, ◌+◌, ◌/◌, ◌^◌, ◌<◌, min, length, replicate};
 ghost use Rattle.polynomial.specs.Digits.{value};
 ghost use Rattle.code.specs.Calls.{generators};
