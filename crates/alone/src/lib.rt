@@ -1,5 +1,7 @@
 // The first pass over a page that is mended: each sub-word by itself, by lent tables of the field and the table of g_0. What cannot be mended so is
 // put down.
+#![tactic(auto)]
+
 ghost use Rattle.std.specs.Prelude.{◌≡◌, not, ◌<◌, leb, length, get_or, take};
 ghost use Rattle.locator.specs.Locate.{kept};
 ghost use Rattle.code.specs.Calls.{generators};

@@ -1,5 +1,7 @@
 // One bit altered in a stored page: the page of that single bit (unit) is added. The sum with the lent page is formed in a room of its own,
 // so that 13 is known before a byte of that page changes.
+#![tactic(auto)]
+
 ghost use Rattle.std.specs.Prelude.{◌≡◌, ◌+◌, ◌*◌, ◌/◌, ◌^◌, ◌≤◌, ◌<◌, T, length, get_or};
 ghost use Rattle.polynomial.specs.Digits.{value};
 ghost use Rattle.polynomial.specs.Xor.{xor};

@@ -34,6 +34,7 @@
 --   OddC p               all syndromes from the odd ones, in C
 --   PageC p              a page mended through its nested words, in C
 use Rattle.std.specs.Prelude.{◌≡◌, ◌≢◌, ◌↔◌, ◌⊎◌, ◌&&◌, ◌||◌, cond, List, [], ◌++◌, map, ℕ, suc, ◌+◌, ◌-◌, ◌*◌, ◌/◌, ◌%◌, ◌^◌, ◌≤◌, ◌<◌, eqb, ltb, length, get_or, replicate, drop}
+use Rattle.std.proofs.Math.Option.{none, some}
 use Rattle.polynomial.specs.Bits.{coefficient}
 use Rattle.polynomial.specs.Clmul.{clmul}
 use Rattle.polynomial.specs.Digits.{value}
@@ -578,13 +579,18 @@ pub record PageLaws (p : Parameters) : Type 0 where
   -- the first pass and each round, literally
   pub pass : (x : List ℕ) → IsPage p x → PassLaws p x (after p (words_of p x) 0)
   pub each-round : (x : List ℕ) (k : ℕ) → IsPage p x → RoundLaws p (after p (words_of p x) k) (after p (words_of p x) (suc k))
-  -- done exactly when a page with clear spare bits is lent, at most v sub-words are broken, and after some rounds none, and a member is there:
-  -- that is the page afterwards
+  -- done exactly when a page with clear spare bits is lent and a member comes of it; 17 exactly when it is and none does
   pub done : (x after : List ℕ) (o : Outcome) → Bytes x → PageMended p x after o
+      → (o ≡ Outcome.Done) ↔ (IsPage p x × ((cs : List ℕ) × (mend_page p (words_of p x) ≡ some cs)))
+  pub nowhere : (x after : List ℕ) (o : Outcome) → Bytes x → PageMended p x after o
+      → (o ≡ Outcome.Refused 17) ↔ (IsPage p x × (mend_page p (words_of p x) ≡ none))
+  -- done, literally: such a page is lent, at most v sub-words are broken, and after some rounds none, and a member is there:
+  -- that is the page afterwards
+  pub succeeds : (x after : List ℕ) (o : Outcome) → Bytes x → PageMended p x after o
       → (o ≡ Outcome.Done) ↔ (IsPage p x × Succeeds p x (λ y. Judged p y Verdict.Member))
   pub page : (x after : List ℕ) (k : ℕ) → Bytes x → PageMended p x after Outcome.Done → left p x k ≡ 0 → after ≡ page_after p x k
-  -- 17 exactly when such a page is lent and more than v are broken, a round leaves as many, or the end page is no member
-  pub nowhere : (x after : List ℕ) (o : Outcome) → Bytes x → PageMended p x after o
+  -- 17, literally: such a page is lent and more than v are broken, a round leaves as many, or the end page is no member
+  pub fails : (x after : List ℕ) (o : Outcome) → Bytes x → PageMended p x after o
       → (o ≡ Outcome.Refused 17) ↔ (IsPage p x × Fails p x (λ y. Judged p y Verdict.Member))
   -- a refusal changes no byte
   pub kept : (x after : List ℕ) (k : ℕ) → PageMended p x after (Outcome.Refused k) → after ≡ x
@@ -753,9 +759,12 @@ pub record MendC (p : Parameters) : Type 0 where
 
 -- ---- a page mended through its nested words, in C
 pub record PageC (p : Parameters) : Type 0 where
-  pub done : (x after : List ℕ) (o : ℕ) → Bytes x → PageMendedC p x after o → (o ≡ 0) ↔ (IsPage p x × Succeeds p x (λ y. JudgedC p y 0))
+  pub done : (x after : List ℕ) (o : ℕ) → Bytes x → PageMendedC p x after o
+      → (o ≡ 0) ↔ (IsPage p x × ((cs : List ℕ) × (mend_page p (words_of p x) ≡ some cs)))
+  pub nowhere : (x after : List ℕ) (o : ℕ) → Bytes x → PageMendedC p x after o → (o ≡ 17) ↔ (IsPage p x × (mend_page p (words_of p x) ≡ none))
+  pub succeeds : (x after : List ℕ) (o : ℕ) → Bytes x → PageMendedC p x after o → (o ≡ 0) ↔ (IsPage p x × Succeeds p x (λ y. JudgedC p y 0))
   pub page : (x after : List ℕ) (k : ℕ) → Bytes x → PageMendedC p x after 0 → left p x k ≡ 0 → after ≡ page_after p x k
-  pub nowhere : (x after : List ℕ) (o : ℕ) → Bytes x → PageMendedC p x after o → (o ≡ 17) ↔ (IsPage p x × Fails p x (λ y. JudgedC p y 0))
+  pub fails : (x after : List ℕ) (o : ℕ) → Bytes x → PageMendedC p x after o → (o ≡ 17) ↔ (IsPage p x × Fails p x (λ y. JudgedC p y 0))
   pub kept : (x after : List ℕ) (o : ℕ) → PageMendedC p x after o → o ≢ 0 → after ≡ x
   pub otherwise : (x after : List ℕ) (o : ℕ) → IsPage p x → PageMendedC p x after o
       → ((o ≡ 0) × IsPage p after × ((r : ℕ) → JudgedC p after r → r ≡ 0)) ⊎ ((o ≡ 17) × (after ≡ x))

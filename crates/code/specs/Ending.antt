@@ -1,6 +1,5 @@
 -- How mending through the nested words ends, on words: by the numbers b_k of broken words after the first pass and k rounds.
 --   round-idle       a round that leaves as many broken as it met changes nothing
---   mended-words     what comes is a member
 --   NoneComes p ys P the change request's 17: v < b_0, or a round leaves as many, or some b_k is 0 and its words are P, no member's
 use Rattle.std.specs.Prelude.{◌≡◌, refl, ◌⊎◌, List, [], ◌∷◌, ℕ, zero, suc, ◌≤◌, ◌<◌, length}
 use Rattle.std.proofs.Common.{sym, ap, ap₂, ◌∙◌, inl, inr, arith}
@@ -132,10 +131,3 @@ module _ (p : Parameters) (A : Accepted p) (ys : List ℕ) where
       go (yes h) (inl b) = absurd (Nat.not-le_of_lt b h)
       go (yes h) (inr (inl s)) = stuck h s.0 s.1 s.3
       go (yes h) (inr (inr s)) = in-the-end h s.0 s.1 ∙ s.2
-
-  -- A MEMBER OR NOTHING, whatever the page
-  pub mended-words : (es : List ℕ) → IsWords p ys → mend_page p ys ≡ some es → MendedWords p es
-  mended-words es w e =
-      let s = mend-some es e in
-      let k = s.1.0 in
-      ended p A (after p ys k) es (after-work p A ys w k) s.1.2

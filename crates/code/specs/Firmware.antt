@@ -22,7 +22,7 @@ use Rattle.code.specs.Demands.{AlterC, AlteredMemberC, MendC, Mends, NamesBit, P
 use Rattle.code.specs.Demands.{AlikeC, AlikeManyC, BlankC, BlankWriteLaws, BurstC, Demand3C, DemandsC, ManyC, QuoteLaws, QuotedC, RewritesC, SumsC, OddC}
 use Rattle.code.specs.Layout.{Bytes, Fits, IsBlank, IsPage, altered, block_bit, differences, mended_page, no_place, page_of, place_list}
 use Rattle.code.specs.Mend.{places-eq}
-use Rattle.code.specs.Mending.{mend-page-17, mend-page-page, mend-page-zero}
+use Rattle.code.specs.Mending.{mend-page-17, mend-page-fails, mend-page-page, mend-page-succeeds, mend-page-zero}
 use Rattle.code.specs.Parameters.{Accepted, strength}
 use Rattle.code.specs.Quote.{quote-length, quote-none, quote-small}
 use Rattle.code.specs.Refusals.{alter_refusal, many_refusal, mend_page_refusal, mend_refusal, quote_refusal, write_refusal, all_refusal}
@@ -369,11 +369,13 @@ module _ (p : Parameters) (A : Accepted p) where
   -- ---- a page mended through its nested words
   pub page-c : PageC p
   page-c = record {
-    done = λ x after o b M.
-        (let d = mend-page-zero p A x (λ y. JudgedC p y 0) zero_is b in ((λ e. d.0 (sym M.answers ∙ e)), (λ s. M.answers ∙ d.1 s)));
+    done = λ x after o b M. (let d = mend-page-zero p A x b in ((λ e. d.0 (sym M.answers ∙ e)), (λ s. M.answers ∙ d.1 s)));
+    nowhere = λ x after o b M. (let d = mend-page-17 p A x b in ((λ e. d.0 (sym M.answers ∙ e)), (λ s. M.answers ∙ d.1 s)));
+    succeeds = λ x after o b M.
+        (let d = mend-page-succeeds p A x (λ y. JudgedC p y 0) zero_is b in ((λ e. d.0 (sym M.answers ∙ e)), (λ s. M.answers ∙ d.1 s)));
     page = λ x after k b M e. (let z : mend_page_refusal p x ≡ 0 = sym M.answers in rw z at M.buffer ∙ mend-page-page p A x k b z e);
-    nowhere = λ x after o b M.
-        (let d = mend-page-17 p A x (λ y. JudgedC p y 0) zero_is b in ((λ e. d.0 (sym M.answers ∙ e)), (λ s. M.answers ∙ d.1 s)));
+    fails = λ x after o b M.
+        (let d = mend-page-fails p A x (λ y. JudgedC p y 0) zero_is b in ((λ e. d.0 (sym M.answers ∙ e)), (λ s. M.answers ∙ d.1 s)));
     kept = λ x after o M n. M.buffer ∙ leaves-refused (mend_page_refusal p x) _ x (Nat.pos_of_ne-zero (λ z. n (M.answers ∙ z)));
     otherwise = λ x after o h M. either x after o M ((page-mends p A).otherwise x after _ h (made x after o M));
     clean = λ x after o b J M. done x after x o M ((page-mends p A).clean x after _ b (member-c x J) (made x after o M));

@@ -3,7 +3,8 @@
 --   flips-are, flips-weight                  the flips of a sub-word, in its bytes and in its words
 --   mend-page-first, mend-page-left          the refusal: the page's own, and 17 alone where there is none
 --   mend-pass, mend-round                    what the first pass and a round do, literally
---   mend-page-zero, mend-page-17             when the page is mended, and when it is not, by the numbers of broken sub-words; mend-page-page: to what
+--   mend-page-zero, mend-page-17             when the page is mended, and when it is not
+--   mend-page-succeeds, mend-page-fails      the same by the numbers of broken sub-words; mend-page-page: to what page
 --   mend-page-else, mend-page-clean          a member or 17, whatever the page; a member as it is
 --   mend-page-back, mend-page-always         the member comes back; mend-page-reached, mend-page-once: by a condition on the flips
 use Rattle.std.specs.Prelude.{◌≡◌, Bool, not, ◌↔◌, ◌⊎◌, List, ℕ, suc, ◌+◌, ◌-◌, ◌≤◌, ◌<◌, T, eqb, ltb, length}
@@ -21,7 +22,7 @@ use Rattle.code.specs.Chains.{exact_none, exact-of, first_of, given, last, off, 
 use Rattle.code.specs.Code.{IsMember}
 use Rattle.code.specs.Demands.{Fails, OneRound, PassLaws, Reached, Recoverable, RoundLaws, Succeeds, heavier, left, page_after}
 use Rattle.code.specs.Distance.{Passing}
-use Rattle.code.specs.Ending.{NoneComes, in-the-end, mend-none, mend-some, mended-words, none-mends}
+use Rattle.code.specs.Ending.{NoneComes, in-the-end, mend-none, mend-some, none-mends}
 use Rattle.code.specs.Judge.{member-passing, verdict-member}
 use Rattle.code.specs.Layout.{Bytes, IsPage, blank, coefficient_of, flips_in, in_bytes, mended_page, page_bytes, page_clear, word_sizes, words_of}
 use Rattle.code.specs.Lists.{◌or_else◌, ◌when◌, count_below, join, last_refusal}
@@ -33,7 +34,7 @@ use Rattle.code.specs.Passes.{pass-mends, pass-stays, round-leaves, round-mends,
 use Rattle.code.specs.Placement.{sub-word-bit}
 use Rattle.code.specs.Places.{count_below-ext, differing, words-differ}
 use Rattle.code.specs.Reach.{Reaches, flipped, one-reaches, reach-hopeful}
-use Rattle.code.specs.Recovery.{Hopeful, after-work, comes_back, end_is, is-end, mend_page-member, near-hopeful}
+use Rattle.code.specs.Recovery.{Hopeful, after-work, comes_back, end_is, is-end, mended-words, mend_page-member, near-hopeful}
 use Rattle.code.specs.Refusals.{mend_page_refusal, not_exact, nowhere, page_refusal}
 use Rattle.code.specs.Refused.{judged-else, judged-page, page-le, page-links, unblanked}
 use Rattle.code.specs.Rounds.{IsWork, error-is, mem-from, mem-some, round-work, start-work}
@@ -131,14 +132,14 @@ module _ (p : Parameters) (A : Accepted p) where
     left-17 : IsPage p x → mend_page_refusal p x ≡ (17 when nowhere words)
     left-17 h = mend-page-left p x A h ∙ ap (λ (b : Bool). 17 when b) (nowhere-eq p x)
 
-    words-zero : Bytes x → (mend_page_refusal p x ≡ 0) ↔ (IsPage p x × ((cs : List ℕ) × (words ≡ some cs)))
-    words-zero b = (
+    pub mend-page-zero : Bytes x → (mend_page_refusal p x ≡ 0) ↔ (IsPage p x × ((cs : List ℕ) × (words ≡ some cs)))
+    mend-page-zero b = (
       (λ z. (let s = shows-none p x b z in (s.0, somewhere words (rw (nowhere-eq p x) at s.1)))),
       (λ s. left-17 s.0 ∙ ap (λ (o : Option (List ℕ)). 17 when nowhere o) s.1.1),
     )
 
-    words-17 : Bytes x → (mend_page_refusal p x ≡ 17) ↔ (IsPage p x × (words ≡ none))
-    words-17 b = (
+    pub mend-page-17 : Bytes x → (mend_page_refusal p x ≡ 17) ↔ (IsPage p x × (words ≡ none))
+    mend-page-17 b = (
       (λ z. (let s = shows-17 p x A b z in (s.0, is-nowhere words (rw (nowhere-eq p x) at s.1)))),
       (λ s. left-17 s.0 ∙ ap (λ (o : Option (List ℕ)). 17 when nowhere o) s.1),
     )
@@ -155,13 +156,13 @@ module _ (p : Parameters) (A : Accepted p) where
           go : (o : Option (List ℕ)) → words ≡ o
               → ((mend_page_refusal p x ≡ 0) × IsPage p (list_of (mended_page p x)) × (judge_answer p (list_of (mended_page p x)) ≡ Verdict.Member))
               ⊎ (mend_page_refusal p x ≡ 17)
-          go none e = inr ((words-17 h.bytes).1 (h, e))
+          go none e = inr ((mend-page-17 h.bytes).1 (h, e))
           go (some cs) e =
               let M = mended-words p A (words_of p x) cs (page-words p R x h) e in
               let g : IsPage p (join (word_sizes p) cs) = words-page p R cs M.stand in
               let w = words-join p R cs M.stand in
               inl (
-                (words-zero h.bytes).1 (h, (cs, e)),
+                (mend-page-zero h.bytes).1 (h, (cs, e)),
                 rw (found-page cs e) g,
                 rw (found-page cs e) (member-judged (join (word_sizes p) cs) g (rw (blank-words p (join (word_sizes p) cs), w) M.unblank) (rw w M.member)),
               )
@@ -169,7 +170,7 @@ module _ (p : Parameters) (A : Accepted p) where
       -- the page that comes of the words of z is z
       module _ (z : List ℕ) (u : IsPage p z) where
         pub page-comes : words ≡ some (words_of p z) → (mend_page_refusal p x ≡ 0) × (list_of (mended_page p x) ≡ z)
-        page-comes e = ((words-zero h.bytes).1 (h, (words_of p z, e)), found-page (words_of p z) e ∙ join-words p R z u)
+        page-comes e = ((mend-page-zero h.bytes).1 (h, (words_of p z, e)), found-page (words_of p z) e ∙ join-words p R z u)
 
     -- ---- the pages in work
     module _ (h : IsPage p x) (k : ℕ) where
@@ -203,7 +204,7 @@ module _ (p : Parameters) (A : Accepted p) where
     -- the page afterwards is that after any number of rounds that leave none broken
     pub mend-page-page : (k : ℕ) → Bytes x → mend_page_refusal p x ≡ 0 → left p x k ≡ 0 → list_of (mended_page p x) ≡ page_after p x k
     mend-page-page k b z e =
-        let s = (words-zero b).0 z in
+        let s = (mend-page-zero b).0 z in
         let cs = s.1.0 in
         let g = mend-some p A (words_of p x) cs s.1.1 in
         let w = end_is p A (after p (words_of p x) k).words cs (sym (in-the-end p A (words_of p x) g.0 k e) ∙ s.1.1) in
@@ -211,13 +212,13 @@ module _ (p : Parameters) (A : Accepted p) where
 
     -- ---- done and 17, literally; Member is judge's word for a member
     module _ (Member : List ℕ → Type 0) (is : (y : List ℕ) → Member y ↔ (judge_answer p y ≡ Verdict.Member)) where
-      pub mend-page-zero : Bytes x → (mend_page_refusal p x ≡ 0) ↔ (IsPage p x × Succeeds p x Member)
-      mend-page-zero b = (
-        (λ z. (let s = (words-zero b).0 z in
+      pub mend-page-succeeds : Bytes x → (mend_page_refusal p x ≡ 0) ↔ (IsPage p x × Succeeds p x Member)
+      mend-page-succeeds b = (
+        (λ z. (let s = (mend-page-zero b).0 z in
             let g = mend-some p A (words_of p x) s.1.0 s.1.1 in
             (s.0, (g.0, (g.1.0, g.1.1, (is (page_after p x g.1.0)).1 (end-judged s.0 g.1.0 s.1.0 g.1.2)))))),
         (λ s. (let k = s.1.1.0 in
-            (words-zero b).1 (
+            (mend-page-zero b).1 (
               s.0,
               (
                 (after p (words_of p x) k).words,
@@ -237,10 +238,10 @@ module _ (p : Parameters) (A : Accepted p) where
       of-fails h (inr (inl s)) = inr (inl s)
       of-fails h (inr (inr s)) = inr (inr (s.0, s.1, unjudged-end h s.0 (λ e. s.2 ((is (page_after p x s.0)).1 e))))
 
-      pub mend-page-17 : Bytes x → (mend_page_refusal p x ≡ 17) ↔ (IsPage p x × Fails p x Member)
-      mend-page-17 b = (
-        (λ z. (let s = (words-17 b).0 z in (s.0, fails_of s.0 (mend-none p A (words_of p x) s.1)))),
-        (λ s. (words-17 b).1 (s.0, none-mends p A (words_of p x) (of-fails s.0 s.1))),
+      pub mend-page-fails : Bytes x → (mend_page_refusal p x ≡ 17) ↔ (IsPage p x × Fails p x Member)
+      mend-page-fails b = (
+        (λ z. (let s = (mend-page-17 b).0 z in (s.0, fails_of s.0 (mend-none p A (words_of p x) s.1)))),
+        (λ s. (mend-page-17 b).1 (s.0, none-mends p A (words_of p x) (of-fails s.0 s.1))),
       )
 
     -- ---- the first pass and each round

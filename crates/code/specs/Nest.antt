@@ -17,7 +17,6 @@
 --   found p W i                what a round finds for sub-word i: by the page as it stands when the round begins
 --   round p W                  a round
 --   end p ws                   the words of a member that is not blank; or none
---   most_broken p, unmended p   the most broken words that a round takes, v; what comes where rounds end before, nothing
 --   rounds p f W               rounds until none is broken, at most f, and the end
 --   mend_page p ys              the whole: the words of the mended page; or none
 --   after p ys k               the page in work after the first pass and k rounds
@@ -127,20 +126,14 @@ unfolding failing_number all_ones
 end p ws = cond (eqb (failing_number p ws) 0 && not (all_ones p ws)) (some ws) none
 
 -- the most broken words that a round takes, and what comes where rounds end before: nothing
-abbrev pub most_broken : Parameters → ℕ
-most_broken p = p.v
-
-abbrev pub unmended : Parameters → Option (List ℕ)
-unmended p = none
-
 -- b broken: none, or at most v, of which a round leaves fewer
 unfoldable pub rounds : Parameters → ℕ → Work → Option (List ℕ)
 unfolding end round
-rounds p zero W = cond (leb (length W.broken) 0) (end p W.words) (unmended p)
+rounds p zero W = cond (leb (length W.broken) 0) (end p W.words) none
 rounds p (suc f) W =
     cond (leb (length W.broken) 0) (end p W.words)
-    (cond (leb (length W.broken) (most_broken p))
-    (cond (ltb (length (round p W).broken) (length W.broken)) (rounds p f (round p W)) (unmended p)) (unmended p))
+    (cond (leb (length W.broken) p.v)
+    (cond (ltb (length (round p W).broken) (length W.broken)) (rounds p f (round p W)) none) none)
 
 unfoldable pub mend_page : Parameters → List ℕ → Option (List ℕ)
 unfolding rounds start
@@ -231,14 +224,14 @@ module _ (p : Parameters) where
   unfolding end
   end-eq ws = refl
 
-  pub rounds-zero : (W : Work) → rounds p zero W ≡ cond (leb (length W.broken) 0) (end p W.words) (unmended p)
+  pub rounds-zero : (W : Work) → rounds p zero W ≡ cond (leb (length W.broken) 0) (end p W.words) none
   unfolding rounds
   rounds-zero W = refl
 
   pub rounds-suc : (f : ℕ) (W : Work) → rounds p (suc f) W
       ≡ cond (leb (length W.broken) 0) (end p W.words)
-      (cond (leb (length W.broken) (most_broken p))
-      (cond (ltb (length (round p W).broken) (length W.broken)) (rounds p f (round p W)) (unmended p)) (unmended p))
+      (cond (leb (length W.broken) p.v)
+      (cond (ltb (length (round p W).broken) (length W.broken)) (rounds p f (round p W)) none) none)
   unfolding rounds
   rounds-suc f W = refl
 

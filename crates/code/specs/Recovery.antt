@@ -23,8 +23,8 @@ use Rattle.code.specs.Distance.{Passing}
 use Rattle.code.specs.Judge.{member-passing, multiple-iff, verdict-member}
 use Rattle.code.specs.Lists.{count_below, range}
 use Rattle.code.specs.Mend.{nearest-none, nearest-word, none-some, some_inj}
-use Rattle.code.specs.Nest.{Mem, Work, after, after-suc, after-zero, all_ones, alone, end, end-eq, found, kept_by, mend_all, mend_all-nil, mend_by, mend_page, mend_page-eq, most_broken}
-use Rattle.code.specs.Nest.{round, round-broken, round-words, round_level, rounds, rounds-suc, rounds-zero, start, start-broken, start-words, unfound, unfound-nil, unmended}
+use Rattle.code.specs.Nest.{Mem, Work, after, after-suc, after-zero, all_ones, alone, end, end-eq, found, kept_by, mend_all, mend_all-nil, mend_by, mend_page, mend_page-eq}
+use Rattle.code.specs.Nest.{round, round-broken, round-words, round_level, rounds, rounds-suc, rounds-zero, start, start-broken, start-words, unfound, unfound-nil}
 use Rattle.code.specs.Pages.{IsWords}
 use Rattle.code.specs.Parameters.{Accepted, stored, strength}
 use Rattle.code.specs.Places.{add_below-none, add_below-suc, count_below-eq}
@@ -60,6 +60,14 @@ no-is false x y t = refl
 
 over : (a b : ℕ) → ¬ (a ≤ b) → T (not (leb a b))
 over a b n = not_T (leb a b) (λ t. n (leb→le a b t))
+
+-- a round's three tests
+pick : (P : Type 0) (a b c : Bool) (o r : Option (List ℕ)) (es : List ℕ) → cond a o (cond b (cond c r none) none) ≡ some es
+    → (o ≡ some es → P) → (T b → r ≡ some es → P) → P
+pick P true b c o r es h f g = f h
+pick P false true true o r es h f g = g tt h
+pick P false true false o r es h f g = absurd (none-some es h)
+pick P false false c o r es h f g = absurd (none-some es h)
 
 -- ---- counts
 kept-count : (o : Option (List ℕ)) (i : ℕ) (b : Bool) → (o ≡ none → T b) → length (kept_by o i []) ≤ cond b 1 0
@@ -107,33 +115,47 @@ module _ (p : Parameters) (A : Accepted p) where
       let r : MendedWords p W.words = record { member = x.0; unblank = x.1; stand = w.stand } in
       rw x.2 at r
 
+  rounds-give : (f : ℕ) (W : Work) (es : List ℕ) → IsWork p W → rounds p f W ≡ some es → MendedWords p es
+  rounds-give zero W es w h = go (leb (length W.broken) 0) (sym (rounds-zero p W) ∙ h)
+    where
+      go : (b : Bool) → cond b (end p W.words) none ≡ some es → MendedWords p es
+      go true k = ended W es w k
+      go false k = absurd (none-some es k)
+  rounds-give (suc f) W es w h =
+      pick (MendedWords p es) (leb (length W.broken) 0) (leb (length W.broken) p.v) (ltb (length (round p W).broken) (length W.broken))
+      (end p W.words) (rounds p f (round p W)) es (sym (rounds-suc p f W) ∙ h) (ended W es w) (λ t. rounds-give f (round p W) es (round-work p A W w))
+
+  -- A MEMBER OR NOTHING, whatever the page
+  pub mended-words : (ys es : List ℕ) → IsWords p ys → mend_page p ys ≡ some es → MendedWords p es
+  mended-words ys es w h = rounds-give p.v (start p ys) es (start-work p A ys w) (sym (mend_page-eq p ys) ∙ h)
+
   -- ---- the count of rounds never ends the work
   pub rounds-enough : (f : ℕ) (W : Work) → length W.broken ≤ f → rounds p (suc f) W ≡ rounds p f W
   rounds-enough zero W h =
       let t : T (leb (length W.broken) 0) = le→leb (length W.broken) 0 h in
       rounds-suc p zero W
       ∙ yes-is (leb (length W.broken) 0) (end p W.words)
-      (cond (leb (length W.broken) (most_broken p)) (cond (ltb (length (round p W).broken) (length W.broken)) (rounds p zero (round p W)) (unmended p)) (unmended p)) t
-      ∙ sym (rounds-zero p W ∙ yes-is (leb (length W.broken) 0) (end p W.words) (unmended p) t)
+      (cond (leb (length W.broken) p.v) (cond (ltb (length (round p W).broken) (length W.broken)) (rounds p zero (round p W)) none) none) t
+      ∙ sym (rounds-zero p W ∙ yes-is (leb (length W.broken) 0) (end p W.words) none t)
   rounds-enough (suc f) W h =
       rounds-suc p (suc f) W
-      ∙ ap (λ (o : Option (List ℕ)). cond (leb (length W.broken) 0) (end p W.words) (cond (leb (length W.broken) (most_broken p)) o (unmended p)))
+      ∙ ap (λ (o : Option (List ℕ)). cond (leb (length W.broken) 0) (end p W.words) (cond (leb (length W.broken) p.v) o none))
       (go (ltb (length (round p W).broken) (length W.broken)) refl (rounds-enough f (round p W)))
       ∙ sym (rounds-suc p f W)
     where
       go : (b : Bool) → ltb (length (round p W).broken) (length W.broken) ≡ b
           → (length (round p W).broken ≤ f → rounds p (suc f) (round p W) ≡ rounds p f (round p W))
-          → cond b (rounds p (suc f) (round p W)) (unmended p) ≡ cond b (rounds p f (round p W)) (unmended p)
+          → cond b (rounds p (suc f) (round p W)) none ≡ cond b (rounds p f (round p W)) none
       go true e ih = ih (omega (arith, ltb→lt (length (round p W).broken) (length W.broken) (rw e tt)))
       go false e ih = refl
 
   -- more than v broken: nothing, however many rounds
   pub rounds-many : (f : ℕ) (W : Work) → p.v < length W.broken → rounds p f W ≡ none
-  rounds-many zero W h = rounds-zero p W ∙ no-is (leb (length W.broken) 0) (end p W.words) (unmended p) (over (length W.broken) 0 (Nat.not-le_of_lt (omega arith)))
+  rounds-many zero W h = rounds-zero p W ∙ no-is (leb (length W.broken) 0) (end p W.words) none (over (length W.broken) 0 (Nat.not-le_of_lt (omega arith)))
   rounds-many (suc f) W h =
-      let next = cond (ltb (length (round p W).broken) (length W.broken)) (rounds p f (round p W)) (unmended p) in
-      rounds-suc p f W ∙ no-is (leb (length W.broken) 0) (end p W.words) (cond (leb (length W.broken) (most_broken p)) next (unmended p)) (over (length W.broken) 0 (Nat.not-le_of_lt (omega arith)))
-      ∙ no-is (leb (length W.broken) (most_broken p)) next (unmended p) (over (length W.broken) (most_broken p) (Nat.not-le_of_lt h))
+      let next = cond (ltb (length (round p W).broken) (length W.broken)) (rounds p f (round p W)) none in
+      rounds-suc p f W ∙ no-is (leb (length W.broken) 0) (end p W.words) (cond (leb (length W.broken) p.v) next none) (over (length W.broken) 0 (Nat.not-le_of_lt (omega arith)))
+      ∙ no-is (leb (length W.broken) p.v) next none (over (length W.broken) p.v (Nat.not-le_of_lt h))
 
   -- ---- with v rounds: none broken, a round that leaves fewer, and one that does not
   pub rounds-end : (W : Work) → length W.broken ≡ 0 → rounds p p.v W ≡ end p W.words
@@ -143,14 +165,14 @@ module _ (p : Parameters) (A : Accepted p) where
       t = le→leb (length W.broken) 0 (Nat.le_of_eq e)
 
       go : (f : ℕ) → rounds p f W ≡ end p W.words
-      go zero = rounds-zero p W ∙ yes-is (leb (length W.broken) 0) (end p W.words) (unmended p) t
+      go zero = rounds-zero p W ∙ yes-is (leb (length W.broken) 0) (end p W.words) none t
       go (suc f) = rounds-suc p f W ∙ yes-is (leb (length W.broken) 0) (end p W.words) _ t
 
   one-round : (W : Work) (f : ℕ) → 0 < length W.broken → length W.broken ≤ p.v
-      → rounds p (suc f) W ≡ cond (ltb (length (round p W).broken) (length W.broken)) (rounds p f (round p W)) (unmended p)
+      → rounds p (suc f) W ≡ cond (ltb (length (round p W).broken) (length W.broken)) (rounds p f (round p W)) none
   one-round W f o b =
       rounds-suc p f W ∙ no-is (leb (length W.broken) 0) (end p W.words) _ (over (length W.broken) 0 (Nat.not-le_of_lt o))
-      ∙ yes-is (leb (length W.broken) (most_broken p)) (cond (ltb (length (round p W).broken) (length W.broken)) (rounds p f (round p W)) (unmended p)) (unmended p) (le→leb (length W.broken) (most_broken p) b)
+      ∙ yes-is (leb (length W.broken) p.v) (cond (ltb (length (round p W).broken) (length W.broken)) (rounds p f (round p W)) none) none (le→leb (length W.broken) p.v b)
 
   pub rounds-next : (W : Work) → 0 < length W.broken → length W.broken ≤ p.v → length (round p W).broken < length W.broken
       → rounds p p.v W ≡ rounds p p.v (round p W)
@@ -160,7 +182,7 @@ module _ (p : Parameters) (A : Accepted p) where
       go zero h = absurd (Nat.not-le_of_lt o h)
       go (suc f) h =
           one-round W f o b
-          ∙ yes-is (ltb (length (round p W).broken) (length W.broken)) (rounds p f (round p W)) (unmended p) (lt→ltb (length (round p W).broken) (length W.broken) d)
+          ∙ yes-is (ltb (length (round p W).broken) (length W.broken)) (rounds p f (round p W)) none (lt→ltb (length (round p W).broken) (length W.broken) d)
           ∙ sym (rounds-enough f (round p W) (omega arith))
 
   pub rounds-stop : (W : Work) → 0 < length W.broken → length W.broken ≤ p.v → length W.broken ≤ length (round p W).broken → rounds p p.v W ≡ none
@@ -170,7 +192,7 @@ module _ (p : Parameters) (A : Accepted p) where
       go zero h = absurd (Nat.not-le_of_lt o h)
       go (suc f) h =
           one-round W f o b
-          ∙ no-is (ltb (length (round p W).broken) (length W.broken)) (rounds p f (round p W)) (unmended p)
+          ∙ no-is (ltb (length (round p W).broken) (length W.broken)) (rounds p f (round p W)) none
           (not_T (ltb (length (round p W).broken) (length W.broken)) (λ t. Nat.not-le_of_lt (ltb→lt (length (round p W).broken) (length W.broken) t) d))
 
   -- v rounds are enough: as many more as one likes give the same

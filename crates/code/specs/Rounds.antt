@@ -544,6 +544,9 @@ module _ (p : Parameters) (A : Accepted p) where
         ∙ take_out F x fault l i 0 p.m ks w.rising m))
         ∙ syndrome-num p.q R.known (fault i) j
 
+    pub fault-low : (i : ℕ) → fault i < 2 ^ stored p
+    fault-low i = xor_low p W.words cs w.stand C i
+
     -- an error of at most t_a places is found: a round leaves fewer
     pub round-falls : (i : ℕ) → Mem i ks → length ks ≤ p.v → weight (fault i) ≤ strength p a → length (round p W).broken < length ks
     round-falls i m c h =

@@ -57,8 +57,8 @@ use Rattle.code.specs.Many.{each-written, length-by, length-statuses, many-alike
 use Rattle.code.specs.Many.{status-at, status-left, statuses-alike}
 use Rattle.code.specs.Mend.{Mendable, flipped-here, flipped-is, flipped-none, flipped-page, flipped-stay, flips-near, flips-once, mend-15, mend-left}
 use Rattle.code.specs.Mend.{mend-none, mending-eq, near-once, nearest-clean, nearest-iff, nearest-none, nearest-word, places-eq}
-use Rattle.code.specs.Mending.{flips-are, judged-member, member-judged, mend-page-17, mend-page-always, mend-page-back, mend-page-clean, mend-page-else}
-use Rattle.code.specs.Mending.{mend-page-once, mend-page-page, mend-page-reached, mend-page-zero, mend-pass, mend-round}
+use Rattle.code.specs.Mending.{flips-are, judged-member, member-judged, mend-page-17, mend-page-always, mend-page-back, mend-page-clean, mend-page-else, mend-page-fails}
+use Rattle.code.specs.Mending.{mend-page-once, mend-page-page, mend-page-reached, mend-page-succeeds, mend-page-zero, mend-pass, mend-round}
 use Rattle.code.specs.Newton.{nesteds-of, newtons-of}
 use Rattle.code.specs.Pages.{IsWords, again-from, again-to, data-fit, data_bytes-eq, join-words}
 use Rattle.code.specs.Pages.{page-back, page-has, page-is, page-words, sum_fits, sum-page, word_lt, words-many}
@@ -1089,12 +1089,20 @@ module _ (p : Parameters) (A : Accepted p) where
   page-mends = record {
     pass = λ x h. mend-pass p A x h;
     each-round = λ x k h. mend-round p A x k h;
-    done = λ x after o b M.
-        (let d = mend-page-zero p A x (λ y. Judged p y Verdict.Member) member_is b in
+    done = λ x after o b M. (
+      (λ e. (mend-page-zero p A x b).0 (sym M.number ∙ ap outcome_number e)),
+      (λ s. M.answers ∙ ap outcome ((mend-page-zero p A x b).1 s)),
+    );
+    nowhere = λ x after o b M. (
+      (λ e. (mend-page-17 p A x b).0 (sym M.number ∙ ap outcome_number e)),
+      (λ s. M.answers ∙ ap outcome ((mend-page-17 p A x b).1 s)),
+    );
+    succeeds = λ x after o b M.
+        (let d = mend-page-succeeds p A x (λ y. Judged p y Verdict.Member) member_is b in
         ((λ e. d.0 (sym M.number ∙ ap outcome_number e)), (λ s. M.answers ∙ ap outcome (d.1 s))));
     page = λ x after k b M e. (let z : mend_page_refusal p x ≡ 0 = sym M.number in rw z at M.buffer ∙ mend-page-page p A x k b z e);
-    nowhere = λ x after o b M.
-        (let d = mend-page-17 p A x (λ y. Judged p y Verdict.Member) member_is b in
+    fails = λ x after o b M.
+        (let d = mend-page-fails p A x (λ y. Judged p y Verdict.Member) member_is b in
         ((λ e. d.0 (sym M.number ∙ ap outcome_number e)), (λ s. M.answers ∙ ap outcome (d.1 s))));
     kept = λ x after k M. M.buffer ∙ leaves-refused (mend_page_refusal p x) _ x (refused-pos k (mend_page_refusal p x) M.answers);
     otherwise = λ x after o h M. either x after o M (mend-page-else p A x h);

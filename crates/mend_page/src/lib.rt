@@ -1,5 +1,7 @@
 // A page mended through its nested words, in a room of its own that is copied to the page at the end: each sub-word by itself, then rounds until none
 // is broken; the end page must be a member. A member is left as it is.
+#![tactic(auto)]
+
 ghost use Rattle.std.specs.Prelude.{◌≡◌, ◌&&◌, not, eqb, take};
 ghost use Rattle.code.specs.Calls.{PageMended, generators};
 ghost use Rattle.code.specs.Code.{failing_number};

@@ -1,4 +1,6 @@
 // Pages: written, one or many, judged, read out.
+#![tactic(auto)]
+
 ghost use Rattle.std.specs.Prelude.{◌≡◌, ◌+◌, ◌*◌, ◌/◌, ◌%◌, ◌^◌, ◌≤◌, ◌<◌, length, get_or};
 ghost use Rattle.polynomial.specs.Digits.{digits, value};
 ghost use Rattle.code.specs.Calls.{Judged, ReadOut, Written, WrittenMany, generators, status_of, statuses};

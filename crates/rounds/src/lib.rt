@@ -1,5 +1,7 @@
 // Rounds through the nested words of a page, by lent tables of the field: the syndromes of b nested words give those of b unknown errors, and each
 // that is an error of few enough stored bits is mended, all of a round from the page as it stood when the round began.
+#![tactic(auto)]
+
 ghost use Rattle.std.specs.Prelude.{◌≡◌, not, ◌+◌, ◌*◌, ◌-◌, ◌<◌, ◌≤◌, leb, length, take};
 ghost use Rattle.field.specs.Flips.{Rising};
 ghost use Rattle.locator.specs.Locate.{kept};
