@@ -1,4 +1,6 @@
 // The C calls: the numbers of a sheet one by one, buffers as byte slices, the answer as a number. Each tests everything.
+#![tactic(auto)]
+
 ghost use Rattle.code.specs.Calls.{AlteredC, MendedC, PageMendedC, WrittenC, WrittenManyC, JudgedC, ReadOutC, SyndromesMadeC, NestedSyndromesMadeC, AllMadeC, QuoteMadeC, SizeC};
 ghost use Rattle.code.specs.Code.{distance};
 ghost use Rattle.code.specs.Layout.{data_bytes, page_bytes};
