@@ -44,13 +44,13 @@ expect-requires-6 c =
     c.same-3.ensures.1 (from).1
 
 pub shape_of-page : goal.shape_of-page
-shape_of-page c = c.alter-from.auto.1.0 ∙ c.alter-to.auto.1.0 ∙ c.put.auto.1.1.1.0
+shape_of-page c = c.alter-from.auto.page ∙ c.alter-to.auto.page ∙ c.put.auto.page
 
 pub shape_of-first : goal.shape_of-first
-shape_of-first c = c.put-2.auto.1.1.1.0
+shape_of-first c = c.put-2.auto.page
 
 pub shape_of-other : goal.shape_of-other
-shape_of-other c = c.put-3.auto.1.1.1.0
+shape_of-other c = c.put-3.auto.page
 
 pub shape_of-back : goal.shape_of-back
-shape_of-back c = c.read_out-v.auto.1.1.0
+shape_of-back c = c.read_out-v.auto.blocks

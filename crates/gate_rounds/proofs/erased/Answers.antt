@@ -29,7 +29,7 @@ pub expect-requires-3 : goal.expect-requires-3
 expect-requires-3 c =
     let refused : (let a = c.args in
     (c.write-w.result ≡ Outcome.Refused 13) × (c.write-w.new.page ≡ a.again.now)) = let a = c.args in
-    let l = (demands a.p c.requires.0).0.blank-write-laws a.l _ a.again.now _ _ c.requires.1 ((out (goal.at.expect-requires-3 c).After-read_out-r).ranges c.requires.3) c.requires.5 c.write-w.ensures in
+    let l = (demands a.p c.requires.0).0.blank-write-laws a.l _ a.again.now _ _ c.requires.1 ((out (goal.at.expect-requires-3 c).After-read_out-r).fits c.requires.3) c.requires.5 c.write-w.ensures in
     let b = l.ones.1 (c.requires.7, (out (goal.at.expect-requires-3 c).After-read_out-r).ones c.requires.3) in
     (l.refused.1 b, l.kept b) in
     eq-eqb _ _ (c.number.ensures ∙ ap outcome_number (refused).0)
@@ -38,7 +38,7 @@ pub expect-requires-4 : goal.expect-requires-4
 expect-requires-4 c =
     let refused : (let a = c.args in
     (c.write-w.result ≡ Outcome.Refused 13) × (c.write-w.new.page ≡ a.again.now)) = let a = c.args in
-    let l = (demands a.p c.requires.0).0.blank-write-laws a.l _ a.again.now _ _ c.requires.1 ((out (goal.at.expect-requires-4 c).After-read_out-r).ranges c.requires.3) c.requires.5 c.write-w.ensures in
+    let l = (demands a.p c.requires.0).0.blank-write-laws a.l _ a.again.now _ _ c.requires.1 ((out (goal.at.expect-requires-4 c).After-read_out-r).fits c.requires.3) c.requires.5 c.write-w.ensures in
     let b = l.ones.1 (c.requires.7, (out (goal.at.expect-requires-4 c).After-read_out-r).ones c.requires.3) in
     (l.refused.1 b, l.kept b) in
     c.same.ensures.1 ((refused).1 ∙ sym c.requires.6)
