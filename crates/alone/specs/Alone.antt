@@ -5,10 +5,10 @@ use Rattle.std.proofs.Math.Nat as Nat
 use Rattle.field.specs.Flips.{Rising}
 use Rattle.locator.specs.Locate.{kept}
 use Rattle.code.specs.declared.Parameters.{Parameters}
-use Rattle.code.specs.Accepted.{accepted}
+use Rattle.code.proofs.Accepted.{accepted}
 use Rattle.code.specs.Code.{nearest}
 use Rattle.code.specs.Lists.{range}
-use Rattle.code.specs.Mend.{nearest-sound}
+use Rattle.code.proofs.Mend.{nearest-sound}
 use Rattle.code.specs.Parameters.{Accepted, stored}
 use Rattle.mend.specs.Call.{found_some}
 

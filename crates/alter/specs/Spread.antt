@@ -12,13 +12,14 @@ use Rattle.polynomial.specs.Division.{xor_lt}
 use Rattle.polynomial.specs.Sums.{add, add_at}
 use Rattle.polynomial.specs.Xor.{xor, xor_zero_l, xors}
 use Rattle.code.specs.declared.Parameters.{Parameters}
-use Rattle.code.specs.Accepted.{accepted, stored-room}
-use Rattle.code.specs.Alter.{alone, alone-words, unit-page, unit-words, units, units-are}
+use Rattle.code.proofs.Accepted.{accepted, stored-room}
+use Rattle.code.specs.Alter.{alone, units}
+use Rattle.code.proofs.Alter.{alone-words, unit-page, unit-words, units-are}
 use Rattle.code.specs.Layout.{IsPage, data_bits, one_bit, one_block, page_bytes, page_clear, page_of, single, words_of}
-use Rattle.code.specs.Pages.{join-words, page-length, sum-is-page, sum-words, whole, word_lt, words-many}
+use Rattle.code.proofs.Pages.{join-words, page-length, sum-is-page, sum-words, whole, word_lt, words-many}
 use Rattle.code.specs.Lists.{part}
 use Rattle.code.specs.Parameters.{Accepted, stored, sub_word_bytes}
-use Rattle.code.specs.Placement.{data-room, single-at, single-else, word_at}
+use Rattle.code.proofs.Placement.{data-room, single-at, single-else, word_at}
 use Rattle.layout.specs.Parts.{page-parts}
 use Rattle.layout.specs.SubWords as S
 use Rattle.layout.specs.Written.{written, written-here, written-length, written-there}

@@ -9,7 +9,8 @@ use Rattle.polynomial.specs.Sums.{add, at_all}
 use Rattle.kernels.specs.Value.{value-lt}
 use Rattle.code.specs.declared.Outcome.{Outcome}
 use Rattle.code.specs.declared.Parameters.{Parameters}
-use Rattle.code.specs.Alter.{Alterable, altered-eq, by_eqb, by-neqb}
+use Rattle.code.specs.Alter.{Alterable}
+use Rattle.code.proofs.Alter.{altered-eq, by_eqb, by-neqb}
 use Rattle.code.specs.Calls.{Altered}
 use Rattle.code.specs.Code.{check_bits}
 use Rattle.code.specs.Layout.{altered, blank, coefficient_of, one_bit, page_of}

@@ -12,10 +12,10 @@ use Rattle.field.specs.Irreducible.{both}
 use Rattle.code.specs.declared.Outcome.{Outcome}
 use Rattle.code.specs.declared.Parameters.{Parameters}
 use Rattle.code.specs.declared.Verdict.{Verdict}
-use Rattle.code.specs.Accepted.{accepted, any_none}
-use Rattle.code.specs.Answers.{judged, made-done, made-refused, read}
-use Rattle.code.specs.Blank.{blank-iff}
-use Rattle.code.specs.Chains.{either}
+use Rattle.code.proofs.Accepted.{accepted, any_none}
+use Rattle.code.proofs.Answers.{judged, made-done, made-refused, read}
+use Rattle.code.proofs.Blank.{blank-iff}
+use Rattle.code.proofs.Chains.{either}
 use Rattle.code.specs.Demands.{Burst, NamesBit, SetTo}
 use Rattle.code.specs.Lists.{any, range}
 use Rattle.code.specs.Parameters.{Accepted, sheet_refusal, sheet, stored}

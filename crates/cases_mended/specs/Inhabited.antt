@@ -10,7 +10,7 @@ use Rattle.field.specs.Flips.{flips}
 use Rattle.code.specs.declared.Outcome.{Outcome}
 use Rattle.code.specs.declared.Parameters.{Parameters}
 use Rattle.code.specs.declared.Verdict.{Verdict}
-use Rattle.code.specs.Answers.{judged, made-done, made-refused}
+use Rattle.code.proofs.Answers.{judged, made-done, made-refused}
 use Rattle.code.specs.Demands.{Damaged, MendLent, Recoverable}
 use Rattle.code.specs.Lists.{count_below, part}
 use Rattle.code.specs.Parameters.{Accepted, sheet_refusal, sheet, strength}

@@ -6,12 +6,13 @@ use Rattle.std.proofs.Math.Nat as Nat
 use Rattle.polynomial.specs.Digits.{value}
 use Rattle.polynomial.specs.Xor.{xor}
 use Rattle.code.specs.declared.Parameters.{Parameters}
-use Rattle.code.specs.Accepted.{Rules, accepted}
+use Rattle.code.specs.Accepted.{Rules}
+use Rattle.code.proofs.Accepted.{accepted}
 use Rattle.code.specs.Code.{N, combine}
 use Rattle.code.specs.Layout.{page_bytes, words_of}
-use Rattle.code.specs.Pages.{words-many}
+use Rattle.code.proofs.Pages.{words-many}
 use Rattle.code.specs.Parameters.{Accepted, sub_word_bytes}
-use Rattle.code.specs.Placement.{word_at}
+use Rattle.code.proofs.Placement.{word_at}
 use Rattle.layout.specs.SubWords.{word_lt}
 use Rattle.sheet.specs.Nesting.{N-lt}
 use Rattle.kernels.specs.Value.{Bounded, value-cons, value-nil}

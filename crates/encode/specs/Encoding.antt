@@ -14,13 +14,13 @@ use Rattle.polynomial.specs.Division.{rem_lt}
 use Rattle.polynomial.specs.Sums.{at_all}
 use Rattle.polynomial.specs.Xor.{xor, xor_is}
 use Rattle.code.specs.declared.Parameters.{Parameters}
-use Rattle.code.specs.Accepted.{accepted, lawful}
+use Rattle.code.proofs.Accepted.{accepted, lawful}
 use Rattle.code.specs.Code.{carried, check_bits, checked, gen, level, remainder}
 use Rattle.code.specs.Layout.{Fits, block_offset, blocks_clear, blocks_of, data_bits, data_bytes, page_bytes, words_of}
-use Rattle.code.specs.Pages.{blocks-blocks}
+use Rattle.code.proofs.Pages.{blocks-blocks}
 use Rattle.code.specs.Parameters.{Accepted, sub_word_bytes}
-use Rattle.code.specs.Placement.{sized-at}
-use Rattle.code.specs.Steps.{checked-eq}
+use Rattle.code.proofs.Placement.{sized-at}
+use Rattle.code.proofs.Steps.{checked-eq}
 use Rattle.layout.specs.Parts.{block_at}
 use Rattle.layout.specs.Sizes.{Degrees, bits-all, check-below, level-low}
 use Rattle.encode.specs.Carried.{room_bytes}

@@ -10,8 +10,8 @@ use Rattle.polynomial.specs.Clmul.{clmul, clmul-assoc, clmul-one-l, clmul-pow, c
 use Rattle.polynomial.specs.Division.{xor_lt}
 use Rattle.polynomial.specs.Xor.{xor, xors, xor_assoc, xor_comm, xor_zero_l}
 use Rattle.code.specs.Code.{N, combine}
-use Rattle.code.specs.Encode.{N-diagonal}
-use Rattle.code.specs.Steps.{N-first, N-step, combine-cons, combine-nil}
+use Rattle.code.proofs.Encode.{N-diagonal}
+use Rattle.code.proofs.Steps.{N-first, N-step, combine-cons, combine-nil}
 use Rattle.kernels.specs.Raise.{xor_low}
 use Rattle.kernels.specs.Shift.{xor-shl}
 use Rattle.kernels.specs.Word.{mod-mul-mod}

@@ -8,12 +8,14 @@ use Rattle.std.proofs.Math.Nat as Nat
 use Rattle.polynomial.specs.Digits.{digits, length_digits, value, value-digits}
 use Rattle.polynomial.specs.Sums.{all-at}
 use Rattle.code.specs.declared.Parameters.{Parameters}
-use Rattle.code.specs.Accepted.{Rules, accepted}
+use Rattle.code.specs.Accepted.{Rules}
+use Rattle.code.proofs.Accepted.{accepted}
 use Rattle.code.specs.Code.{carried, check_bits, checked, encode, encode_from, level}
 use Rattle.code.specs.Layout.{Fits, blocks_of, page_bytes, page_of, words_of}
-use Rattle.code.specs.Pages.{IsWords, blocks-blocks, encode-words, page_of-eq, whole, words-many}
+use Rattle.code.specs.Pages.{IsWords}
+use Rattle.code.proofs.Pages.{blocks-blocks, encode-words, page_of-eq, whole, words-many}
 use Rattle.code.specs.Parameters.{Accepted, stored, sub_word_bytes}
-use Rattle.code.specs.Placement.{encode-at, word_at}
+use Rattle.code.proofs.Placement.{encode-at, word_at}
 use Rattle.layout.specs.Parts.{page-parts, word_room}
 use Rattle.layout.specs.Replaced.{replaced, replaced-after, replaced-length, replaced-part}
 use Rattle.encode.specs.Carried.{room_bytes}

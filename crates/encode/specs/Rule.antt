@@ -7,7 +7,7 @@ use Rattle.code.specs.declared.Parameters.{Parameters}
 use Rattle.code.specs.Code.{N, carried, check_bits, combine, level}
 use Rattle.code.specs.Layout.{data_bits}
 use Rattle.code.specs.Parameters.{Accepted, stored, sub_word_bytes}
-use Rattle.code.specs.Steps.{carried-zero, carried-suc}
+use Rattle.code.proofs.Steps.{carried-zero, carried-suc}
 use Rattle.layout.specs.Sizes.{bits-all, check-below}
 use Rattle.encode.specs.Carried.{room_bytes}
 

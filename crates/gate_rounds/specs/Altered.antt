@@ -7,15 +7,16 @@ use Rattle.polynomial.specs.Bits.{coefficient}
 use Rattle.code.specs.declared.Outcome.{Outcome}
 use Rattle.code.specs.declared.Parameters.{Parameters}
 use Rattle.code.specs.declared.Verdict.{Verdict}
-use Rattle.code.specs.Accepted.{accepted}
-use Rattle.code.specs.Alter.{altered-fits, altered_blocks, set_here, set_there}
-use Rattle.code.specs.Answers.{judged, read}
+use Rattle.code.proofs.Accepted.{accepted}
+use Rattle.code.specs.Alter.{altered_blocks}
+use Rattle.code.proofs.Alter.{altered-fits, set_here, set_there}
+use Rattle.code.proofs.Answers.{judged, read}
 use Rattle.code.specs.Calls.{Altered, Written, judge_answer, read_answer}
 use Rattle.code.specs.Demands.{AlteredMember, NamesBit, SetTo, WriteLaws}
 use Rattle.code.specs.Layout.{Fits, block_bit, data_bytes}
 use Rattle.code.specs.Parameters.{Accepted}
 use Rattle.code.specs.Refused.{BlocksBuffer, PageBuffer, Width}
-use Rattle.code.specs.Theorems.{demands}
+use Rattle.code.proofs.Theorems.{demands}
 use Rattle.gate_rounds.specs.Apt.{Apt, apt}
 
 pub record Twins (p : Parameters) (a b : List ℕ) (i r x y : ℕ) : Type 0 where

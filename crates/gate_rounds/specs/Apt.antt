@@ -6,10 +6,10 @@ use Rattle.std.proofs.Math.Nat as Nat
 use Rattle.polynomial.specs.Bits.{coefficient}
 use Rattle.polynomial.specs.Sums.{add}
 use Rattle.code.specs.declared.Parameters.{Parameters}
-use Rattle.code.specs.Accepted.{accepted}
-use Rattle.code.specs.Blank.{page-ones}
+use Rattle.code.proofs.Accepted.{accepted}
+use Rattle.code.proofs.Blank.{page-ones}
 use Rattle.code.specs.Layout.{Fits, IsBlank, bit_from, page_of}
-use Rattle.code.specs.Pages.{sum_fits}
+use Rattle.code.proofs.Pages.{sum_fits}
 use Rattle.code.specs.Parameters.{Accepted}
 use Rattle.layout.specs.Parts.{offset-zero}
 use Rattle.layout.specs.Sizes.{data-low}

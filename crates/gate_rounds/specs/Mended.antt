@@ -9,15 +9,16 @@ use Rattle.field.specs.Flips.{Rising, flips, flips-cons, flips-nil, weight-pow}
 use Rattle.code.specs.declared.Outcome.{Outcome}
 use Rattle.code.specs.declared.Parameters.{Parameters}
 use Rattle.code.specs.declared.Verdict.{Verdict}
-use Rattle.code.specs.Accepted.{Rules, accepted}
-use Rattle.code.specs.Answers.{judged}
+use Rattle.code.specs.Accepted.{Rules}
+use Rattle.code.proofs.Accepted.{accepted}
+use Rattle.code.proofs.Answers.{judged}
 use Rattle.code.specs.Calls.{Mended, Written, judge_answer, sub_word_of}
 use Rattle.code.specs.Demands.{Damaged, MendLent, WriteLaws}
 use Rattle.code.specs.Layout.{IsPage, differences, flipped}
-use Rattle.code.specs.Mend.{flipped-else, flipped-here, flipped-page, flipped-stay}
+use Rattle.code.proofs.Mend.{flipped-else, flipped-here, flipped-page, flipped-stay}
 use Rattle.code.specs.Parameters.{Accepted, stored, strength}
 use Rattle.code.specs.Refused.{PageBuffer, Width}
-use Rattle.code.specs.Theorems.{damage, demands}
+use Rattle.code.proofs.Theorems.{damage, demands}
 use Rattle.layout.specs.Written.{written}
 use Rattle.mend.specs.Call.{written-flipped}
 use Rattle.gate_rounds.specs.Apt.{Apt}

@@ -9,12 +9,12 @@ use Rattle.polynomial.specs.Sums.{all-at, at_all}
 use Rattle.polynomial.specs.Xor.{xor, xor-cancel, xor_is, xor_self}
 use Rattle.code.specs.declared.Parameters.{Parameters}
 use Rattle.code.specs.declared.Verdict.{Verdict}
-use Rattle.code.specs.Accepted.{accepted}
-use Rattle.code.specs.Answers.{judged}
+use Rattle.code.proofs.Accepted.{accepted}
+use Rattle.code.proofs.Answers.{judged}
 use Rattle.code.specs.Calls.{Judged, judge_answer}
 use Rattle.code.specs.Layout.{Bytes, IsPage}
 use Rattle.code.specs.Parameters.{Accepted, sub_word_bytes}
-use Rattle.code.specs.Theorems.{demands}
+use Rattle.code.proofs.Theorems.{demands}
 use Rattle.layout.specs.Sizes.{stored_low}
 use Rattle.gate_rounds.specs.Answers.{is_member, not-member}
 

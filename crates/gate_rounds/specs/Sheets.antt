@@ -10,9 +10,9 @@ use Rattle.polynomial.specs.Xor.{xor}
 use Rattle.field.specs.Field.{pow}
 use Rattle.code.specs.declared.Parameters.{Parameters}
 use Rattle.field.specs.Irreducible.{both}
-use Rattle.code.specs.Accepted.{accepted}
+use Rattle.code.proofs.Accepted.{accepted}
 use Rattle.code.specs.Alter.{altered_blocks}
-use Rattle.code.specs.Blank.{blank-iff}
+use Rattle.code.proofs.Blank.{blank-iff}
 use Rattle.code.specs.Calls.{judge_answer, statuses}
 use Rattle.code.specs.Demands.{NamesBit}
 use Rattle.code.specs.Layout.{Bytes, Fits, IsBlank, IsPage, blank, block_offset, blocks_clear, data_bits, data_bytes, page_bytes, page_clear}

@@ -8,16 +8,16 @@ use Rattle.std.proofs.Math.Nat as Nat
 use Rattle.std.proofs.lemmas.List.{get_or-replicate, length-replicate}
 use Rattle.code.specs.declared.Outcome.{Outcome}
 use Rattle.code.specs.declared.Parameters.{Parameters}
-use Rattle.code.specs.Answers.{outcome-number}
+use Rattle.code.proofs.Answers.{outcome-number}
 use Rattle.code.specs.Calls.{Written, WrittenMany, leaves, outcome, outcome_number, statuses}
 use Rattle.code.specs.Demands.{ManyLaws}
 use Rattle.code.specs.Layout.{data_bytes, page_bytes, page_of}
 use Rattle.code.specs.Lists.{part}
-use Rattle.code.specs.Many.{part_length, part_room}
+use Rattle.code.proofs.Many.{part_length, part_room}
 use Rattle.code.specs.Parameters.{Accepted}
 use Rattle.code.specs.Refusals.{write_refusal}
 use Rattle.code.specs.Refused.{Width}
-use Rattle.code.specs.Theorems.{demands}
+use Rattle.code.proofs.Theorems.{demands}
 use Rattle.gate_rounds.specs.Answers.{is_done, never}
 
 abbrev pub filled : ℕ → List ℕ

@@ -5,9 +5,10 @@ use Rattle.std.proofs.Math.Nat as Nat
 use Rattle.polynomial.specs.Digits.{value, length_digits, value-digits}
 use Rattle.polynomial.specs.Division.{deg, lt-of-deg}
 use Rattle.field.specs.Fields.{Known, field_of, field_of-exponent}
-use Rattle.generator.specs.Generator.{deg-generator, generator, generator-deg, generator-pos, width}
-use Rattle.generator.specs.Next.{width-le}
-use Rattle.code.specs.Accepted.{q-high}
+use Rattle.generator.specs.Generator.{generator, width}
+use Rattle.generator.proofs.Generator.{deg-generator, generator-deg, generator-pos}
+use Rattle.generator.proofs.Next.{width-le}
+use Rattle.code.proofs.Accepted.{q-high}
 use Rattle.tables.specs.Generators.{strengths}
 use Rattle.generator_rows.specs.Rows.{row}
 

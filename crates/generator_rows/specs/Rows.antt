@@ -7,8 +7,8 @@ use Rattle.std.proofs.Common.{sym, ap, ◌∙◌, arith, length-set, pow_mono, e
 use Rattle.std.proofs.Math.Nat as Nat
 use Rattle.polynomial.specs.Digits.{digits, digits-at, length_digits}
 use Rattle.field.specs.Fields.{field_of}
-use Rattle.code.specs.Pages.{zeros-at}
-use Rattle.code.specs.Placement.{first_more}
+use Rattle.code.proofs.Pages.{zeros-at}
+use Rattle.code.proofs.Placement.{first_more}
 use Rattle.generator.specs.Generator.{generator}
 use Rattle.tables.specs.Generators.{Generators}
 

@@ -5,10 +5,11 @@ use Rattle.std.proofs.Math.Nat as Nat
 use Rattle.field.specs.Fields.{Known, field_of}
 use Rattle.generator.specs.Generator.{width}
 use Rattle.code.specs.declared.Parameters.{Parameters}
-use Rattle.code.specs.Accepted.{Rules, accepted, rising}
+use Rattle.code.specs.Accepted.{Rules}
+use Rattle.code.proofs.Accepted.{accepted, rising}
 use Rattle.code.specs.Code.{degree}
 use Rattle.code.specs.Parameters.{Accepted, strength}
-use Rattle.code.specs.Steps.{degree-eq}
+use Rattle.code.proofs.Steps.{degree-eq}
 use Rattle.tables.specs.Generators.{strengths}
 use Rattle.element.specs.declared.Field.{Field}
 use Rattle.element.specs.Fields.{field_at}

@@ -8,11 +8,11 @@ use Rattle.code.specs.declared.Parameters.{Parameters}
 use Rattle.code.specs.Calls.{AllMade, AllMadeC, as_bytes, as_numbers, leaves, number_at, outcome_number}
 use Rattle.code.specs.Code.{all_syndromes}
 use Rattle.code.specs.Lists.{◌or_else◌, ◌when◌}
-use Rattle.code.specs.Odd.{all-le, all-open, all-zero}
+use Rattle.code.proofs.Odd.{all-le, all-open, all-zero}
 use Rattle.code.specs.Parameters.{strength}
 use Rattle.code.specs.Refusals.{all_refusal, open_refusal}
-use Rattle.code.specs.Refused.{open-zero}
-use Rattle.code.specs.Filled.{map-length}
+use Rattle.code.proofs.Refused.{open-zero}
+use Rattle.code.proofs.Filled.{map-length}
 use Rattle.numbers.specs.List.{first_numbers, numbers_in, numbers-all, numbers-bytes, numbers-exact}
 use Rattle.gii_bch.specs.Syndromes.{double-many, leaves_alike, level-many}
 

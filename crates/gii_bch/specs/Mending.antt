@@ -5,10 +5,10 @@ use Rattle.std.proofs.Math.Nat as Nat
 use Rattle.code.specs.declared.Outcome.{Outcome}
 use Rattle.code.specs.declared.Parameters.{Parameters}
 use Rattle.code.specs.Calls.{Mended, MendedC, as_bytes, leaves, outcome_number, places_of}
-use Rattle.code.specs.Chains.{or-none}
+use Rattle.code.proofs.Chains.{or-none}
 use Rattle.code.specs.Layout.{flipped, mending, place_list}
 use Rattle.code.specs.Lists.{◌or_else◌, ◌when◌}
-use Rattle.code.specs.Mend.{mend-chain, mend-le, word-mendable}
+use Rattle.code.proofs.Mend.{mend-chain, mend-le, word-mendable}
 use Rattle.code.specs.Parameters.{Accepted, strength}
 use Rattle.code.specs.Refusals.{mend_refusal, nowhere, word_refusal}
 use Rattle.numbers.specs.List.{numbers_in, numbers-bytes}

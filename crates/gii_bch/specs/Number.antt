@@ -4,14 +4,14 @@ use Rattle.std.proofs.Common.{◌∙◌, arith, lit<}
 use Rattle.code.specs.declared.Outcome.{Outcome}
 use Rattle.code.specs.declared.Parameters.{Parameters}
 use Rattle.code.specs.declared.Verdict.{Verdict}
-use Rattle.code.specs.Answers.{number-low}
+use Rattle.code.proofs.Answers.{number-low}
 use Rattle.code.specs.Calls.{Judged, JudgedC, Made, MadeC, ReadOut, ReadOutC, judge_number, outcome_number, page_number, read_number, verdict_number}
 use Rattle.code.specs.Code.{failing_number}
 use Rattle.code.specs.Layout.{blank, words_of}
 use Rattle.code.specs.Lists.{◌or_else◌, last_refusal}
 use Rattle.code.specs.Parameters.{Accepted}
 use Rattle.code.specs.Refusals.{judge_refusal, read_refusal}
-use Rattle.code.specs.Refused.{judge-le, read-le}
+use Rattle.code.proofs.Refused.{judge-le, read-le}
 use Rattle.refusal.specs.Judging.{judge-accepted}
 use Rattle.refusal.specs.Reading.{read-accepted}
 

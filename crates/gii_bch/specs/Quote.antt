@@ -4,10 +4,10 @@ use Rattle.std.proofs.Common.{sym, ap, ◌∙◌}
 use Rattle.std.proofs.Math.Nat as Nat
 use Rattle.code.specs.declared.Outcome.{Outcome}
 use Rattle.code.specs.declared.Parameters.{Parameters}
-use Rattle.code.specs.Answers.{leaves-refused}
+use Rattle.code.proofs.Answers.{leaves-refused}
 use Rattle.code.specs.Calls.{QuoteMade, QuoteMadeC, as_bytes, leaves, outcome_number, quote}
 use Rattle.code.specs.Parameters.{sheet_refusal}
-use Rattle.code.specs.Quote.{quote-exact, quote-le, quote-none, quote-sheet, quote-ten}
+use Rattle.code.proofs.Quote.{quote-exact, quote-le, quote-none, quote-sheet, quote-ten}
 use Rattle.code.specs.Refusals.{quote_refusal}
 
 -- the call on 12 numbers took xs to ys; n is its answer's number

@@ -4,13 +4,13 @@ use Rattle.std.specs.Prelude.{◌≡◌, refl, ℕ, zero, suc, ◌+◌, ◌-◌,
 use Rattle.std.proofs.Common.{ap, ◌∙◌, zero-le, arith, lit<}
 use Rattle.std.proofs.Math.Nat as Nat
 use Rattle.code.specs.declared.Parameters.{Parameters}
-use Rattle.code.specs.Accepted.{accepted, strength-high}
-use Rattle.code.specs.Answers.{size-c}
+use Rattle.code.proofs.Accepted.{accepted, strength-high}
+use Rattle.code.proofs.Answers.{size-c}
 use Rattle.code.specs.Calls.{SizeC, size_unless}
 use Rattle.code.specs.Code.{distance}
 use Rattle.code.specs.Layout.{data_bytes, page_bytes}
 use Rattle.code.specs.Parameters.{Accepted, sheet_refusal, strength}
-use Rattle.code.specs.Theorems.{demand3}
+use Rattle.code.proofs.Theorems.{demand3}
 use Rattle.layout.specs.Parts.{block_room, bytes_high}
 use Rattle.layout.specs.Sizes.{data-low, page-high, stored_low}
 use Rattle.sizes.specs.declared.Size.{Size}

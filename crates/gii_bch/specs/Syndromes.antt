@@ -12,12 +12,13 @@ use Rattle.std.proofs.Math.Nat as Nat
 use Rattle.std.proofs.Math.Dec.{leb}
 use Rattle.code.specs.declared.Outcome.{Outcome}
 use Rattle.code.specs.declared.Parameters.{Parameters}
-use Rattle.code.specs.Accepted.{Rules, accepted, rising}
+use Rattle.code.specs.Accepted.{Rules}
+use Rattle.code.proofs.Accepted.{accepted, rising}
 use Rattle.code.specs.Calls.{Made, MadeC, as_bytes, leaves, nested_syndrome_list, outcome_number, syndrome_list}
 use Rattle.code.specs.Lists.{◌when◌, ◌or_else◌}
 use Rattle.code.specs.Parameters.{Accepted, strength}
 use Rattle.code.specs.Refusals.{page_refusal, word_refusal}
-use Rattle.code.specs.Refused.{word-le}
+use Rattle.code.proofs.Refused.{word-le}
 use Rattle.refusal.specs.Indexed.{word-page, word-zero}
 use Rattle.refusal.specs.Judging.{page-zero}
 use Rattle.numbers.specs.List.{numbers_in, numbers-bytes, numbers-exact}

@@ -6,13 +6,13 @@ use Rattle.std.proofs.Common.{sym, ap, ap₂, ◌∙◌, zero-le, add-one, arith
 use Rattle.std.proofs.Math.Nat as Nat
 use Rattle.polynomial.specs.Digits.{digits, value}
 use Rattle.code.specs.declared.Parameters.{Parameters}
-use Rattle.code.specs.Accepted.{accepted}
+use Rattle.code.proofs.Accepted.{accepted}
 use Rattle.code.specs.Layout.{block_offset, block_sizes, blocks_of, data_bits, data_bytes, page_bytes, word_sizes}
-use Rattle.code.specs.Bytes.{split_at}
+use Rattle.code.proofs.Bytes.{split_at}
 use Rattle.code.specs.Lists.{join, sum}
-use Rattle.code.specs.Pages.{blocks_of-eq, length-blocks, length-sizes}
+use Rattle.code.proofs.Pages.{blocks_of-eq, length-blocks, length-sizes}
 use Rattle.code.specs.Parameters.{Accepted, sub_word_bytes}
-use Rattle.code.specs.Placement.{block_size, offset-eq, offset-replicate, page-size}
+use Rattle.code.proofs.Placement.{block_size, offset-eq, offset-replicate, page-size}
 use Rattle.layout.specs.Runs.{join-parts, sum-all, sum-le, sum-next, sum-none}
 use Rattle.layout.specs.Sizes.{data-high}
 

@@ -13,8 +13,8 @@ use Rattle.polynomial.specs.Bits.{coefficient}
 use Rattle.polynomial.specs.Coefficients.{high-coefficient}
 use Rattle.polynomial.specs.Digits.{digits, value, value-coefficient}
 use Rattle.polynomial.specs.Sums.{all_drop, all_take, at_all}
-use Rattle.code.specs.Blank.{low_ones, ones_low}
-use Rattle.code.specs.Chains.{both_ways, true-false}
+use Rattle.code.proofs.Blank.{low_ones, ones_low}
+use Rattle.code.proofs.Chains.{both_ways, true-false}
 use Rattle.code.specs.Layout.{Bytes}
 use Rattle.code.specs.Lists.{fits_in, join, ones_in, sum}
 

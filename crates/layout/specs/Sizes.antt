@@ -5,15 +5,17 @@ use Rattle.std.specs.Prelude.{◌≡◌, refl, List, [], ◌∷◌, ℕ, ◌+◌
 use Rattle.std.proofs.Common.{◌∙◌, zero-le, suc-le-suc, arith, lit≤, lit<, shl_exact}
 use Rattle.std.proofs.Math.Nat as Nat
 use Rattle.field.specs.Fields.{BinaryField, field_of, field_of-exponent, by-known}
-use Rattle.generator.specs.Exponents.{exponents, exponents-mem}
+use Rattle.generator.specs.Exponents.{exponents}
+use Rattle.generator.proofs.Exponents.{exponents-mem}
 use Rattle.generator.specs.Generator.{width, width-eq}
 use Rattle.generator.specs.Distinct.{Mem}
 use Rattle.code.specs.declared.Parameters.{Parameters}
-use Rattle.code.specs.Accepted.{Rules, accepted, rising, stored-le, stored-room}
+use Rattle.code.specs.Accepted.{Rules}
+use Rattle.code.proofs.Accepted.{accepted, rising, stored-le, stored-room}
 use Rattle.code.specs.Code.{check_bits, degree, level}
 use Rattle.code.specs.Layout.{data_bits, page_bytes}
 use Rattle.code.specs.Parameters.{Accepted, len, nested_bytes, stored, strength, sub_word_bytes}
-use Rattle.code.specs.Steps.{degree-eq}
+use Rattle.code.proofs.Steps.{degree-eq}
 
 pub record Degrees (p : Parameters) (w : List ℕ) : Type 0 where
   pub four : length w ≡ 4

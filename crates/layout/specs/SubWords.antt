@@ -5,12 +5,12 @@ use Rattle.std.proofs.Math.Nat as Nat
 use Rattle.polynomial.specs.Digits.{value}
 use Rattle.polynomial.specs.Sums.{all-at, at_all}
 use Rattle.code.specs.declared.Parameters.{Parameters}
-use Rattle.code.specs.Accepted.{accepted}
+use Rattle.code.proofs.Accepted.{accepted}
 use Rattle.code.specs.Layout.{IsPage, page_bytes, page_clear, words_of}
-use Rattle.code.specs.Pages.{page-words}
+use Rattle.code.proofs.Pages.{page-words}
 use Rattle.code.specs.Parameters.{Accepted, stored, sub_word_bytes}
 use Rattle.kernels.specs.Value.{bounded-drop, take-lt}
-use Rattle.code.specs.Placement.{word_at}
+use Rattle.code.proofs.Placement.{word_at}
 use Rattle.layout.specs.Parts.{word_room}
 use Rattle.layout.specs.Sizes.{page-high}
 

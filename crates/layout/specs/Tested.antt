@@ -13,9 +13,9 @@ use Rattle.code.specs.declared.Parameters.{Parameters}
 use Rattle.code.specs.Layout.{blank, block_bits, block_offset, blocks_clear, blocks_full, blocks_of}
 use Rattle.code.specs.Layout.{data_bits, data_bytes, page_bytes, page_clear, words_of}
 use Rattle.code.specs.Lists.{each}
-use Rattle.code.specs.Pages.{blocks-many, length-bits, words-many}
+use Rattle.code.proofs.Pages.{blocks-many, length-bits, words-many}
 use Rattle.code.specs.Parameters.{Accepted, stored, sub_word_bytes}
-use Rattle.code.specs.Placement.{bits_at, word_at}
+use Rattle.code.proofs.Placement.{bits_at, word_at}
 use Rattle.layout.specs.Parts.{block_at, block_room, offset-next, offset-zero, word_room}
 use Rattle.layout.specs.Runs.{run_passes, test_of}
 use Rattle.layout.specs.Sizes.{data-high, data-low, stored-high, stored_low}

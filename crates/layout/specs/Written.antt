@@ -12,7 +12,7 @@ use Rattle.code.specs.declared.Parameters.{Parameters}
 use Rattle.code.specs.Layout.{page_bytes, words_of}
 use Rattle.code.specs.Lists.{part}
 use Rattle.code.specs.Parameters.{Accepted, sub_word_bytes}
-use Rattle.code.specs.Placement.{word_at}
+use Rattle.code.proofs.Placement.{word_at}
 use Rattle.layout.specs.Parts.{word_room}
 use Rattle.layout.specs.Replaced.{replaced, replaced-after, replaced-before, replaced-length, replaced-part}
 use Rattle.layout.specs.Sizes.{shifted}

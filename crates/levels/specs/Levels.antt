@@ -7,15 +7,15 @@ use Rattle.std.proofs.lemmas.Bool.{lt-leb}
 use Rattle.polynomial.specs.Digits.{length_digits}
 use Rattle.field.specs.Fields.{field_of}
 use Rattle.generator.specs.Generator.{generator}
-use Rattle.code.specs.Answers.{tested_eq}
-use Rattle.code.specs.Buffers.{range-four, rows_eq}
+use Rattle.code.proofs.Answers.{tested_eq}
+use Rattle.code.proofs.Buffers.{range-four, rows_eq}
 use Rattle.code.specs.declared.Parameters.{Parameters}
 use Rattle.code.specs.declared.Tested.{Tested}
-use Rattle.code.specs.Accepted.{accepted}
+use Rattle.code.proofs.Accepted.{accepted}
 use Rattle.code.specs.Calls.{generator_row, generators, rows_by}
 use Rattle.code.specs.Lists.{range}
 use Rattle.code.specs.Parameters.{Accepted, strength, sheet_refusal, tested_of, Tests}
-use Rattle.code.specs.Steps.{gen-eq}
+use Rattle.code.proofs.Steps.{gen-eq}
 use Rattle.element.specs.declared.Field.{Field}
 use Rattle.element.specs.Fields.{field_at}
 use Rattle.generator_rows.specs.Rows.{row, row_zero}

@@ -11,8 +11,9 @@ use Rattle.kernels.specs.Move.{align-deg}
 use Rattle.kernels.specs.Row.{D, D-is}
 use Rattle.reduction.specs.Table.{Table, MovedUp, moved_up, RemainderBy}
 use Rattle.code.specs.declared.Parameters.{Parameters}
-use Rattle.code.specs.Accepted.{Rules, accepted, degree-high, degree-of}
-use Rattle.code.specs.Buffers.{row_back, row-length}
+use Rattle.code.specs.Accepted.{Rules}
+use Rattle.code.proofs.Accepted.{accepted, degree-high, degree-of}
+use Rattle.code.proofs.Buffers.{row_back, row-length}
 use Rattle.code.specs.Calls.{generators}
 use Rattle.code.specs.Code.{gen, degree, remainder}
 use Rattle.code.specs.Parameters.{Accepted}

@@ -12,10 +12,10 @@ use Rattle.field.specs.Fields.{Known}
 use Rattle.field.specs.Flips.{flips}
 use Rattle.field.specs.Odd.{from_odd, from_odd-even, from_odd-odd, word-odd}
 use Rattle.code.specs.Lists.{range}
-use Rattle.code.specs.Pages.{length-range}
-use Rattle.code.specs.Placement.{get_or-map-range}
+use Rattle.code.proofs.Pages.{length-range}
+use Rattle.code.proofs.Placement.{get_or-map-range}
 use Rattle.element.specs.Exponents.{times-lt}
-use Rattle.locator.specs.Found.{is_agree, locate-agree}
+use Rattle.locator.proofs.Found.{is_agree, locate-agree}
 use Rattle.locator.specs.Locate.{agree, agree-suc, agree-zero, locate}
 use Rattle.massey.specs.Entries.{Below}
 

@@ -8,7 +8,7 @@ use Rattle.field.specs.Eval.{total-suc, total-zero}
 use Rattle.field.specs.Field.{pow}
 use Rattle.field.specs.Fields.{Known, field_of}
 use Rattle.field.specs.Roots.{value}
-use Rattle.locator.specs.Follow.{too_many}
+use Rattle.locator.proofs.Follow.{too_many}
 use Rattle.locator.specs.Kept as M
 use Rattle.locator.specs.Locate.{agree, candidate, candidate-eq, is_root, kept, locate, locate-eq, locator_of-eq, root_places-eq}
 use Rattle.locator.specs.Massey.{massey}

@@ -6,5 +6,4 @@ pub mod Locate
 -- The theorems:
 pub mod Kept
 pub mod Moments
-pub mod Found
 pub mod Follow

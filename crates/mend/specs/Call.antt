@@ -12,17 +12,18 @@ use Rattle.field.specs.Flips.{Rising, flips}
 use Rattle.locator.specs.Locate.{kept}
 use Rattle.code.specs.declared.Outcome.{Outcome}
 use Rattle.code.specs.declared.Parameters.{Parameters}
-use Rattle.code.specs.Accepted.{Rules, accepted}
-use Rattle.code.specs.Answers.{made-done, made-refused}
+use Rattle.code.specs.Accepted.{Rules}
+use Rattle.code.proofs.Accepted.{accepted}
+use Rattle.code.proofs.Answers.{made-done, made-refused}
 use Rattle.code.specs.Calls.{Mended, list_of, places_of}
-use Rattle.code.specs.Chains.{or-first}
+use Rattle.code.proofs.Chains.{or-first}
 use Rattle.code.specs.Code.{Flips, nearest}
 use Rattle.code.specs.Layout.{IsPage, flipped, mending, place_list, words_of}
 use Rattle.code.specs.Lists.{◌when◌, part}
-use Rattle.code.specs.Mend.{flipped-else, flipped-here, flipped-page, mend-chain, mend-le, mend-left, mending-eq, nearest-sound}
-use Rattle.code.specs.Pages.{join-words, words-many}
+use Rattle.code.proofs.Mend.{flipped-else, flipped-here, flipped-page, mend-chain, mend-le, mend-left, mending-eq, nearest-sound}
+use Rattle.code.proofs.Pages.{join-words, words-many}
 use Rattle.code.specs.Parameters.{Accepted, stored, strength, sub_word_bytes}
-use Rattle.code.specs.Placement.{word_at}
+use Rattle.code.proofs.Placement.{word_at}
 use Rattle.code.specs.Refusals.{mend_refusal, nowhere, word_refusal}
 use Rattle.layout.specs.Parts.{page-parts, word_room}
 use Rattle.layout.specs.Written.{written, written-here, written-length, written-there}

@@ -10,7 +10,7 @@ use Rattle.polynomial.specs.Digits.{value}
 use Rattle.polynomial.specs.Xor.{xor, xor_assoc, xor_zero_r}
 use Rattle.field.specs.Flips.{flips, flips-nil, flips-take}
 use Rattle.code.specs.Layout.{no_place, place_list}
-use Rattle.code.specs.Mend.{places-front, places-long, places-rest}
+use Rattle.code.proofs.Mend.{places-front, places-long, places-rest}
 
 abbrev pub place_at : List ℕ → ℕ → ℕ → ℕ
 place_at l c j = cond (ltb j c) (get_or l j 0) no_place

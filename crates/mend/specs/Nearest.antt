@@ -12,22 +12,23 @@ use Rattle.field.specs.Elements.{syndrome, syndrome-lt, syndrome-xor}
 use Rattle.field.specs.Fields.{Known}
 use Rattle.field.specs.Flips.{flips}
 use Rattle.field.specs.Odd.{word-odd}
-use Rattle.locator.specs.Found.{complete, locate-agree, sound}
+use Rattle.locator.proofs.Found.{complete, locate-agree, sound}
 use Rattle.locator.specs.Locate.{Located, kept, locate}
 use Rattle.code.specs.declared.Parameters.{Parameters}
-use Rattle.code.specs.Accepted.{Rules, accepted, rising, stored-le}
+use Rattle.code.specs.Accepted.{Rules}
+use Rattle.code.proofs.Accepted.{accepted, rising, stored-le}
 use Rattle.code.specs.Code.{Flips, gen, nearest, remainder}
 use Rattle.code.specs.Demands.{Vanishes}
-use Rattle.code.specs.Judge.{multiple-iff}
-use Rattle.code.specs.Mend.{nearest-clean, nearest-iff, same-option}
+use Rattle.code.proofs.Judge.{multiple-iff}
+use Rattle.code.proofs.Mend.{nearest-clean, nearest-iff, same-option}
 use Rattle.code.specs.Parameters.{Accepted, stored, strength}
 use Rattle.code.specs.Lists.{range}
-use Rattle.code.specs.Theorems.{demand2}
+use Rattle.code.proofs.Theorems.{demand2}
 use Rattle.element.specs.declared.Field.{Field}
 use Rattle.element.specs.Fields.{field_at}
 use Rattle.massey.specs.Entries.{Below}
 use Rattle.locating.specs.Look.{from_list}
-use Rattle.code.specs.Filled.{map_at, map-length}
+use Rattle.code.proofs.Filled.{map_at, map-length}
 use Rattle.word.specs.Level.{level-syndrome}
 
 abbrev pub Knows : Parameters → ℕ → ℕ → (ℕ → ℕ) → Type 0

@@ -14,13 +14,13 @@ use Rattle.polynomial.specs.Xor.{xor}
 use Rattle.field.specs.Flips.{Rising, flips}
 use Rattle.locator.specs.Locate.{kept}
 use Rattle.code.specs.declared.Parameters.{Parameters}
-use Rattle.code.specs.Accepted.{accepted}
+use Rattle.code.proofs.Accepted.{accepted}
 use Rattle.code.specs.Layout.{IsPage, words_of}
-use Rattle.code.specs.Mend.{flipped-page, flipped-words}
+use Rattle.code.proofs.Mend.{flipped-page, flipped-words}
 use Rattle.code.specs.Nest.{Mem, Work, kept_by, mend_all, mend_all-nil, mend_by, unfound, unfound-nil}
 use Rattle.code.specs.Parameters.{Accepted, stored}
 use Rattle.code.specs.Refusals.{nowhere}
-use Rattle.code.specs.Rounds.{mend_all-append, mend_all-else, mend_all-one, unfound-append, unfound-one}
+use Rattle.code.proofs.Rounds.{mend_all-append, mend_all-else, mend_all-one, unfound-append, unfound-one}
 use Rattle.element.specs.declared.Field.{Field}
 use Rattle.element.specs.Fields.{field_at}
 use Rattle.element.specs.Lent.{Tables}

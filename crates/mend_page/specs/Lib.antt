@@ -1,3 +1,2 @@
--- What the code of a page mended through its nested words is proved by.
+-- What is left where the rounds of a page mended through its nested words end.
 pub mod Ends
-pub mod Called

@@ -6,7 +6,7 @@ use Rattle.std.proofs.Math.Nat as Nat
 use Rattle.polynomial.specs.Clmul.{clmul, clmul-zero-r}
 use Rattle.polynomial.specs.Xor.{xor, xors, xor_assoc, xor_zero_r}
 use Rattle.code.specs.Code.{combine}
-use Rattle.code.specs.Steps.{combine-nil, combine-cons}
+use Rattle.code.proofs.Steps.{combine-nil, combine-cons}
 
 -- one word more at the end
 pub combine-snoc : (f : ℕ → ℕ) (i k : ℕ) (cs : List ℕ)

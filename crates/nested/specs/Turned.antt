@@ -11,14 +11,14 @@ use Rattle.polynomial.specs.Digits.{digits, digits_value, value}
 use Rattle.polynomial.specs.Division.{Deg, rem, rem_lt, rem-small, unity-deg, xor_lt}
 use Rattle.polynomial.specs.Xor.{xor, xor_zero_l}
 use Rattle.code.specs.declared.Parameters.{Parameters}
-use Rattle.code.specs.Accepted.{accepted}
-use Rattle.code.specs.Buffers.{nested-lt}
+use Rattle.code.proofs.Accepted.{accepted}
+use Rattle.code.proofs.Buffers.{nested-lt}
 use Rattle.code.specs.Code.{combine, nested, nested_sum, place}
 use Rattle.code.specs.Layout.{page_bytes, words_of}
-use Rattle.code.specs.Pages.{words-many}
+use Rattle.code.proofs.Pages.{words-many}
 use Rattle.code.specs.Parameters.{Accepted, len, nested_bytes, sub_word_bytes}
-use Rattle.code.specs.Steps.{nested-eq}
-use Rattle.code.specs.Placement.{word_at}
+use Rattle.code.proofs.Steps.{nested-eq}
+use Rattle.code.proofs.Placement.{word_at}
 use Rattle.layout.specs.Sizes.{bits-all, length_high, length-low, nested_places, word-nested}
 use Rattle.layout.specs.SubWords.{word_lt}
 use Rattle.kernels.specs.Value.{Bounded, bounded-all, bounded-take, take-mod}

@@ -6,14 +6,15 @@ use Rattle.std.proofs.Common.{sym, ap, ◌∙◌}
 use Rattle.std.proofs.Math.Nat as Nat
 use Rattle.code.specs.declared.Parameters.{Parameters}
 use Rattle.code.specs.declared.Verdict.{Verdict}
-use Rattle.code.specs.Answers.{judged-done, judged-refused, read_done, read-refused}
+use Rattle.code.proofs.Answers.{judged-done, judged-refused, read_done, read-refused}
 use Rattle.code.specs.Calls.{Judged, ReadOut, judge_answer, page_verdict, unless_refused}
-use Rattle.code.specs.Chains.{left, true-false}
+use Rattle.code.proofs.Chains.{left, true-false}
 use Rattle.code.specs.Code.{failing, failing_nested, verdict}
 use Rattle.code.specs.Layout.{blank, data_of, page_bytes, page_clear, words_of}
 use Rattle.code.specs.Parameters.{Accepted}
 use Rattle.code.specs.Refusals.{judge_refusal}
-use Rattle.code.specs.Refused.{BlocksBuffer, blank-judgeable, judge-none, read-judge, verdict-blank, verdict-else}
+use Rattle.code.specs.Refused.{BlocksBuffer}
+use Rattle.code.proofs.Refused.{blank-judgeable, judge-none, read-judge, verdict-blank, verdict-else}
 use Rattle.refusal.specs.Judging.{judge-stray}
 
 abbrev pub is_refused : Verdict → Bool

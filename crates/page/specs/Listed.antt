@@ -5,13 +5,13 @@ use Rattle.std.proofs.Common.{sym, ap, ◌∙◌, length-set, ext_get_or}
 use Rattle.std.proofs.Math.Nat as Nat
 use Rattle.code.specs.declared.Outcome.{Outcome}
 use Rattle.code.specs.declared.Parameters.{Parameters}
-use Rattle.code.specs.Answers.{made-done, made-refused}
+use Rattle.code.proofs.Answers.{made-done, made-refused}
 use Rattle.code.specs.Calls.{WrittenMany, pages_by, status_of, statuses}
 use Rattle.code.specs.Layout.{data_bytes, page_bytes}
 use Rattle.code.specs.Lists.{part}
-use Rattle.code.specs.Many.{length-statuses, many-le, many-lent, status-at}
+use Rattle.code.proofs.Many.{length-statuses, many-le, many-lent, status-at}
 use Rattle.code.specs.Parameters.{Accepted}
-use Rattle.code.specs.Placement.{first_more}
+use Rattle.code.proofs.Placement.{first_more}
 use Rattle.code.specs.Refusals.{many_refusal}
 use Rattle.layout.specs.Sizes.{Degrees}
 use Rattle.refusal.specs.Writing.{write-zero}

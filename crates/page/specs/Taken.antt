@@ -12,9 +12,9 @@ use Rattle.polynomial.specs.Sums.{at_all}
 use Rattle.code.specs.declared.Parameters.{Parameters}
 use Rattle.code.specs.Code.{check_bits, data_words}
 use Rattle.code.specs.Layout.{data_bits, data_bytes, data_of, block_offset, page_bytes, stored_of, words_of}
-use Rattle.code.specs.Pages.{data_of-eq, length-data, stored-words}
+use Rattle.code.proofs.Pages.{data_of-eq, length-data, stored-words}
 use Rattle.code.specs.Parameters.{Accepted, stored}
-use Rattle.code.specs.Placement.{data-at, stored_at}
+use Rattle.code.proofs.Placement.{data-at, stored_at}
 use Rattle.layout.specs.Parts.{offset-next, block_room, blocks-parts}
 use Rattle.layout.specs.Sizes.{Degrees, check-below}
 use Rattle.layout.specs.Replaced.{replaced, replaced-length, replaced-part, replaced-before}

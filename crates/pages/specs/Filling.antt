@@ -15,13 +15,13 @@ use Rattle.std.proofs.Math.Nat as Nat
 use Rattle.std.proofs.Math.Decide.{dec_lt, ℕ_discrete}
 use Rattle.polynomial.specs.Sums.{all_drop, all_take, at_all}
 use Rattle.code.specs.declared.Parameters.{Parameters}
-use Rattle.code.specs.Accepted.{accepted}
-use Rattle.code.specs.Answers.{leaves-refused}
+use Rattle.code.proofs.Accepted.{accepted}
+use Rattle.code.proofs.Answers.{leaves-refused}
 use Rattle.code.specs.Calls.{generators, leaves, page_by, pages_by}
 use Rattle.code.specs.Code.{level}
 use Rattle.code.specs.Layout.{Fits, blocks_clear, data_bytes, page_bytes, page_of}
 use Rattle.code.specs.Lists.{part}
-use Rattle.code.specs.Many.{pages-are, part_length, part_room}
+use Rattle.code.proofs.Many.{pages-are, part_length, part_room}
 use Rattle.code.specs.Parameters.{Accepted}
 use Rattle.layout.specs.Replaced.{replaced, replaced-after, replaced-before, replaced-length, replaced-part}
 use Rattle.layout.specs.Sizes.{Degrees}

@@ -6,15 +6,16 @@ use Rattle.std.proofs.Math.Nat as Nat
 use Rattle.std.proofs.lemmas.Bool.{lt-leb, not-true, not-false}
 use Rattle.code.specs.declared.Outcome.{Outcome}
 use Rattle.code.specs.declared.Parameters.{Parameters}
-use Rattle.code.specs.Alter.{Alterable, alter-le, alter-left, alter-links, bit_is}
-use Rattle.code.specs.Answers.{made-done, made-refused}
+use Rattle.code.specs.Alter.{Alterable}
+use Rattle.code.proofs.Alter.{alter-le, alter-left, alter-links, bit_is}
+use Rattle.code.proofs.Answers.{made-done, made-refused}
 use Rattle.code.specs.Calls.{Altered}
-use Rattle.code.specs.Chains.{first_of, last, off', on, or_assoc, or-none, or-second}
+use Rattle.code.proofs.Chains.{first_of, last, off', on, or_assoc, or-none, or-second}
 use Rattle.code.specs.Layout.{altered, blank, data_bits, page_bytes, page_clear}
 use Rattle.code.specs.Lists.{◌or_else◌, ◌when◌}
 use Rattle.code.specs.Parameters.{Accepted, sheet_refusal}
 use Rattle.code.specs.Refusals.{alter_refusal, no_bit, not_exact, page_refusal}
-use Rattle.code.specs.Refused.{page-links}
+use Rattle.code.proofs.Refused.{page-links}
 use Rattle.refusal.specs.Judging.{page-sheet, page-zero}
 use Rattle.refusal.specs.Tests.{same}
 

@@ -10,12 +10,13 @@ use Rattle.std.proofs.Math.Dec.{leb, ltb, nltb→le}
 use borrow.Author.Tests.{lt-ltb, le-ltb, le-leb, lt-leb, ltb-true, ltb-false, leb-true, leb-false, not-true, not-false}
 use Rattle.polynomial.specs.Digits.{value}
 use Rattle.code.specs.declared.Parameters.{Parameters}
-use Rattle.code.specs.Chains.{first_of, last, or_assoc, or-first, or-le, or-none, or-second, when-le, when-none, when-or}
+use Rattle.code.proofs.Chains.{first_of, last, or_assoc, or-first, or-le, or-none, or-second, when-le, when-none, when-or}
 use Rattle.code.specs.Code.{degree}
 use Rattle.code.specs.Lists.{◌when◌, ◌or_else◌, last_refusal}
 use Rattle.code.specs.Parameters.{Accepted, full, sheet_refusal}
 use Rattle.code.specs.Refusals.{bad_width, feed_refusal}
-use Rattle.code.specs.Refused.{Width, sheet-le, width_of}
+use Rattle.code.specs.Refused.{Width}
+use Rattle.code.proofs.Refused.{sheet-le, width_of}
 use Rattle.code.specs.Register.{Register}
 
 unfoldable pub numbers_refusal : Parameters → ℕ → ℕ → ℕ → ℕ → ℕ

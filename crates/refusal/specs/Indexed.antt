@@ -8,14 +8,14 @@ use Rattle.std.proofs.lemmas.Bool.{lt-leb}
 use Rattle.polynomial.specs.Sums.{at_all}
 use Rattle.code.specs.declared.Outcome.{Outcome}
 use Rattle.code.specs.declared.Parameters.{Parameters}
-use Rattle.code.specs.Answers.{made-done, made-refused}
+use Rattle.code.proofs.Answers.{made-done, made-refused}
 use Rattle.code.specs.Calls.{Made}
-use Rattle.code.specs.Chains.{exact-of, or-first, or-none, or-second, when-none}
+use Rattle.code.proofs.Chains.{exact-of, or-first, or-none, or-second, when-none}
 use Rattle.code.specs.Layout.{IsPage}
 use Rattle.code.specs.Lists.{◌when◌, ◌or_else◌}
 use Rattle.code.specs.Parameters.{Accepted, sheet_refusal}
 use Rattle.code.specs.Refusals.{not_exact, page_refusal, word_refusal}
-use Rattle.code.specs.Refused.{word-le}
+use Rattle.code.proofs.Refused.{word-le}
 use Rattle.refusal.specs.Judging.{page-sheet, page-zero}
 
 pub record Unrefused (p : Parameters) (x : List ℕ) (i many out exact : ℕ) : Type 0 where

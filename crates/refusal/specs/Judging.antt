@@ -6,13 +6,13 @@ use Rattle.std.proofs.Common.{sym, ap, ap₂, ◌∙◌, eq-eqb, ne_eqb}
 use Rattle.std.proofs.Math.Nat as Nat
 use Rattle.code.specs.declared.Parameters.{Parameters}
 use Rattle.code.specs.declared.Tested.{Tested}
-use Rattle.code.specs.Answers.{sheet-pos}
-use Rattle.code.specs.Chains.{exact_none, exact-of, first_of, none, or-none, or-second, or-zero}
+use Rattle.code.proofs.Answers.{sheet-pos}
+use Rattle.code.proofs.Chains.{exact_none, exact-of, first_of, none, or-none, or-second, or-zero}
 use Rattle.code.specs.Layout.{blank, page_bytes, page_clear}
 use Rattle.code.specs.Lists.{◌when◌, ◌or_else◌}
 use Rattle.code.specs.Parameters.{Accepted, Tests, sheet_refusal}
 use Rattle.code.specs.Refusals.{judge_lengths, judge_refusal, not_exact, page_refusal, stray}
-use Rattle.code.specs.Refused.{page-links}
+use Rattle.code.proofs.Refused.{page-links}
 
 pub record Clear (p : Parameters) (x : List ℕ) : Type 0 where
   pub accepted : Accepted p

@@ -5,13 +5,13 @@ use Rattle.std.proofs.Common.{sym, ◌∙◌, lit≤, eq-eqb, ne_eqb}
 use Rattle.std.proofs.Math.Nat as Nat
 use Rattle.std.proofs.lemmas.Bool.{not-true, not-false}
 use Rattle.code.specs.declared.Parameters.{Parameters}
-use Rattle.code.specs.Chains.{first_of, or-second}
+use Rattle.code.proofs.Chains.{first_of, or-second}
 use Rattle.code.specs.Layout.{data_bytes, page_bytes}
 use Rattle.code.specs.Lists.{◌when◌, ◌or_else◌}
-use Rattle.code.specs.Many.{many-links}
+use Rattle.code.proofs.Many.{many-links}
 use Rattle.code.specs.Parameters.{Accepted, sheet_refusal}
 use Rattle.code.specs.Refusals.{bad_count, bad_width, many_refusal, not_exact}
-use Rattle.code.specs.Refused.{between_is}
+use Rattle.code.proofs.Refused.{between_is}
 
 -- a count that is not refused
 pub count-high : (c : ℕ) → true ≡ not (bad_count c) → c ≤ 16

@@ -3,7 +3,7 @@ use Rattle.std.specs.Prelude.{◌≡◌, List, ℕ, length}
 use Rattle.std.proofs.Math.Path.{refl}
 use Rattle.std.proofs.Common.{sym, ◌∙◌, ne_eqb, eq-eqb}
 use Rattle.code.specs.declared.Parameters.{Parameters}
-use Rattle.code.specs.Chains.{exact-of, first_of, or-none, or-second}
+use Rattle.code.proofs.Chains.{exact-of, first_of, or-none, or-second}
 use Rattle.code.specs.Layout.{data_bytes, page_bytes}
 use Rattle.code.specs.Lists.{◌when◌, ◌or_else◌}
 use Rattle.code.specs.Parameters.{Accepted, sheet_refusal}

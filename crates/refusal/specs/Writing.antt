@@ -6,14 +6,15 @@ use Rattle.std.proofs.Math.Nat as Nat
 use Rattle.std.proofs.lemmas.Bool.{not-true, not-false}
 use Rattle.polynomial.specs.Sums.{at_all}
 use Rattle.code.specs.declared.Parameters.{Parameters}
-use Rattle.code.specs.Accepted as Rules
-use Rattle.code.specs.Blank.{page-full}
-use Rattle.code.specs.Chains.{exact-of, first_of, or-none, or-second, unless, when-none}
+use Rattle.code.proofs.Accepted as Rules
+use Rattle.code.proofs.Blank.{page-full}
+use Rattle.code.proofs.Chains.{exact-of, first_of, or-none, or-second, unless, when-none}
 use Rattle.code.specs.Layout.{Fits, blank, blocks_clear, blocks_full, data_bytes, page_bytes, page_of}
 use Rattle.code.specs.Lists.{◌when◌, ◌or_else◌}
 use Rattle.code.specs.Parameters.{Accepted, sheet_refusal}
 use Rattle.code.specs.Refusals.{bad_width, not_exact, write_refusal}
-use Rattle.code.specs.Refused.{Width, width_of, write-links}
+use Rattle.code.specs.Refused.{Width}
+use Rattle.code.proofs.Refused.{width_of, write-links}
 
 -- ---- a blank page is made at s = 0 only
 pub ones-short : (s : ℕ) (b : Bool) → 0 < s → false ≡ (eqb s 0 && b)

@@ -9,7 +9,7 @@ use Rattle.kernels.specs.Shift.{xor-shl}
 use Rattle.kernels.specs.Value.{Bounded, bounded-all}
 use Rattle.reduction.specs.Sum.{Copied}
 use Rattle.reduction.specs.Table.{Reduced, lowered}
-use Rattle.code.specs.Accepted.{accepted, degree-high}
+use Rattle.code.proofs.Accepted.{accepted, degree-high}
 use Rattle.code.specs.declared.Parameters.{Parameters}
 use Rattle.code.specs.Code.{degree, remainder}
 use Rattle.code.specs.Parameters.{Accepted}

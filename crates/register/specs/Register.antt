@@ -10,7 +10,7 @@ use Rattle.polynomial.specs.Digits.{digits, value}
 use Rattle.polynomial.specs.Xor.{xor}
 use Rattle.code.specs.declared.Outcome.{Outcome}
 use Rattle.code.specs.declared.Parameters.{Parameters}
-use Rattle.code.specs.Answers.{fed-refused}
+use Rattle.code.proofs.Answers.{fed-refused}
 use Rattle.code.specs.Calls.{advanced, empty, fed, fed_by, opened, outcome_number, outcome_values}
 use Rattle.code.specs.Code.{remainder}
 use Rattle.code.specs.Lists.{last_refusal}
@@ -19,7 +19,7 @@ use Rattle.code.specs.Register as Value
 use Rattle.refusal.specs.Feeding.{feed-le}
 use Rattle.register.specs.declared.Fed.{Fed}
 use Rattle.register.specs.declared.Register.{Register}
-use Rattle.code.specs.Refused.{open-le}
+use Rattle.code.proofs.Refused.{open-le}
 
 abbrev pub value_of : Register → Value.Register
 value_of r = record { level = r.level; count = r.count; remainder = r.remainder }

@@ -6,15 +6,15 @@ use Rattle.std.specs.Prelude.{◌≡◌, refl, ◌⊎◌, not, List, [], ◌∷�
 use Rattle.std.proofs.Common.{sym, ap, ◌∙◌, inl, inr, arith, lit<, ne_eqb}
 use Rattle.std.proofs.Math.Nat as Nat
 use Rattle.code.specs.declared.Parameters.{Parameters}
-use Rattle.code.specs.Accepted.{accepted}
+use Rattle.code.proofs.Accepted.{accepted}
 use Rattle.code.specs.Calls.{list_of}
-use Rattle.code.specs.Chains.{or-first}
+use Rattle.code.proofs.Chains.{or-first}
 use Rattle.code.specs.Layout.{mended_page, page_bytes, page_clear}
 use Rattle.code.specs.Lists.{◌or_else◌, ◌when◌}
-use Rattle.code.specs.Mending.{mend-page-first}
+use Rattle.code.proofs.Mending.{mend-page-first}
 use Rattle.code.specs.Parameters.{Accepted, sheet_refusal}
 use Rattle.code.specs.Refusals.{mend_page_refusal, not_exact}
-use Rattle.code.specs.Refused.{page-links}
+use Rattle.code.proofs.Refused.{page-links}
 use Rattle.code.specs.Writer.{Returned, mender, rest_given, sheet_given}
 use Rattle.given.specs.Input.{many-most, rest-length, sheet-taken}
 use Rattle.given.specs.Output.{Answered, answered, beyond-by, output-refused}

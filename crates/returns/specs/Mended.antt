@@ -6,12 +6,12 @@ use Rattle.std.proofs.Math.Nat as Nat
 use Rattle.code.specs.declared.Outcome.{Outcome}
 use Rattle.code.specs.declared.Parameters.{Parameters}
 use Rattle.code.specs.Calls.{PageMended, leaves, list_of, outcome_number}
-use Rattle.code.specs.Chains.{exact-of, or-none}
+use Rattle.code.proofs.Chains.{exact-of, or-none}
 use Rattle.code.specs.Layout.{mended_page, page_bytes}
-use Rattle.code.specs.Mending.{mend-page-first}
+use Rattle.code.proofs.Mending.{mend-page-first}
 use Rattle.code.specs.Parameters.{Accepted, sheet_refusal}
 use Rattle.code.specs.Refusals.{mend_page_refusal, page_refusal}
-use Rattle.code.specs.Refused.{page-links}
+use Rattle.code.proofs.Refused.{page-links}
 use Rattle.code.specs.Writer.{Puts, Returned, mender, output_of, rest_given, sheet_given}
 use Rattle.given.specs.Output.{outcome-pos, output-done, puts-refused, room-filled}
 use Rattle.layout.specs.Sizes.{page-high}

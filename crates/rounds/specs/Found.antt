@@ -12,17 +12,18 @@ use Rattle.field.specs.Fields.{Known, field_of, field_of-exponent}
 use Rattle.field.specs.Flips.{Rising}
 use Rattle.field.specs.Odd.{from_odd, from_odd-even, from_odd-is, from_odd-odd}
 use Rattle.field.specs.Unmix.{unmix}
-use Rattle.locator.specs.Found.{complete, locate-agree, sound}
+use Rattle.locator.proofs.Found.{complete, locate-agree, sound}
 use Rattle.locator.specs.Locate.{kept, locate}
 use Rattle.code.specs.declared.Parameters.{Parameters}
-use Rattle.code.specs.Accepted.{Rules, accepted, rising, stored-le, strength-high}
-use Rattle.code.specs.Filled.{map_at, map-length}
+use Rattle.code.specs.Accepted.{Rules}
+use Rattle.code.proofs.Accepted.{accepted, rising, stored-le, strength-high}
+use Rattle.code.proofs.Filled.{map_at, map-length}
 use Rattle.code.specs.Lists.{range}
-use Rattle.code.specs.Mend.{same-option}
+use Rattle.code.proofs.Mend.{same-option}
 use Rattle.code.specs.Nest.{Mem, error_of, node, others}
 use Rattle.code.specs.Parameters.{Accepted, stored, strength}
 use Rattle.code.specs.Refusals.{nowhere}
-use Rattle.code.specs.Rounds.{error-iff, error-sound, mem-from, node-apart, others_apart, others-fewer}
+use Rattle.code.proofs.Rounds.{error-iff, error-sound, mem-from, node-apart, others_apart, others-fewer}
 use Rattle.element.specs.declared.Field.{Field}
 use Rattle.locating.specs.Look.{from_list}
 use Rattle.massey.specs.Entries.{Below, el}

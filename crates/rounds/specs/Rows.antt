@@ -8,9 +8,9 @@ use Rattle.std.proofs.Math.Nat as Nat
 use Rattle.std.proofs.Math.Decide.{dec_le}
 use Rattle.field.specs.Elements.{syndrome, syndrome-lt}
 use Rattle.code.specs.declared.Parameters.{Parameters}
-use Rattle.code.specs.Accepted.{accepted, strength-high}
+use Rattle.code.proofs.Accepted.{accepted, strength-high}
 use Rattle.code.specs.Code.{nested, odd_syndromes}
-use Rattle.code.specs.Odd.{length-odd, odd-at}
+use Rattle.code.proofs.Odd.{length-odd, odd-at}
 use Rattle.code.specs.Parameters.{Accepted, strength}
 use Rattle.massey.specs.Entries.{Below}
 

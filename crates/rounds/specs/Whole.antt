@@ -6,12 +6,13 @@ use Rattle.field.specs.Elements.{syndrome}
 use Rattle.field.specs.Flips.{Rising}
 use Rattle.field.specs.Odd.{from_odd}
 use Rattle.code.specs.declared.Parameters.{Parameters}
-use Rattle.code.specs.Accepted.{Rules, accepted, rising}
+use Rattle.code.specs.Accepted.{Rules}
+use Rattle.code.proofs.Accepted.{accepted, rising}
 use Rattle.code.specs.Code.{nested}
 use Rattle.code.specs.Nest.{Mem, Work, error_of, error_syndrome, error_syndrome-eq, found, found-eq, others, round, round-broken, round-words, round_level}
-use Rattle.code.specs.Pages.{zeros-at}
+use Rattle.code.proofs.Pages.{zeros-at}
 use Rattle.code.specs.Parameters.{Accepted, strength}
-use Rattle.code.specs.Rounds.{error-agree, error-odd, mem-from, mend_all-agree, others_apart, others-fewer, round-level, unfound-agree}
+use Rattle.code.proofs.Rounds.{error-agree, error-odd, mem-from, mend_all-agree, others_apart, others-fewer, round-level, unfound-agree}
 use Rattle.massey.specs.Entries.{Below}
 use Rattle.mend.specs.Settled.{Held, Passed, pass-last}
 use Rattle.unmix.specs.Nodes.{unmixed_at, weight_at-eq}

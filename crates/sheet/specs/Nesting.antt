@@ -6,11 +6,11 @@ use Rattle.std.specs.Int.Bits.{bit_xor}
 use Rattle.polynomial.specs.Division.{xor_lt}
 use Rattle.polynomial.specs.Xor.{xor_is}
 use Rattle.code.specs.declared.Nesting.{Nesting}
-use Rattle.code.specs.Answers.{nesting-eq, nesting-made}
+use Rattle.code.proofs.Answers.{nesting-eq, nesting-made}
 use Rattle.code.specs.Calls.{NestingMade}
 use Rattle.code.specs.Code.{N}
-use Rattle.code.specs.Encode.{N-above}
-use Rattle.code.specs.Steps.{N-first, N-start, N-step}
+use Rattle.code.proofs.Encode.{N-above}
+use Rattle.code.proofs.Steps.{N-first, N-start, N-step}
 
 pub at_zero : (i l : ℕ) → l ≡ 0 → 1 ≡ N i l
 at_zero i l e = rw e (sym (N-first i))

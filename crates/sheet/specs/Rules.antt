@@ -11,12 +11,12 @@ use Rattle.generator.specs.Generator.{width}
 use Rattle.code.specs.declared.Parameters.{Parameters}
 use Rattle.code.specs.declared.Tested.{Tested}
 use Rattle.code.specs.Lists.{◌when◌, ◌or_else◌}
-use Rattle.code.specs.Accepted.{accepted, width-below}
-use Rattle.code.specs.Answers.{tests}
+use Rattle.code.proofs.Accepted.{accepted, width-below}
+use Rattle.code.proofs.Answers.{tests}
 use Rattle.code.specs.Code.{degree}
 use Rattle.code.specs.Parameters.{Accepted, len, strength, field_known, shape_fits, place_fits}
 use Rattle.code.specs.Parameters.{strengths_fit, clashes, short_fits, sheet_refusal, tested, tested_of, unshortened, Tests}
-use Rattle.code.specs.Shortened.{same-degree, unshortened-refusal}
+use Rattle.code.proofs.Shortened.{same-degree, unshortened-refusal}
 use Rattle.element.specs.declared.Field.{Field}
 use Rattle.element.specs.declared.Made.{Made}
 use Rattle.element.specs.Fields.{field_at, known, MadeOf, made-known, made-field, known_is, size-least, size-most}

@@ -5,13 +5,13 @@ use Rattle.std.proofs.Common.{sym, ap, ◌∙◌, arith, length-set, ext_get_or,
 use Rattle.std.proofs.Math.Nat as Nat
 use Rattle.code.specs.declared.Outcome.{Outcome}
 use Rattle.code.specs.declared.Parameters.{Parameters}
-use Rattle.code.specs.Accepted.{accepted}
-use Rattle.code.specs.Answers.{made-done, made-refused}
+use Rattle.code.proofs.Accepted.{accepted}
+use Rattle.code.proofs.Answers.{made-done, made-refused}
 use Rattle.code.specs.Calls.{QuoteMade, quote}
 use Rattle.code.specs.Layout.{data_bits}
 use Rattle.code.specs.Parameters.{Accepted}
-use Rattle.code.specs.Placement.{first_more}
-use Rattle.code.specs.Quote.{quote-bits, quote-degree, quote-le, quote-length, quote-lt, quote-past-m, quote-past-v, quote-zero}
+use Rattle.code.proofs.Placement.{first_more}
+use Rattle.code.proofs.Quote.{quote-bits, quote-degree, quote-le, quote-length, quote-lt, quote-past-m, quote-past-v, quote-zero}
 use Rattle.code.specs.Refusals.{quote_refusal}
 use Rattle.layout.specs.Sizes.{Degrees}
 

@@ -7,7 +7,7 @@ use Rattle.std.proofs.Common.{sym, ◌∙◌, zero-le}
 use Rattle.code.specs.declared.Parameters.{Parameters}
 use Rattle.code.specs.Lists.{last_refusal, values_by}
 use Rattle.code.specs.Parameters.{Accepted, sheet_refusal}
-use Rattle.code.specs.Refused.{sheet-le}
+use Rattle.code.proofs.Refused.{sheet-le}
 use Rattle.sizes.specs.declared.Size.{Size}
 
 abbrev pub size_number : Size → ℕ

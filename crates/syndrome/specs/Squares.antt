@@ -10,8 +10,8 @@ use Rattle.field.specs.Elements.{times, times-eq}
 use Rattle.field.specs.Fields.{Known, field_polynomial, polynomial-degree}
 use Rattle.field.specs.Odd.{from_odd, from_odd-even, from_odd-odd}
 use Rattle.code.specs.Lists.{range}
-use Rattle.code.specs.Pages.{length-range}
-use Rattle.code.specs.Placement.{get_or-map-range}
+use Rattle.code.proofs.Pages.{length-range}
+use Rattle.code.proofs.Placement.{get_or-map-range}
 use Rattle.code.specs.Filled.{Filled}
 
 -- ---- a number modulo the field polynomial

@@ -13,7 +13,7 @@ use Rattle.field.specs.Field.{pow, pow-mul}
 use Rattle.field.specs.Fields.{Known, field_of}
 use Rattle.field.specs.Flips.{flips, flips-nil, flips-take}
 use Rattle.code.specs.Lists.{range}
-use Rattle.code.specs.Filled.{map_at, map-length}
+use Rattle.code.proofs.Filled.{map_at, map-length}
 use Rattle.tables.specs.Tables.{Powers}
 use Rattle.element.specs.declared.Field.{Field}
 use Rattle.element.specs.Exponents.{power-mod}

@@ -26,10 +26,11 @@ use Rattle.field.specs.Elements.{power, power_zero, evaluate, syndrome-eq}
 use Rattle.field.specs.Fields.{Known, field_of, field_of-length}
 use Rattle.field.specs.Irreducible.{both}
 use Rattle.generator.specs.Exponents.{coset}
-use Rattle.generator.specs.Factors.{factor-is, IsFactor, generator-factor}
+use Rattle.generator.specs.Factors.{IsFactor}
+use Rattle.generator.proofs.Factors.{factor-is, generator-factor}
 use Rattle.generator.specs.Generator.{generator}
 use Rattle.generator.specs.Leaders.{leader}
-use Rattle.generator.specs.Next.{generator-zero}
+use Rattle.generator.proofs.Next.{generator-zero}
 use Rattle.tables.specs.Generators.{strengths, Generators}
 use Rattle.tables.specs.Powers.{double}
 use Rattle.tables.proofs.Computed.{next}

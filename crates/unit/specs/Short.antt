@@ -17,19 +17,19 @@ use Rattle.polynomial.specs.Sums.{add, add_at, length-add}
 use Rattle.polynomial.specs.Xor.{xor, xor-cancel, xor_comm, xor_self}
 use Rattle.field.specs.Fields.{field_of}
 use Rattle.code.specs.declared.Parameters.{Parameters}
-use Rattle.code.specs.Accepted.{accepted, degree-high, degree-of, lawful, width-below}
+use Rattle.code.proofs.Accepted.{accepted, degree-high, degree-of, lawful, width-below}
 use Rattle.code.specs.Alter.{alone, units}
-use Rattle.code.specs.Bursts.{single-passing}
+use Rattle.code.proofs.Bursts.{single-passing}
 use Rattle.code.specs.Calls.{generator_row, generators, rows_by}
 use Rattle.code.specs.Code.{check_bits, data_from, data_words, degree, encode, gen, level, remainder}
-use Rattle.code.specs.Encode.{encode-add, encode-length, member-encode, unshortened-words}
-use Rattle.code.specs.Judge.{multiple-iff}
+use Rattle.code.proofs.Encode.{encode-add, encode-length, member-encode, unshortened-words}
+use Rattle.code.proofs.Judge.{multiple-iff}
 use Rattle.code.specs.Layout.{data_bits, page_bytes, single}
 use Rattle.code.specs.Lists.{range}
-use Rattle.code.specs.Pages.{length-data}
+use Rattle.code.proofs.Pages.{length-data}
 use Rattle.code.specs.Parameters.{Accepted, len, sheet, stored}
-use Rattle.code.specs.Placement.{data-at, single-at, single-else, single-long}
-use Rattle.code.specs.Shortened.{short-accepted, unshortened-accepted, unshortened-refusal}
+use Rattle.code.proofs.Placement.{data-at, single-at, single-else, single-long}
+use Rattle.code.proofs.Shortened.{short-accepted, unshortened-accepted, unshortened-refusal}
 use Rattle.code.specs.Steps.{Divides}
 use Rattle.layout.specs.Sizes.{Degrees}
 

@@ -8,13 +8,14 @@ use Rattle.std.proofs.Math.Decide.{dec_le, ℕ_discrete}
 use Rattle.std.proofs.lemmas.List.{length-replicate}
 use Rattle.polynomial.specs.Digits.{digits, length_digits, value}
 use Rattle.code.specs.declared.Parameters.{Parameters}
-use Rattle.code.specs.Accepted.{accepted}
-use Rattle.code.specs.Alter.{alone, alone-own, alone-zero, block-fits, block-has}
+use Rattle.code.proofs.Accepted.{accepted}
+use Rattle.code.specs.Alter.{alone}
+use Rattle.code.proofs.Alter.{alone-own, alone-zero, block-fits, block-has}
 use Rattle.code.specs.Calls.{generators}
 use Rattle.code.specs.Code.{encode}
 use Rattle.code.specs.Layout.{blocks_of, data_bits, one_block, page_bytes, page_of}
 use Rattle.code.specs.Parameters.{Accepted, sub_word_bytes}
-use Rattle.code.specs.Placement.{single-else}
+use Rattle.code.proofs.Placement.{single-else}
 use Rattle.layout.specs.Parts.{word_room}
 use Rattle.layout.specs.Replaced.{replaced, replaced-after, replaced-before, replaced-length, replaced-part}
 use Rattle.layout.specs.Sizes.{Degrees, word-high}

@@ -4,7 +4,7 @@ use Rattle.std.specs.Prelude.{◌≡◌, refl, Bool, true, false, cond, ◌≢�
 use Rattle.std.proofs.Common.{sym, ap, ap₂, ◌∙◌, append-nil, zero-le, add-one, arith, length-set, get_or-set_same, take_all, take-suc}
 use Rattle.std.proofs.Math.Nat as Nat
 use Rattle.std.proofs.lemmas.List.{take-set-le}
-use Rattle.code.specs.Alter.{by_eqb, by-neqb}
+use Rattle.code.proofs.Alter.{by_eqb, by-neqb}
 use Rattle.code.specs.Nest.{others, others-cons, others-nil}
 
 -- ---- the others of lists one behind another

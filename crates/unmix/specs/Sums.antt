@@ -10,7 +10,7 @@ use Rattle.polynomial.specs.Division.{xor_lt}
 use Rattle.polynomial.specs.Xor.{xor, xor_is}
 use Rattle.field.specs.Elements.{times}
 use Rattle.field.specs.Fields.{Known, field_of}
-use Rattle.code.specs.Filled.{map_at, map-length}
+use Rattle.code.proofs.Filled.{map_at, map-length}
 use Rattle.code.specs.Lists.{range}
 use Rattle.element.specs.Exponents.{times-lt}
 use Rattle.massey.specs.Entries.{Below, Product, below_set, el-times, number}

@@ -13,7 +13,7 @@ use Rattle.field.specs.Inverse.{recip, recip-eq, recip-is, recip-unique}
 use Rattle.field.specs.Powers.{α≢0}
 use Rattle.field.specs.Unmix.{unmix, unmix-agree, unmix-cons, unmix-nil}
 use Rattle.tables.specs.Powers.{power-lt}
-use Rattle.code.specs.Filled.{map_at}
+use Rattle.code.proofs.Filled.{map_at}
 use Rattle.code.specs.Lists.{range}
 use Rattle.code.specs.Nest.{node}
 use Rattle.element.specs.declared.Field.{Field}

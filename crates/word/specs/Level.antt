@@ -8,19 +8,20 @@ use Rattle.field.specs.Elements.{syndrome, syndrome-num}
 use Rattle.field.specs.Eval.{eval, eval-rem}
 use Rattle.field.specs.Field.{pow}
 use Rattle.field.specs.Fields.{field_of}
-use Rattle.generator.specs.Generator.{generator-roots}
+use Rattle.generator.proofs.Generator.{generator-roots}
 use Rattle.kernels.specs.Row.{D}
 use Rattle.code.specs.declared.Parameters.{Parameters}
-use Rattle.code.specs.Accepted.{Rules, accepted, degree-of, degree-high, width-below}
+use Rattle.code.specs.Accepted.{Rules}
+use Rattle.code.proofs.Accepted.{accepted, degree-of, degree-high, width-below}
 use Rattle.code.specs.Code.{gen, degree, remainder, odd_syndromes, all_syndromes}
 use Rattle.code.specs.Lists.{range}
 use Rattle.code.specs.Parameters.{Accepted, strength, len}
-use Rattle.code.specs.Steps.{gen-eq}
+use Rattle.code.proofs.Steps.{gen-eq}
 use Rattle.element.specs.declared.Field.{Field}
 use Rattle.element.specs.Fields.{field_at}
 use Rattle.levels.specs.Ready.{RowOf}
 use Rattle.word.specs.Row.{remainder-room}
-use Rattle.code.specs.Odd.{length-odd, odd-at}
+use Rattle.code.proofs.Odd.{length-odd, odd-at}
 use Rattle.field.specs.Odd.{from_odd}
 
 module _ (p : Parameters) (A : Accepted p) (a : ℕ) (h : a ≤ p.v) where

@@ -8,8 +8,9 @@ use Rattle.polynomial.specs.Division.{Deg, deg, quot, rem}
 use Rattle.polynomial.specs.Multiple.{multiple-deg}
 use Rattle.kernels.specs.Row.{D}
 use Rattle.code.specs.declared.Parameters.{Parameters}
-use Rattle.code.specs.Accepted.{Rules, accepted, degree-of, degree-high}
-use Rattle.code.specs.Buffers.{divides-up, divisor-deg, divisor-degree}
+use Rattle.code.specs.Accepted.{Rules}
+use Rattle.code.proofs.Accepted.{accepted, degree-of, degree-high}
+use Rattle.code.proofs.Buffers.{divides-up, divisor-deg, divisor-degree}
 use Rattle.code.specs.Code.{gen, degree, divisor}
 use Rattle.code.specs.Parameters.{Accepted}
 use Rattle.levels.specs.Ready.{RowOf}

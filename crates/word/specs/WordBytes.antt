@@ -10,14 +10,14 @@ use Rattle.polynomial.specs.Division.{deg, rem}
 use Rattle.polynomial.specs.Sums.{all-at}
 use Rattle.kernels.specs.Value.{Bounded, bounded-all, value-append, value-cons, value-lt, value-nil}
 use Rattle.code.specs.declared.Parameters.{Parameters}
-use Rattle.code.specs.Accepted.{accepted, stored-le}
-use Rattle.code.specs.Buffers.{nested-lt}
+use Rattle.code.proofs.Accepted.{accepted, stored-le}
+use Rattle.code.proofs.Buffers.{nested-lt}
 use Rattle.code.specs.Calls.{nested_of, nested_syndrome_list, nested_word_bytes, remainder_bytes, short_bytes, sub_word_of, syndrome_list}
 use Rattle.code.specs.Code.{divisor, odd_syndromes, remainder, short_remainder}
 use Rattle.code.specs.Layout.{IsPage, words_of}
-use Rattle.code.specs.Pages.{page-words}
+use Rattle.code.proofs.Pages.{page-words}
 use Rattle.code.specs.Parameters.{Accepted, len, nested_bytes, stored, strength, sub_word_bytes}
-use Rattle.code.specs.Placement.{word_at}
+use Rattle.code.proofs.Placement.{word_at}
 use Rattle.layout.specs.Sizes.{bits-all}
 
 pub record WordIs (p : Parameters) (c : ℕ) (s : List ℕ) : Type 0 where

@@ -4,8 +4,8 @@ use Rattle.std.specs.Prelude.{◌≡◌, refl, ◌⊎◌, Bool, true, false, not
 use Rattle.std.proofs.Common.{sym, ap₂, ◌∙◌, inl, inr, arith, lit<, ne_eqb}
 use Rattle.std.proofs.Math.Nat as Nat
 use Rattle.code.specs.declared.Parameters.{Parameters}
-use Rattle.code.specs.Chains.{or-first}
-use Rattle.code.specs.Accepted.{accepted}
+use Rattle.code.proofs.Chains.{or-first}
+use Rattle.code.proofs.Accepted.{accepted}
 use Rattle.code.specs.Layout.{data_bytes, page_bytes}
 use Rattle.code.specs.Lists.{◌or_else◌, ◌when◌}
 use Rattle.code.specs.Parameters.{Accepted, sheet_refusal}

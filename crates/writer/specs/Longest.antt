@@ -6,16 +6,18 @@ use Rattle.std.proofs.Math.Nat as Nat
 use Rattle.std.proofs.Math.Decide.{dec_lt}
 use Rattle.field.specs.Fields.{Known, field_of, field_of-exponent, field_of-length, by-known}
 use Rattle.generator.specs.Exponents.{exponents, row, values}
-use Rattle.generator.specs.Generator.{width, width-eq, width-mono}
+use Rattle.generator.specs.Generator.{width, width-eq}
+use Rattle.generator.proofs.Generator.{width-mono}
 use Rattle.generator.specs.Distinct.{distinct}
 use Rattle.code.specs.declared.Parameters.{Parameters}
-use Rattle.code.specs.Accepted.{Rules, accepted, rising}
+use Rattle.code.specs.Accepted.{Rules}
+use Rattle.code.proofs.Accepted.{accepted, rising}
 use Rattle.code.specs.Code.{check_bits, degree, level}
 use Rattle.code.specs.Layout.{block_offset, block_sizes, data_bits, data_bytes}
 use Rattle.code.specs.Lists.{range, sum}
-use Rattle.code.specs.Pages.{block_bits-eq, block_sizes-eq}
+use Rattle.code.proofs.Pages.{block_bits-eq, block_sizes-eq}
 use Rattle.code.specs.Parameters.{Accepted, len, sheet_refusal, strength}
-use Rattle.code.specs.Steps.{degree-eq}
+use Rattle.code.proofs.Steps.{degree-eq}
 use Rattle.layout.specs.Parts.{offset-all, offset-next, offset-zero}
 
 -- ---- the degrees of strengths 1 and 2 at q = 12 are 12 and 24

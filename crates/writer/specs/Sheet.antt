@@ -5,8 +5,8 @@ use Rattle.std.proofs.Common.{sym, ap, ◌∙◌}
 use Rattle.std.proofs.Math.Nat as Nat
 use Rattle.code.specs.declared.Parameters.{Parameters}
 use Rattle.code.specs.declared.Tested.{Tested}
-use Rattle.code.specs.Chains.{or-first, or-none}
-use Rattle.code.specs.Answers.{sheet-pos, tested_eq}
+use Rattle.code.proofs.Chains.{or-first, or-none}
+use Rattle.code.proofs.Answers.{sheet-pos, tested_eq}
 use Rattle.code.specs.Layout.{blank, blocks_clear, data_bytes, page_bytes, page_of}
 use Rattle.code.specs.Lists.{◌or_else◌, ◌when◌}
 use Rattle.code.specs.Parameters.{Accepted, Tests, sheet_refusal, tested_number, tested_of}

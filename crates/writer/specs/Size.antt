@@ -3,7 +3,7 @@ use Rattle.std.specs.Prelude.{◌≡◌, refl, ◌⊎◌, List, ℕ, ◌≤◌, 
 use Rattle.std.proofs.Common.{inl, inr, arith, lit≤}
 use Rattle.std.proofs.Math.Nat as Nat
 use Rattle.code.specs.Layout.{page_bytes}
-use Rattle.code.specs.Pages.{page-length}
+use Rattle.code.proofs.Pages.{page-length}
 use Rattle.code.specs.Writer.{lead, rest_given, sheet_given, writer}
 use Rattle.layout.specs.Sizes.{page-high}
 use Rattle.writer.specs.Output.{refusal_of, writer-done, writer-refused}

@@ -5,12 +5,12 @@ use native.Mathlib.Omega.{arith}
 use borrow.Author.Tests.{eqb-true}
 use lib.ListN.{get_or}
 use Rattle.polynomial.specs.Digits.{value}
-use Rattle.code.specs.Accepted.{accepted, degree-high}
+use Rattle.code.proofs.Accepted.{accepted, degree-high}
 use Rattle.code.specs.Code.{remainder}
 use Rattle.code.specs.Layout.{words_of}
-use Rattle.code.specs.Pages.{word_lt}
+use Rattle.code.proofs.Pages.{word_lt}
 use Rattle.code.specs.Parameters.{stored}
-use Rattle.code.specs.Placement.{word_at}
+use Rattle.code.proofs.Placement.{word_at}
 use Rattle.layout.specs.Sizes.{stored-high}
 use Rattle.layout.specs.SubWords.{part-is}
 use Rattle.word.specs.Level.{degree-few, level-lt}

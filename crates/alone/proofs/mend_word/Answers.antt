@@ -7,9 +7,9 @@ use Prim.Native.Nat.{ℕ, zero-le}
 use native.Mathlib.Nat as Nat
 use native.Mathlib.Omega.{arith}
 use lib.ListN.{get_or, take}
-use Rattle.code.specs.Accepted.{accepted, rising}
+use Rattle.code.proofs.Accepted.{accepted, rising}
 use Rattle.code.specs.Layout.{words_of}
-use Rattle.code.specs.Pages.{word_lt}
+use Rattle.code.proofs.Pages.{word_lt}
 use Rattle.code.specs.Refusals.{nowhere}
 use Rattle.mend.specs.Settled.{found-is}
 use Rattle.alone.specs.Alone.{places-rise}

@@ -5,13 +5,13 @@ use native.Mathlib.Omega.{arith}
 use lib.Dec.{lit≤}
 use lib.ListN.{length, get_or}
 use Rattle.field.specs.Flips.{Rising}
-use Rattle.code.specs.Accepted.{accepted}
+use Rattle.code.proofs.Accepted.{accepted}
 use Rattle.code.specs.Code.{nearest}
 use Rattle.code.specs.Layout.{words_of}
 use Rattle.code.specs.Lists.{range}
 use Rattle.code.specs.Nest.{alone, start, start-broken, start-words}
-use Rattle.code.specs.Pages.{length-range}
-use Rattle.code.specs.Rounds.{range-rising}
+use Rattle.code.proofs.Pages.{length-range}
+use Rattle.code.proofs.Rounds.{range-rising}
 use Rattle.mend.specs.Settled.{pass-first, pass-last, pass-next, pass-word}
 use Rattle.alone.specs.Alone.{range_at}
 use Rattle.alone.proofs.mend_words.Goals as goal

@@ -6,7 +6,7 @@ use lib.ListN.{length, take, drop}
 use lib.Pow.{pow_mono}
 use Rattle.polynomial.specs.Digits.{length_digits, value}
 use Rattle.polynomial.specs.Xor.{xor}
-use Rattle.code.specs.Pages.{whole}
+use Rattle.code.proofs.Pages.{whole}
 use Rattle.code.specs.Parameters.{stored, sub_word_bytes}
 use Rattle.layout.specs.Replaced.{put_is, middle-bytes, part_length}
 use Rattle.layout.specs.Sizes.{word-high}

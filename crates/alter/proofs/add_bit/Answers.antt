@@ -2,7 +2,7 @@ use mathlib.Core.Path.{refl, sym, ap, ◌∙◌}
 use native.Mathlib.Omega.{arith}
 use Prim.Native.Nat.{ℕ, ◌+◌, ◌≤◌}
 use lib.ListN.{replicate}
-use Rattle.code.specs.Pages.{zeros-length}
+use Rattle.code.proofs.Pages.{zeros-length}
 use Rattle.layout.specs.Sizes.{check-below, stored-high}
 use Rattle.unit.specs.Short.{shortest-accepted, shortest-high}
 use Rattle.unit.specs.Unit.{no-data, zeros-take}

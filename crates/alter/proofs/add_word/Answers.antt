@@ -6,7 +6,7 @@ use Rattle.polynomial.specs.Digits.{length_digits, value}
 use Rattle.polynomial.specs.Xor.{xor}
 use Rattle.code.specs.Layout.{words_of}
 use Rattle.code.specs.Parameters.{sub_word_bytes}
-use Rattle.code.specs.Placement.{word_at}
+use Rattle.code.proofs.Placement.{word_at}
 use Rattle.layout.specs.Replaced.{put_is, middle-bytes, part_length}
 use Rattle.layout.specs.Sizes.{word-high}
 use Rattle.layout.specs.SubWords.{part_room, part_small}

@@ -2,7 +2,7 @@ use mathlib.Core.Path.{◌≡◌, ◌∙◌}
 use native.Mathlib.Omega.{arith}
 use Prim.Native.Nat.{suc, ◌*◌}
 use lib.ListN.{length, drop}
-use Rattle.code.specs.Accepted.{accepted}
+use Rattle.code.proofs.Accepted.{accepted}
 use Rattle.code.specs.Layout.{words_of}
 use Rattle.layout.specs.Sizes.{word-high}
 use Rattle.encode.specs.Horner.{same-room, sum_one, sum-two, sum-three}

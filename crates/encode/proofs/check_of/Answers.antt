@@ -6,7 +6,7 @@ use lib.ListN.{length}
 use Rattle.polynomial.specs.Digits.{value}
 use Rattle.kernels.specs.Value.{value-lt}
 use Rattle.code.specs.Code.{remainder}
-use Rattle.code.specs.Accepted.{accepted, degree-high}
+use Rattle.code.proofs.Accepted.{accepted, degree-high}
 use Rattle.levels.specs.Ready.{degree-low, prepared-up, table-remainder}
 use Rattle.encode.specs.Loaded.{byte-remainder, byte-wide}
 use Rattle.encode.proofs.check_of.Goals as goal

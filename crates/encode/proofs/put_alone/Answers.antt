@@ -3,7 +3,7 @@ use native.Mathlib.Nat as Nat
 use native.Mathlib.Omega.{arith}
 use Prim.Native.Nat.{◌+◌}
 use Rattle.polynomial.specs.Division.{rem_lt}
-use Rattle.code.specs.Accepted.{accepted, degree-high, lawful}
+use Rattle.code.proofs.Accepted.{accepted, degree-high, lawful}
 use Rattle.code.specs.Code.{degree, gen, remainder}
 use Rattle.encode.proofs.put_alone.Goals as goal
 

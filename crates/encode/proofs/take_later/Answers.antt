@@ -3,7 +3,7 @@ use native.Mathlib.Omega.{arith}
 use Prim.Native.Nat.{◌*◌}
 use native.Mathlib.Nat as Nat
 use lib.ListN.{length}
-use Rattle.code.specs.Accepted.{accepted}
+use Rattle.code.proofs.Accepted.{accepted}
 use Rattle.encode.specs.Horner.{over-room, same-room}
 use Rattle.encode.specs.Carried.{later-start, later-turn, later-done}
 use Rattle.encode.proofs.take_later.Goals as goal

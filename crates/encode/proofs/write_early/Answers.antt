@@ -3,7 +3,7 @@ use native.Mathlib.Omega.{arith}
 use Prim.Native.Nat.{ℕ, ◌+◌, ◌-◌, ◌*◌, ◌≤◌}
 use lib.ListN.{length, take, drop}
 use Rattle.polynomial.specs.Digits.{length_digits, value}
-use Rattle.code.specs.Accepted.{accepted, degree-high}
+use Rattle.code.proofs.Accepted.{accepted, degree-high}
 use Rattle.code.specs.Code.{level}
 use Rattle.code.specs.Parameters.{sub_word_bytes}
 use Rattle.layout.specs.Replaced.{put_is, middle-bytes, part_length}

@@ -5,7 +5,7 @@ use Rattle.polynomial.specs.Sums.{at_all}
 use Rattle.code.specs.declared.Outcome.{Outcome}
 use Rattle.code.specs.Calls.{outcome_number}
 use Rattle.code.specs.Demands.{BlankReadLaws}
-use Rattle.code.specs.Theorems.{demands}
+use Rattle.code.proofs.Theorems.{demands}
 use Rattle.gate_rounds.specs.Answers.{is_blank}
 use Rattle.gate_rounds.proofs.erased.Goals as goal
 use Rattle.gate_rounds.proofs.erased.Goals.{After-read_out-r}

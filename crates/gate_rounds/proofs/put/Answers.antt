@@ -1,6 +1,6 @@
 use mathlib.Core.Path.{◌∙◌, ap}
 use Rattle.code.specs.Demands.{WriteLaws}
-use Rattle.code.specs.Theorems.{demands}
+use Rattle.code.proofs.Theorems.{demands}
 use Rattle.gate_rounds.specs.Answers.{is_done}
 use Rattle.gate_rounds.proofs.put.Goals as goal
 use Rattle.gate_rounds.proofs.put.Goals.{After-write-r}

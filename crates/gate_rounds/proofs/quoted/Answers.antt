@@ -2,7 +2,7 @@ use mathlib.Core.Path.{◌≡◌, ◌∙◌, ap}
 use lib.ListN.{length, get_or}
 use Rattle.code.specs.declared.Outcome.{Outcome}
 use Rattle.code.specs.Demands.{QuoteLaws}
-use Rattle.code.specs.Theorems.{demands}
+use Rattle.code.proofs.Theorems.{demands}
 use Rattle.gate_rounds.specs.Answers.{is_done}
 use Rattle.gate_rounds.proofs.quoted.Goals as goal
 use Rattle.gate_rounds.proofs.quoted.Goals.{After-quote-r}

@@ -1,6 +1,6 @@
 use mathlib.Core.Path.{ap, ◌∙◌}
 use Rattle.code.specs.Demands.{Rewrites}
-use Rattle.code.specs.Theorems.{demands}
+use Rattle.code.proofs.Theorems.{demands}
 use Rattle.gate_rounds.specs.Answers.{is_member, alike-found, both_found}
 use Rattle.gate_rounds.proofs.rewrites.Goals as goal
 use Rattle.gate_rounds.proofs.rewrites.Goals.{After-write-w}

@@ -5,7 +5,7 @@ use Prim.Native.Nat.{ℕ, ◌+◌, ◌-◌, ◌*◌, ◌^◌, ◌≤◌}
 use lib.ListN.{length, take, drop}
 use Rattle.polynomial.specs.Digits.{length_digits}
 use Rattle.polynomial.specs.Xor.{xor}
-use Rattle.code.specs.Pages.{whole}
+use Rattle.code.proofs.Pages.{whole}
 use Rattle.code.specs.Parameters.{stored, sub_word_bytes}
 use Rattle.layout.specs.Replaced.{put_is, middle-bytes, part_length}
 use Rattle.layout.specs.SubWords.{part_room, part_small}

@@ -1,7 +1,7 @@
 use mathlib.Core.Path.{sym, ap, ◌∙◌}
 use Rattle.code.specs.declared.Outcome.{Outcome}
 use Rattle.code.specs.Demands.{Sums}
-use Rattle.code.specs.Theorems.{demands}
+use Rattle.code.proofs.Theorems.{demands}
 use Rattle.gate_rounds.specs.Answers.{is_done}
 use Rattle.gate_rounds.proofs.sums.Goals as goal
 use Rattle.gate_rounds.proofs.sums.Goals.{After-write-r}

@@ -2,7 +2,7 @@ use borrow.Author.Tests.{eq-eqb}
 use mathlib.Core.Path.{sym, ap, ◌∙◌}
 use Rattle.code.specs.Calls.{outcome_number}
 use Rattle.code.specs.Demands.{Alike}
-use Rattle.code.specs.Theorems.{demands}
+use Rattle.code.proofs.Theorems.{demands}
 use Rattle.gate_rounds.specs.Answers.{is-done}
 use Rattle.gate_rounds.proofs.two_widths.Goals as goal
 use Rattle.gate_rounds.proofs.two_widths.Goals.{After-write-s}

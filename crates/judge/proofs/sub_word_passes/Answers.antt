@@ -3,7 +3,7 @@ use Prim.Native.Nat.{ℕ, zero-le}
 use lib.Dec.{eqb}
 use Rattle.polynomial.specs.Digits.{value}
 use Rattle.code.specs.Code.{remainder}
-use Rattle.code.specs.Placement.{word_at}
+use Rattle.code.proofs.Placement.{word_at}
 use Rattle.layout.specs.Sizes.{stored-high}
 use Rattle.layout.specs.SubWords.{is-page, part-is}
 use Rattle.judge.proofs.sub_word_passes.Goals as goal

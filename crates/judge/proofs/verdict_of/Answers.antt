@@ -3,8 +3,8 @@ use native.Mathlib.Nat as Nat
 use native.Mathlib.Omega.{arith}
 use Prim.Native.Nat.{ℕ, ◌+◌, ◌≤◌, zero-le}
 use lib.ListN.{length-take}
-use Rattle.code.specs.Answers.{named}
-use Rattle.code.specs.Judge.{answer-sub, answer-nested, answer-member}
+use Rattle.code.proofs.Answers.{named}
+use Rattle.code.proofs.Judge.{answer-sub, answer-nested, answer-member}
 use Rattle.code.specs.Layout.{words_of}
 use Rattle.layout.specs.Sizes.{nested-high}
 use Rattle.judge.proofs.verdict_of.Goals as goal

@@ -1,6 +1,6 @@
 use mathlib.Core.Path.{ap}
 use Rattle.element.specs.declared.Field.{Field}
-use Rattle.code.specs.Accepted.{accepted}
+use Rattle.code.proofs.Accepted.{accepted}
 use Rattle.layout.proofs.length_of.Goals as goal
 
 pub of-f-requires : goal.of-f-requires

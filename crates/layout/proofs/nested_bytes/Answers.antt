@@ -1,7 +1,7 @@
 use mathlib.Core.Path.{ap}
 use Prim.Native.Nat.{◌/◌}
 use Rattle.element.specs.declared.Field.{Field}
-use Rattle.code.specs.Accepted.{accepted}
+use Rattle.code.proofs.Accepted.{accepted}
 use Rattle.layout.proofs.nested_bytes.Goals as goal
 
 pub of-f-requires : goal.of-f-requires

@@ -1,6 +1,6 @@
 use mathlib.Core.Path.{sym, ◌∙◌}
 use native.Mathlib.Omega.{arith}
-use Rattle.code.specs.Accepted.{accepted, degree-high}
+use Rattle.code.proofs.Accepted.{accepted, degree-high}
 use Rattle.levels.specs.Ready.{row-at, row-deg, level-lt, gen-pos}
 use Rattle.levels.proofs.degree_at.Goals as goal
 

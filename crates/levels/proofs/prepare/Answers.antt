@@ -1,6 +1,6 @@
 use borrow.Author.Rules.{rules}
 use mathlib.Core.Path.{sym}
-use Rattle.code.specs.Accepted.{accepted, degree-high}
+use Rattle.code.proofs.Accepted.{accepted, degree-high}
 use Rattle.levels.specs.Ready.{row-at, row_lt, level-lt, prepared, aligned-deg}
 use Rattle.levels.proofs.prepare.Goals as goal
 

@@ -3,7 +3,7 @@ use Prim.Native.Nat.{◌%◌, ◌^◌}
 use native.Mathlib.Nat as Nat
 use native.Mathlib.Omega.{arith}
 use Rattle.polynomial.specs.Digits.{value}
-use Rattle.code.specs.Accepted.{accepted, degree-high}
+use Rattle.code.proofs.Accepted.{accepted, degree-high}
 use Rattle.code.specs.Code.{remainder}
 use Rattle.levels.specs.Ready.{degree-low, prepared-up, table-remainder}
 use Rattle.levels.proofs.remainder_at.Goals as goal

@@ -1,6 +1,6 @@
 use Prim.Native.Nat.{zero-le}
 use native.Mathlib.Omega.{arith}
-use Rattle.code.specs.Accepted.{accepted}
+use Rattle.code.proofs.Accepted.{accepted}
 use Rattle.generator_rows.specs.Within.{level-within}
 use Rattle.levels.specs.Levels.{v-pos, level-row, row-past, rows_are}
 use Rattle.levels.proofs.rows.Goals as goal

@@ -4,11 +4,11 @@ use native.Mathlib.Nat as Nat
 use native.Mathlib.Omega.{arith}
 use lib.ListN.{length, get_or, take}
 use lib.Seq.{length-take-le}
-use Rattle.code.specs.Pages.{zeros-length}
+use Rattle.code.proofs.Pages.{zeros-length}
 use Rattle.field.specs.Elements.{syndrome}
 use Rattle.field.specs.Flips.{flips}
 use Rattle.syndrome.specs.Places.{places-take}
-use Rattle.code.specs.Filled.{map_at, map-length}
+use Rattle.code.proofs.Filled.{map_at, map-length}
 use Rattle.locating.specs.Look.{agree-not-odd, agree-odd, one_more}
 use Rattle.locating.proofs.agrees.Goals as goal
 use Rattle.locating.proofs.agrees.Goals.{After-odd_sums}

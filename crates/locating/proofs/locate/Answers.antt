@@ -4,7 +4,7 @@ use Prim.Native.Nat.{ℕ, ◌+◌, ◌*◌}
 use native.Mathlib.Nat as Nat
 use native.Mathlib.Omega.{arith}
 use lib.ListN.{replicate}
-use Rattle.code.specs.Pages.{zeros-length}
+use Rattle.code.proofs.Pages.{zeros-length}
 use Rattle.code.specs.Lists.{range}
 use Rattle.search.specs.Values.{zeroed}
 use Rattle.locating.specs.Look.{all-below, all-long, from_list, locate-all}

@@ -6,7 +6,7 @@ use native.Mathlib.Omega.{arith}
 use lib.Pow.{pow_mono}
 use borrow.Author.Tests.{eqb-true}
 use Rattle.polynomial.specs.Digits.{value}
-use Rattle.code.specs.Accepted.{accepted, degree-high, stored-le}
+use Rattle.code.proofs.Accepted.{accepted, degree-high, stored-le}
 use Rattle.word.specs.Level.{level-lt, degree-few}
 use Rattle.mend.specs.Nearest.{nearest-remainder, nearest_zero}
 use Rattle.mend.proofs.find.Goals as goal

@@ -1,11 +1,11 @@
 use mathlib.Core.Path.{◌≡◌, sym, ap, ◌∙◌}
 use mathlib.Core.List.{map}
 use Prim.Native.Nat.{ℕ, ◌+◌, ◌*◌}
-use Rattle.code.specs.Pages.{zeros-length}
+use Rattle.code.proofs.Pages.{zeros-length}
 use Rattle.polynomial.specs.Digits.{value}
 use Rattle.field.specs.Elements.{syndrome}
 use Rattle.code.specs.Lists.{range}
-use Rattle.code.specs.Filled.{map-length}
+use Rattle.code.proofs.Filled.{map-length}
 use Rattle.syndrome.specs.Sum.{table-roots}
 use Rattle.mend.specs.Nearest.{locate-odd, odd-below}
 use Rattle.mend.proofs.locate_by.Goals as goal

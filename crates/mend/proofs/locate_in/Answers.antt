@@ -1,5 +1,5 @@
 use Rattle.polynomial.specs.Digits.{value}
-use Rattle.code.specs.Accepted.{accepted}
+use Rattle.code.proofs.Accepted.{accepted}
 use Rattle.element.specs.Fields.{Sized, field-at, known-last}
 use Rattle.element.specs.Lent.{tables-of}
 use Rattle.mend.specs.Nearest.{sheet-bounds, sheet-located}

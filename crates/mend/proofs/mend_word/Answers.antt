@@ -7,12 +7,12 @@ use lib.ListN.{length, get_or, take}
 use Rattle.polynomial.specs.Digits.{value}
 use Rattle.field.specs.Flips.{flips}
 use Rattle.locator.specs.Locate.{kept}
-use Rattle.code.specs.Accepted.{accepted, rising}
+use Rattle.code.proofs.Accepted.{accepted, rising}
 use Rattle.code.specs.Code.{nearest}
 use Rattle.code.specs.Layout.{place_list, words_of}
-use Rattle.code.specs.Mend.{word_low}
+use Rattle.code.proofs.Mend.{word_low}
 use Rattle.code.specs.Parameters.{stored, strength}
-use Rattle.code.specs.Placement.{word_at}
+use Rattle.code.proofs.Placement.{word_at}
 use Rattle.layout.specs.SubWords.{part-is}
 use Rattle.layout.specs.Written.{written}
 use Rattle.mend.specs.Call.{found-flips, found-long, found_none, found-places, found_some, mend-made, mend-nowhere, written-flipped}

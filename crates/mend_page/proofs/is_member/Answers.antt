@@ -2,7 +2,7 @@ use mathlib.Core.Path.{sym, ◌∙◌}
 use lib.Dec.{eqb}
 use Rattle.code.specs.Code.{failing_number}
 use Rattle.code.specs.Layout.{blank, words_of}
-use Rattle.mend_page.specs.Ends.{member-blank, member-else}
+use Rattle.mend_page.proofs.Ends.{member-blank, member-else}
 use Rattle.mend_page.proofs.is_member.Goals as goal
 
 pub page_blank-requires : goal.page_blank-requires

@@ -1,5 +1,5 @@
 use borrow.Author.Rules.{rules}
-use Rattle.mend_page.specs.Ends.{first_ends, first-stands}
+use Rattle.mend_page.proofs.Ends.{first_ends, first-stands}
 use Rattle.mend_page.proofs.mend_by.Goals as goal
 
 pub first_pass-b-requires : goal.first_pass-b-requires

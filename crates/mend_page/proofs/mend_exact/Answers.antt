@@ -5,9 +5,9 @@ use native.Mathlib.Omega.{arith}
 use lib.ListN.{length}
 use Rattle.code.specs.Layout.{words_of}
 use Rattle.code.specs.Nest.{mend_page}
-use Rattle.code.specs.Pages.{zeros-length}
+use Rattle.code.proofs.Pages.{zeros-length}
 use Rattle.layout.specs.Sizes.{page-high}
-use Rattle.mend_page.specs.Called.{copied, ends-copied, mended-done, mended-member, mended-nowhere}
+use Rattle.mend_page.proofs.Called.{copied, ends-copied, mended-done, mended-member, mended-nowhere}
 use Rattle.mend_page.specs.Ends.{Ends}
 use Rattle.mend_page.proofs.mend_exact.Goals as goal
 use Rattle.mend_page.proofs.mend_exact.Goals.{Start}

@@ -1,4 +1,4 @@
-use Rattle.code.specs.Accepted.{accepted}
+use Rattle.code.proofs.Accepted.{accepted}
 use Rattle.element.specs.Fields.{Sized, field-at, known-last}
 use Rattle.element.specs.Lent.{tables-of}
 use Rattle.mend_page.proofs.mend_in.Goals as goal

@@ -1,7 +1,7 @@
 use mathlib.Core.Path.{sym, ◌∙◌}
 use Rattle.refusal.specs.Judging.{page-sheet, page-zero}
 use Rattle.layout.specs.SubWords.{is-page}
-use Rattle.mend_page.specs.Called.{mended-refused}
+use Rattle.mend_page.proofs.Called.{mended-refused}
 use Rattle.mend_page.proofs.mend_page.Goals as goal
 
 pub returns-then-k-ne0 : goal.returns-then-k-ne0

@@ -4,7 +4,8 @@ use native.Mathlib.Omega.{arith}
 use lib.ListN.{length, take}
 use lib.Seq.{length-take-le}
 use Rattle.code.specs.Nest.{round, rounds}
-use Rattle.mend_page.specs.Ends.{in_work, turn_end, turn_many, turn-next, turn-stop}
+use Rattle.mend_page.specs.Ends.{in_work}
+use Rattle.mend_page.proofs.Ends.{turn_end, turn_many, turn-next, turn-stop}
 use Rattle.mend_page.proofs.mend_rounds.Goals as goal
 use Rattle.mend_page.proofs.mend_rounds.Goals.{At-loop-n, Else-v-n}
 

@@ -1,7 +1,7 @@
 -- The loop: the first i sub-words are added up.
 use mathlib.Core.Path.{◌∙◌}
 use native.Mathlib.Omega.{arith}
-use Rattle.code.specs.Accepted.{accepted}
+use Rattle.code.proofs.Accepted.{accepted}
 use Rattle.layout.specs.Sizes.{word-high}
 use Rattle.nested.specs.Turned.{place-high, turned-first, turned_turn, turned-done}
 use Rattle.nested.proofs.sum_into.Goals as goal

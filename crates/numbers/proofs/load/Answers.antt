@@ -4,7 +4,7 @@ use native.Mathlib.Omega.{arith}
 use Prim.Native.Nat.{ℕ}
 use lib.ListN.{length, length-set}
 use Rattle.code.specs.Calls.{number_at}
-use Rattle.code.specs.Filled.{filled-first, filled_next, filled-all}
+use Rattle.code.proofs.Filled.{filled-first, filled_next, filled-all}
 use Rattle.numbers.specs.List.{first_numbers}
 use Rattle.numbers.proofs.load.Goals as goal
 

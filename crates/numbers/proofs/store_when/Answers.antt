@@ -1,7 +1,7 @@
 use mathlib.Core.Path.{sym, ap, ◌∙◌}
 use Prim.Native.Nat.{ℕ}
 use native.Mathlib.Nat as Nat
-use Rattle.code.specs.Answers.{leaves-refused}
+use Rattle.code.proofs.Answers.{leaves-refused}
 use Rattle.code.specs.Calls.{as_bytes, leaves}
 use Rattle.numbers.proofs.store_when.Goals as goal
 

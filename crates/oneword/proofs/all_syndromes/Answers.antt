@@ -1,8 +1,8 @@
 use mathlib.Core.Path.{sym, ◌∙◌}
 use native.Mathlib.Nat as Nat
 use native.Mathlib.Omega.{arith}
-use Rattle.code.specs.Answers.{made-done, made-refused}
-use Rattle.code.specs.Odd.{all-le, all-zero}
+use Rattle.code.proofs.Answers.{made-done, made-refused}
+use Rattle.code.proofs.Odd.{all-le, all-zero}
 use Rattle.oneword.proofs.all_syndromes.Goals as goal
 
 pub returns-then-k-ne0 : goal.returns-then-k-ne0

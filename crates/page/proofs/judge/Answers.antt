@@ -1,6 +1,6 @@
 use mathlib.Core.Path.{◌≡◌, sym, ◌∙◌}
 use lib.ListN.{length}
-use Rattle.code.specs.Answers.{judged-refused}
+use Rattle.code.proofs.Answers.{judged-refused}
 use Rattle.code.specs.Layout.{page_bytes}
 use Rattle.code.specs.Parameters.{Accepted}
 use Rattle.refusal.specs.Judging.{judge-lengths, lengths-zero}

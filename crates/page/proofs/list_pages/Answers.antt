@@ -2,7 +2,7 @@ use native.Mathlib.Omega.{arith}
 use Prim.Native.Nat.{◌<◌}
 use lib.ListN.{length}
 use Rattle.code.specs.Layout.{data_bytes}
-use Rattle.code.specs.Many.{part_room}
+use Rattle.code.proofs.Many.{part_room}
 use Rattle.page.specs.Listed.{listing-done, listing-next, listing_start}
 use Rattle.page.proofs.list_pages.Goals as goal
 

@@ -2,7 +2,8 @@ use mathlib.Core.Path.{◌≡◌, sym, ap, ◌∙◌}
 use Prim.Native.Nat.{ℕ, ◌*◌}
 use lib.ListN.{length}
 use Rattle.code.specs.Layout.{data_bytes}
-use Rattle.code.specs.Many.{Lent, many-lent}
+use Rattle.code.specs.Many.{Lent}
+use Rattle.code.proofs.Many.{many-lent}
 use Rattle.code.specs.Refusals.{many_refusal}
 use Rattle.page.specs.Listed.{many-done, many-given, many-refused}
 use Rattle.page.proofs.many_accepted.Goals as goal

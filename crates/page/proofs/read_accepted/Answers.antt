@@ -1,6 +1,6 @@
 use mathlib.Core.Path.{◌≡◌, sym, ◌∙◌}
 use lib.ListN.{length}
-use Rattle.code.specs.Answers.{read-refused}
+use Rattle.code.proofs.Answers.{read-refused}
 use Rattle.code.specs.Layout.{data_bytes, page_bytes}
 use Rattle.refusal.specs.Reading.{lengths-zero, read-lengths}
 use Rattle.page.specs.Exact.{read-given, read_kept}

@@ -1,6 +1,6 @@
 use mathlib.Core.Path.{sym, ◌∙◌}
 use lib.ListN.{length}
-use Rattle.code.specs.Answers.{read-refused}
+use Rattle.code.proofs.Answers.{read-refused}
 use Rattle.refusal.specs.Reading.{read-sheet}
 use Rattle.page.proofs.read_out.Goals as goal
 

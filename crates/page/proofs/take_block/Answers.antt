@@ -3,7 +3,7 @@ use native.Mathlib.Omega.{arith}
 use Prim.Native.Nat.{ℕ, ◌+◌, ◌-◌, ◌/◌, ◌≤◌}
 use lib.ListN.{length, take, drop}
 use Rattle.polynomial.specs.Digits.{length_digits, value}
-use Rattle.code.specs.Placement.{word_at}
+use Rattle.code.proofs.Placement.{word_at}
 use Rattle.layout.specs.Parts.{block_room, bytes_high}
 use Rattle.layout.specs.Sizes.{check-below, data-high, data-low, stored-high}
 use Rattle.layout.specs.Replaced.{put_is, middle-bytes, part_length}

@@ -1,6 +1,6 @@
 use mathlib.Core.Path.{sym, ◌∙◌}
 use lib.ListN.{length}
-use Rattle.code.specs.Answers.{written-refused}
+use Rattle.code.proofs.Answers.{written-refused}
 use Rattle.refusal.specs.Writing.{write-sheet}
 use Rattle.page.proofs.write.Goals as goal
 

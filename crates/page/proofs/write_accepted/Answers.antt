@@ -1,7 +1,7 @@
 use mathlib.Core.Path.{◌≡◌, sym, ◌∙◌}
 use lib.ListN.{length}
-use Rattle.code.specs.Answers.{written-refused, written-done}
-use Rattle.code.specs.Many.{one-page}
+use Rattle.code.proofs.Answers.{written-refused, written-done}
+use Rattle.code.proofs.Many.{one-page}
 use Rattle.code.specs.Refusals.{write_refusal}
 use Rattle.refusal.specs.Writing.{Writable, write-zero}
 use Rattle.pages.specs.Filling.{one-given}

@@ -2,7 +2,7 @@ use mathlib.Core.Path.{◌≡◌, refl, ◌∙◌}
 use native.Mathlib.Nat as Nat
 use native.Mathlib.Omega.{arith}
 use Prim.Native.Nat.{◌-◌, zero-le}
-use Rattle.code.specs.Accepted.{accepted}
+use Rattle.code.proofs.Accepted.{accepted}
 use Rattle.pages.specs.Filling.{level-own, same-given, stage-next, stage-start}
 use Rattle.pages.proofs.write_earlier.Goals as goal
 

@@ -2,7 +2,7 @@ use native.Mathlib.Nat as Nat
 use native.Mathlib.Omega.{arith}
 use Prim.Native.Nat.{◌-◌, ◌*◌, ◌≤◌}
 use lib.ListN.{length}
-use Rattle.code.specs.Accepted.{accepted}
+use Rattle.code.proofs.Accepted.{accepted}
 use Rattle.layout.specs.Sizes.{level-low}
 use Rattle.encode.specs.Loaded.{loaded-plain}
 use Rattle.pages.proofs.write_level.Goals as goal

@@ -4,7 +4,7 @@ use Prim.Native.Nat.{◌+◌, ◌-◌, ◌*◌, ◌≤◌}
 use lib.ListN.{length, take, drop}
 use Rattle.code.specs.Layout.{data_bytes, page_bytes}
 use Rattle.code.specs.Lists.{part}
-use Rattle.code.specs.Many.{part_length, part_room}
+use Rattle.code.proofs.Many.{part_length, part_room}
 use Rattle.layout.specs.Parts.{bytes_high}
 use Rattle.layout.specs.Replaced.{put_is}
 use Rattle.layout.specs.Sizes.{page-high}

@@ -2,7 +2,7 @@ use mathlib.Core.Path.{◌≡◌, sym, ◌∙◌}
 use native.Mathlib.Nat as Nat
 use native.Mathlib.Omega.{arith}
 use Prim.Native.Nat.{◌*◌}
-use Rattle.code.specs.Odd.{all-open, all_none, all-not-odd, all-not-out}
+use Rattle.code.proofs.Odd.{all-open, all_none, all-not-odd, all-not-out}
 use Rattle.code.specs.Parameters.{strength}
 use Rattle.code.specs.Refusals.{open_refusal}
 use Rattle.refusal.proofs.all_refusal.Goals as goal

@@ -1,5 +1,5 @@
 use mathlib.Core.Path.{sym, ◌∙◌}
-use Rattle.code.specs.Refused.{width_of}
+use Rattle.code.proofs.Refused.{width_of}
 use Rattle.refusal.specs.Feeding.{numbers-width, numbers-stray, numbers-full, numbers-level, numbers-none}
 use Rattle.refusal.proofs.numbers_refusal.Goals as goal
 

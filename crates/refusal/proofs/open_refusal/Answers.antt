@@ -1,5 +1,5 @@
 use mathlib.Core.Path.{sym, ◌∙◌}
-use Rattle.code.specs.Refused.{open-sheet, open_above, open_none}
+use Rattle.code.proofs.Refused.{open-sheet, open_above, open_none}
 use Rattle.refusal.proofs.open_refusal.Goals as goal
 
 pub returns-then-k-ne0 : goal.returns-then-k-ne0

@@ -1,5 +1,5 @@
 use mathlib.Core.Path.{sym, ◌∙◌}
-use Rattle.code.specs.Quote.{quote-sheet, quote-none, quote-ten}
+use Rattle.code.proofs.Quote.{quote-sheet, quote-none, quote-ten}
 use Rattle.refusal.proofs.quote_refusal.Goals as goal
 
 pub returns-then-k-ne0 : goal.returns-then-k-ne0

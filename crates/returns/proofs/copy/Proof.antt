@@ -1,6 +1,6 @@
 use borrow.Author.Rules.{rules}
 use mathlib.Core.Path.{◌∙◌}
-use Rattle.mend_page.specs.Called.{copied}
+use Rattle.mend_page.proofs.Called.{copied}
 use Rattle.returns.proofs.copy.Statement.{statement}
 use Rattle.returns.proofs.copy.Tie as tie
 

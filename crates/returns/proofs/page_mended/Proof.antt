@@ -4,7 +4,7 @@ use mathlib.Core.List.{List}
 use native.Mathlib.Omega.{arith}
 use Prim.Native.Nat.{ℕ, ◌-◌, ◌≤◌}
 use lib.ListN.{length, take, drop}
-use Rattle.code.specs.Pages.{zeros-length}
+use Rattle.code.proofs.Pages.{zeros-length}
 use Rattle.code.specs.Writer.{rest_given}
 use Rattle.given.specs.Input.{rest-length, rest-lent}
 use Rattle.returns.specs.Mended.{page-done, page-fits, page-refused}

@@ -4,8 +4,8 @@ use native.Mathlib.Nat as Nat
 use native.Mathlib.Omega.{arith}
 use lib.ListN.{length, replicate, take}
 use lib.Seq.{length-take-le}
-use Rattle.code.specs.Accepted.{accepted}
-use Rattle.code.specs.Pages.{zeros-length}
+use Rattle.code.proofs.Accepted.{accepted}
+use Rattle.code.proofs.Pages.{zeros-length}
 use Rattle.rounds.specs.Found.{asked-few, asked-short, asked-small, asked-stored, found-located, odd-below, odd-size, others-nodes, others-small, others-two}
 use Rattle.rounds.proofs.find.Goals as goal
 use Rattle.rounds.proofs.find.Goals.{After-others_into-c}

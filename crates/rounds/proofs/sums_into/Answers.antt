@@ -4,8 +4,8 @@ use Prim.Native.Nat.{◌≤◌}
 use native.Mathlib.Nat as Nat
 use native.Mathlib.Omega.{arith}
 use lib.ListN.{length}
-use Rattle.code.specs.Accepted.{accepted, strength-high}
-use Rattle.code.specs.Pages.{zeros-length}
+use Rattle.code.proofs.Accepted.{accepted, strength-high}
+use Rattle.code.proofs.Pages.{zeros-length}
 use Rattle.code.specs.Parameters.{strength}
 use Rattle.rounds.specs.Rows.{row-size, sums_first, sums_next}
 use Rattle.rounds.proofs.sums_into.Goals as goal

@@ -1,6 +1,6 @@
 use mathlib.Core.Path.{◌≡◌, sym, ◌∙◌}
 use Rattle.code.specs.Refusals.{open_refusal}
-use Rattle.code.specs.Refused.{open-le, open-zero}
+use Rattle.code.proofs.Refused.{open-le, open-zero}
 use Rattle.sizes.specs.Sized.{sized-refused, sized-is}
 use Rattle.sizes.proofs.degree.Goals as goal
 use Rattle.sizes.proofs.degree.Goals.{Else-k-ne0}

@@ -1,6 +1,6 @@
 use native.Mathlib.Omega.{arith}
 use Prim.Native.Nat.{◌+◌, ◌-◌, ◌≤◌, zero-le}
-use Rattle.code.specs.Accepted.{accepted, strength-high}
+use Rattle.code.proofs.Accepted.{accepted, strength-high}
 use Rattle.sizes.specs.Least.{lowest_start, lowest-turn, lowest-done}
 use Rattle.sizes.proofs.least.Goals as goal
 

@@ -5,7 +5,7 @@ use native.Mathlib.Omega.{arith}
 use Prim.Native.Nat.{ℕ, ◌-◌, ◌<◌, ◌+◌, ◌%◌, ◌^◌}
 use lib.ListN.{length, get_or, length-set}
 use lib.Seq.{get_or-set_other}
-use Rattle.code.specs.Filled.{filled-first, filled_next, filled-all}
+use Rattle.code.proofs.Filled.{filled-first, filled_next, filled-all}
 use Rattle.syndrome.proofs.advance.Goals as goal
 
 pub loop-i-init : goal.loop-i-init

@@ -2,7 +2,7 @@ use mathlib.Core.Path.{◌≡◌, refl, ◌∙◌}
 use native.Mathlib.Omega.{arith}
 use Prim.Native.Nat.{◌*◌}
 use lib.ListN.{length, length-set}
-use Rattle.code.specs.Filled.{filled-first, filled_next}
+use Rattle.code.proofs.Filled.{filled-first, filled_next}
 use Rattle.syndrome.specs.Squares.{all-filled}
 use Rattle.syndrome.proofs.all_into.Goals as goal
 

@@ -3,7 +3,7 @@ use mathlib.Core.Path.{refl, ◌∙◌}
 use native.Mathlib.Omega.{arith}
 use lib.ListN.{length, length-set}
 use lib.Seq.{ext_get_or}
-use Rattle.code.specs.Filled.{filled-first, filled_next}
+use Rattle.code.proofs.Filled.{filled-first, filled_next}
 use Rattle.syndrome.proofs.copy.Goals as goal
 
 pub loop-i-init : goal.loop-i-init

@@ -2,7 +2,7 @@ use mathlib.Core.Path.{sym, ap, ◌∙◌}
 use Prim.Native.Nat.{ℕ, ◌+◌, ◌*◌}
 use mathlib.Core.List.{List, map}
 use lib.ListN.{length}
-use Rattle.code.specs.Pages.{zeros-length}
+use Rattle.code.proofs.Pages.{zeros-length}
 use Rattle.field.specs.Elements.{syndrome}
 use Rattle.field.specs.Flips.{flips}
 use Rattle.code.specs.Lists.{range}

@@ -6,7 +6,7 @@ use Rattle.polynomial.specs.Division.{rem, rem-small}
 use Rattle.field.specs.Fields.{field_polynomial, polynomial-degree}
 use Rattle.element.specs.declared.Field.{Field}
 use lib.Dec.{lit≤}
-use Rattle.code.specs.Accepted.{q-high}
+use Rattle.code.proofs.Accepted.{q-high}
 use Rattle.syndrome.proofs.reduce.Goals as goal
 
 pub of-f-requires : goal.of-f-requires

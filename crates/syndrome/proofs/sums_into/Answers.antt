@@ -3,7 +3,7 @@ use native.Mathlib.Nat as Nat
 use native.Mathlib.Omega.{arith}
 use Prim.Native.Nat.{◌+◌, ◌*◌}
 use lib.ListN.{length, length-set}
-use Rattle.code.specs.Filled.{filled-all, filled-first, filled_next}
+use Rattle.code.proofs.Filled.{filled-all, filled-first, filled_next}
 use Rattle.syndrome.specs.Sum.{Runs, roots-room, runs-below, runs-one, sum_is, runs-two, runs-next}
 use Rattle.syndrome.proofs.sums_into.Goals as goal
 use Rattle.syndrome.proofs.sums_into.Goals.{After-advance-arg-in-loop-i-1}

@@ -2,7 +2,7 @@ use mathlib.Core.Path.{sym, ◌∙◌}
 use native.Mathlib.Omega.{arith}
 use Prim.Native.Nat.{ℕ}
 use lib.ListN.{length-replicate}
-use Rattle.code.specs.Pages.{zeros-length}
+use Rattle.code.proofs.Pages.{zeros-length}
 use Rattle.polynomial.specs.Digits.{value}
 use Rattle.unit.specs.Unit.{built-next, built-start, room-high, unit-done}
 use Rattle.unit.proofs.block_page.Goals as goal

@@ -5,7 +5,7 @@ use Prim.Native.Nat.{ℕ, ◌^◌}
 use lib.Dec.{lit≤}
 use Rattle.polynomial.specs.Division.{rem_lt}
 use Rattle.polynomial.specs.Xor.{xor, xor_zero_l}
-use Rattle.code.specs.Accepted.{accepted, degree-high, lawful}
+use Rattle.code.proofs.Accepted.{accepted, degree-high, lawful}
 use Rattle.code.specs.Code.{degree, gen, remainder}
 use Rattle.layout.specs.Sizes.{stored-high}
 use Rattle.encode.specs.Loaded.{loaded-plain}

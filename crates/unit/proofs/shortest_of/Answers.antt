@@ -2,7 +2,7 @@ use mathlib.Core.Path.{ap, ap₂, ◌∙◌}
 use native.Mathlib.Nat as Nat
 use native.Mathlib.Omega.{arith}
 use Prim.Native.Nat.{ℕ, ◌+◌, ◌-◌, ◌≤◌}
-use Rattle.code.specs.Accepted.{accepted, lawful, width-below}
+use Rattle.code.proofs.Accepted.{accepted, lawful, width-below}
 use Rattle.code.specs.Code.{degree}
 use Rattle.code.specs.Parameters.{sheet}
 use Rattle.layout.specs.Sizes.{length_high}

@@ -3,7 +3,7 @@ use native.Mathlib.Nat as Nat
 use native.Mathlib.Omega.{arith}
 use Prim.Native.Nat.{ℕ, ◌+◌, ◌/◌, ◌^◌, ◌<◌}
 use lib.Pow.{pow_mono}
-use Rattle.code.specs.Accepted.{accepted, degree-high}
+use Rattle.code.proofs.Accepted.{accepted, degree-high}
 use Rattle.code.specs.Code.{remainder}
 use Rattle.code.specs.Layout.{one_block, page_of}
 use Rattle.code.specs.Parameters.{stored}

@@ -1,7 +1,7 @@
 use native.Mathlib.Omega.{arith}
 use mathlib.Core.Path.{◌≡◌, refl, ◌∙◌}
 use lib.ListN.{length, length-set}
-use Rattle.code.specs.Filled.{filled-all, filled-first, filled_next}
+use Rattle.code.proofs.Filled.{filled-all, filled-first, filled_next}
 use Rattle.unmix.proofs.column.Goals as goal
 
 pub loop-l-init : goal.loop-l-init

@@ -4,9 +4,9 @@ use Prim.Native.Nat.{ℕ, ◌+◌, ◌*◌}
 use native.Mathlib.Numerals.{add-one}
 use native.Mathlib.Omega.{arith}
 use lib.ListN.{length, get_or, take, replicate}
-use Rattle.code.specs.Filled.{map-length}
+use Rattle.code.proofs.Filled.{map-length}
 use Rattle.code.specs.Lists.{range}
-use Rattle.code.specs.Pages.{zeros-length}
+use Rattle.code.proofs.Pages.{zeros-length}
 use Rattle.unmix.specs.Sums.{below-map}
 use Rattle.unmix.specs.Weights.{unmixed-is}
 use Rattle.unmix.proofs.error_at.Goals as goal

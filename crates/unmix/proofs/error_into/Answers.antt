@@ -1,7 +1,7 @@
 use mathlib.Core.Path.{◌≡◌, refl, ◌∙◌}
 use native.Mathlib.Omega.{arith}
 use lib.ListN.{length, length-set}
-use Rattle.code.specs.Filled.{filled-all, filled-first, filled_next}
+use Rattle.code.proofs.Filled.{filled-all, filled-first, filled_next}
 use Rattle.unmix.proofs.error_into.Goals as goal
 
 pub loop-k-init : goal.loop-k-init

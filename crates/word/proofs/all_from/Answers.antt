@@ -1,4 +1,4 @@
-use Rattle.code.specs.Accepted.{accepted}
+use Rattle.code.proofs.Accepted.{accepted}
 use Rattle.element.specs.Fields.{field-at}
 use Rattle.word.specs.Level.{all_are}
 use Rattle.word.proofs.all_from.Goals as goal

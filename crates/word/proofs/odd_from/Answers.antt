@@ -1,4 +1,4 @@
-use Rattle.code.specs.Accepted.{accepted}
+use Rattle.code.proofs.Accepted.{accepted}
 use Rattle.element.specs.Fields.{field-at}
 use Rattle.word.specs.Level.{odd-are}
 use Rattle.word.proofs.odd_from.Goals as goal

@@ -1,0 +1,39 @@
+-- The laws about the definitions of specs/ and the theorems of demands 2 and 3.
+-- On words:
+pub mod Steps
+pub mod Values
+pub mod Distance
+pub mod Newton
+pub mod Encode
+pub mod Places
+-- On accepted parameters and on bytes:
+pub mod Chains
+pub mod Accepted
+pub mod Bytes
+pub mod Pages
+pub mod Judge
+pub mod Refused
+pub mod Answers
+pub mod Placement
+pub mod Filled
+pub mod Blank
+pub mod Shortened
+pub mod Registers
+pub mod Buffers
+pub mod Degrees
+pub mod Odd
+pub mod Quote
+pub mod Many
+-- The theorems; Firmware is demand 3 of the C calls:
+pub mod Bursts
+pub mod Alter
+pub mod Mend
+pub mod Rounds
+pub mod Solved
+pub mod Passes
+pub mod Recovery
+pub mod Ending
+pub mod Reach
+pub mod Mending
+pub mod Theorems
+pub mod Firmware
