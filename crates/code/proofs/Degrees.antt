@@ -8,7 +8,8 @@ use Rattle.std.proofs.Math.Dec.{eqb_refl}
 use Rattle.field.specs.Fields.{BinaryField, field_of, field_of-exponent}
 use Rattle.field.specs.Powers.{n_pos}
 use Rattle.generator.specs.Exponents.{Orbit, exponents}
-use Rattle.generator.proofs.Exponents.{exponents-ind, exponents-mem, orbit-exponents}
+use Rattle.generator.specs.Exponents.{exponents-ind, exponents-mem}
+use Rattle.generator.proofs.Exponents.{orbit-exponents}
 use Rattle.generator.specs.Generator.{width, width-eq}
 use Rattle.generator.proofs.Generator.{length-le}
 use Rattle.generator.specs.Distinct.{Mem, Once}

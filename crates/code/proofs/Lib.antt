@@ -28,6 +28,7 @@ pub mod Many
 pub mod Bursts
 pub mod Alter
 pub mod Mend
+pub mod Nodes
 pub mod Rounds
 pub mod Solved
 pub mod Passes

@@ -23,7 +23,7 @@ use Rattle.code.specs.declared.Parameters.{Parameters}
 use Rattle.code.specs.Accepted.{Rules}
 use Rattle.code.proofs.Accepted.{lawful, stored-le}
 use Rattle.code.proofs.Chains.{exact_none, exact-of, given, last, off, off', or_assoc, or-le, or-none, or-second, past, unless, when-le}
-use Rattle.code.specs.Code.{Flips, Near, before, first_of, gen, nearest, passes, remainder, tried, unflipped}
+use Rattle.code.specs.Code.{Flips, Near, before, first_of, gen, nearest, passes, remainder, tried, unflipped, nearest-eq}
 use Rattle.code.proofs.Judge.{multiple-iff}
 use Rattle.code.specs.Layout.{IsPage, flipped, mending, no_place, page_bytes, page_clear, place_list, word_sizes, words_of}
 use Rattle.code.specs.Lists.{◌or_else◌, ◌when◌, join, last_refusal, part}
@@ -200,10 +200,6 @@ module _ (p : Parameters) (R : Rules p) (a : ℕ) (av : a ≤ p.v) (y : ℕ) whe
         flips-inj (stored p) Q S f.rising g.rising
         (sym (xor-cancel y (flips Q)) ∙ ap (xor y) (near-once (xor y (flips Q)) (xor y (flips S)) (flips-near Q f) (flips-near S g)) ∙ xor-cancel y (flips S))
 
-    nearest-eq : nearest p a y ≡ tried (passes p a) 0 (stored p) (strength p a) y
-    unfolding nearest
-    nearest-eq = refl
-
     found-flips : (Q : List ℕ) → Found (passes p a) 0 (stored p) (strength p a) y Q → Flips p a y Q
     found-flips Q f = record { rising = f.rising; few = f.few; multiple = (passes-iff (xor y (flips Q))).0 f.passes }
 
@@ -212,7 +208,7 @@ module _ (p : Parameters) (R : Rules p) (a : ℕ) (av : a ≤ p.v) (y : ℕ) whe
 
     pub nearest-sound : (Q : List ℕ) → nearest p a y ≡ some Q → Flips p a y Q
     nearest-sound Q e =
-        found-flips Q (tried-sound (passes p a) 0 (stored p) (stored p) (strength p a) y Q (Nat.zero-add (stored p)) (sym nearest-eq ∙ e))
+        found-flips Q (tried-sound (passes p a) 0 (stored p) (stored p) (strength p a) y Q (Nat.zero-add (stored p)) (sym (nearest-eq p a y) ∙ e))
 
     -- the flips are found exactly where there are such
     pub nearest-iff : (Q : List ℕ) → (nearest p a y ≡ some Q) ↔ Flips p a y Q
@@ -221,7 +217,7 @@ module _ (p : Parameters) (R : Rules p) (a : ℕ) (av : a ≤ p.v) (y : ℕ) whe
         go : (o : Option (List ℕ)) → nearest p a y ≡ o → Flips p a y Q → nearest p a y ≡ some Q
         go (some S) e f = e ∙ ap some (flips-once S Q (nearest-sound S e) f)
         go none e f =
-            absurd (tried-none (passes p a) 0 (stored p) (stored p) (strength p a) y Q (Nat.zero-add (stored p)) (sym nearest-eq ∙ e) (flips-found Q f))
+            absurd (tried-none (passes p a) 0 (stored p) (stored p) (strength p a) y Q (Nat.zero-add (stored p)) (sym (nearest-eq p a y) ∙ e) (flips-found Q f))
 
     pub nearest-none : (nearest p a y ≡ none) ↔ ((c : ℕ) → ¬ Near p a y c)
     nearest-none = (

@@ -24,7 +24,7 @@ use Rattle.code.proofs.Accepted.{q-high}
 -- ---- the lists, number by number
 pub length-odd : (p : Parameters) (t c : ℕ) → length (odd_syndromes p t c) ≡ t
 unfolding odd_syndromes
-length-odd p t c = length-map (range 0 t) (λ i. syndrome p.q c (2 * i + 1)) ∙ length-range 0 t
+length-odd p t c = length-map (range 0 t) _ ∙ length-range 0 t
 
 -- place i holds S_(2i + 1)
 pub odd-at : (p : Parameters) (t c i : ℕ) → i < t → get_or (odd_syndromes p t c) i 0 ≡ syndrome p.q c (2 * i + 1)

@@ -15,7 +15,7 @@ use Rattle.code.proofs.Bytes.{Small, bytes-join, join-add, join-split, length-jo
 use Rattle.code.specs.Code.{data_from, data_words, degree, encode}
 use Rattle.code.proofs.Distance.{add-lt}
 use Rattle.code.proofs.Encode.{Sized, data-encode, data-fits, encode-add, encode-length, encode-lt}
-use Rattle.code.specs.Layout.{Fits, IsPage, block_bits, block_sizes, blocks_clear, blocks_of}
+use Rattle.code.specs.Layout.{Fits, IsPage, block_bits, block_sizes, blocks_clear, blocks_of, page_clear-eq}
 use Rattle.code.specs.Layout.{data_bits, data_bytes, data_of, page_bytes, page_clear, page_of, stored_of, word_sizes, words_of}
 use Rattle.code.specs.Lists.{each, fits_in, join, range, split, sum}
 use Rattle.code.specs.Parameters.{stored, sub_word_bytes}
@@ -45,10 +45,6 @@ stored_of-eq p x = refl
 pub data_of-eq : (p : Parameters) (x : List ℕ) → data_of p x ≡ join (block_sizes p) (data_words p (stored_of p x))
 unfolding data_of
 data_of-eq p x = refl
-
-pub page_clear-eq : (p : Parameters) (x : List ℕ) → page_clear p x ≡ each fits_in (replicate p.m (stored p)) (words_of p x)
-unfolding page_clear
-page_clear-eq p x = refl
 
 pub blocks_clear-eq : (p : Parameters) (x : List ℕ) → blocks_clear p x ≡ each fits_in (block_bits p) (blocks_of p x)
 unfolding blocks_clear

@@ -31,6 +31,7 @@ use Rattle.code.proofs.Degrees.{of_some}
 use Rattle.code.proofs.Distance.{Passing, eval-nested-root, nested-add, pow-differ, root-apart, root≢zero}
 use Rattle.code.proofs.Judge.{multiple-iff}
 use Rattle.code.specs.Lists.{any, range}
+use Rattle.code.proofs.Nodes as Nodes
 use Rattle.code.proofs.Mend.{flips-once, nearest-sound, same-option, tried-none, tried-sound}
 use Rattle.code.specs.Nest.{ErrorBy, Mem, Work, agrees, agrees-eq, alone, error_of, error_of-eq, error_syndrome, error_syndrome-eq, found, found-eq}
 use Rattle.code.specs.Nest.{kept_by, mend_all, mend_all-cons, mend_all-nil, mend_by, node, others, others-cons, others-nil, round, round-broken, round-words}
@@ -483,11 +484,7 @@ module _ (p : Parameters) (A : Accepted p) where
   L = lawful p R
 
   pub node-apart : (j i k : ℕ) → 0 < j → j ≤ 2 * strength p p.v → i < p.m → k < p.m → i ≢ k → node B j i ≢ node B j k
-  node-apart j i k h b hi hk d = or (dec_le i k)
-    where
-      or : Dec (i ≤ k) → node B j i ≢ node B j k
-      or (yes l) e = pow-differ F (pow F α j) (root≢zero F α p L j) i k l (root-apart F α p L j h b (k - i) (omega arith) (omega arith)) (sym e)
-      or (no l) e = pow-differ F (pow F α j) (root≢zero F α p L j) k i (omega arith) (root-apart F α p L j h b (i - k) (omega arith) (omega arith)) e
+  node-apart = Nodes.node-apart p R
 
   errors-apart : (g : ℕ → ℕ) (j i : ℕ) → 0 < j → j ≤ 2 * strength p p.v → i < p.m → (ks : List ℕ) → All (λ k. (k ≢ i) × (k < p.m)) ks
       → All (λ q. q.0 ≢ node B j i) (errors F (pow F α j) g ks)

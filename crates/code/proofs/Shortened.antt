@@ -21,11 +21,11 @@ use Rattle.code.specs.Calls.{page_verdict}
 use Rattle.code.proofs.Chains.{off, on, or_assoc, or-last, or-none, or-second, right, unless}
 use Rattle.code.specs.Code.{IsMember, data_words, degree, encode, gen, nested, verdict}
 use Rattle.code.proofs.Encode.{Sized, unshortened-words}
-use Rattle.code.specs.Layout.{Fits, blank, block_bit, block_bits, block_sizes, blocks_clear, blocks_of, data_bits}
+use Rattle.code.specs.Layout.{Fits, blank, block_bit, block_bits, block_sizes, blocks_clear, blocks_of, data_bits, page_clear-eq}
 use Rattle.code.specs.Layout.{data_of, page_clear, page_of, word_sizes, words_of}
 use Rattle.code.specs.Lists.{◌or_else◌, ◌when◌, each, fits_in, join, ones_in, range, split}
 use Rattle.code.proofs.Pages.{IsBlocks, block_bits-eq, block_sizes-eq, blocks-blocks, blocks-fit, blocks-join, blocks_clear-eq, join-blocks}
-use Rattle.code.proofs.Pages.{blocks_of-eq, data_of-eq, page-has, page_clear-eq, page_of-eq, stored_of-eq, words_of-eq}
+use Rattle.code.proofs.Pages.{blocks_of-eq, data_of-eq, page-has, page_of-eq, stored_of-eq, words_of-eq}
 use Rattle.code.specs.Parameters.{Accepted, clashes, field_known, len, shape_fits, sheet_refusal, short_fits, strengths_fit}
 use Rattle.code.specs.Parameters.{sub_word_bytes, unshortened}
 use Rattle.code.proofs.Placement.{at-sized, block-bit, sized-at}

@@ -19,7 +19,7 @@
 --   Flips p a y R       R are such places, rising
 --   Near p a y c        c is such a multiple: of g_a, 0 in its top s places, and other than y in at most t_a places
 --   distance p          the smallest of (v + 1)(2 t_0 + 1) and b (2 t_(v-b+1) + 1), b from 1 to v
-use Rattle.std.specs.Prelude.{Bool, not, cond, List, [], ◌∷◌, map, ℕ, zero, suc, ◌+◌, ◌-◌, ◌*◌, ◌/◌, ◌^◌, ◌≤◌, ◌<◌, min, eqb, ltb, length, get_or}
+use Rattle.std.specs.Prelude.{◌≡◌, refl, Bool, not, cond, List, [], ◌∷◌, map, ℕ, zero, suc, ◌+◌, ◌-◌, ◌*◌, ◌/◌, ◌^◌, ◌≤◌, ◌<◌, min, eqb, ltb, length, get_or}
 use Rattle.std.proofs.Math.Option.{Option, none, some}
 use Rattle.polynomial.specs.Clmul.{clmul}
 use Rattle.polynomial.specs.Division.{rem, quot, deg}
@@ -201,6 +201,10 @@ passes p a c = eqb (remainder p a c) 0
 unfoldable pub nearest : Parameters → ℕ → ℕ → Option (List ℕ)
 unfolding tried rem gen degree
 nearest p a y = tried (passes p a) 0 (stored p) (strength p a) y
+
+pub nearest-eq : (p : Parameters) (a y : ℕ) → nearest p a y ≡ tried (passes p a) 0 (stored p) (strength p a) y
+unfolding nearest
+nearest-eq p a y = refl
 
 pub record Flips (p : Parameters) (a y : ℕ) (R : List ℕ) : Type 0 where
   pub rising : Rising 0 (stored p) R

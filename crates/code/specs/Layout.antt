@@ -20,7 +20,7 @@
 --   mended_page p x        the page x mended through its nested words; or none
 --   flips_in p x y i       the number of places at which the coefficients of sub-word i of two pages differ
 --   differences p x y     the number of pairs of a sub-word i and a place k at which the coefficients of two pages differ
-use Rattle.std.specs.Prelude.{◌≡◌, Bool, not, cond, List, ◌++◌, map, ℕ, ◌+◌, ◌-◌, ◌*◌, ◌/◌, ◌%◌, ◌^◌, ◌<◌, T, eqb, length, get_or, set, replicate, take}
+use Rattle.std.specs.Prelude.{◌≡◌, refl, Bool, not, cond, List, ◌++◌, map, ℕ, ◌+◌, ◌-◌, ◌*◌, ◌/◌, ◌%◌, ◌^◌, ◌<◌, T, eqb, length, get_or, set, replicate, take}
 use Rattle.std.proofs.Math.Option.{Option, none, some}
 use Rattle.polynomial.specs.Bits.{coefficient}
 use Rattle.polynomial.specs.Sums.{All, add}
@@ -46,6 +46,10 @@ words_of p page = split (word_sizes p) page
 unfoldable pub page_clear : Parameters → List ℕ → Bool
 unfolding each words_of
 page_clear p page = each fits_in (replicate p.m (stored p)) (words_of p page)
+
+pub page_clear-eq : (p : Parameters) (x : List ℕ) → page_clear p x ≡ each fits_in (replicate p.m (stored p)) (words_of p x)
+unfolding page_clear
+page_clear-eq p x = refl
 
 -- the stored coefficients alone
 unfoldable pub stored_of : Parameters → List ℕ → List ℕ

@@ -125,15 +125,13 @@ unfoldable pub end : Parameters → List ℕ → Option (List ℕ)
 unfolding failing_number all_ones
 end p ws = cond (eqb (failing_number p ws) 0 && not (all_ones p ws)) (some ws) none
 
--- the most broken words that a round takes, and what comes where rounds end before: nothing
 -- b broken: none, or at most v, of which a round leaves fewer
 unfoldable pub rounds : Parameters → ℕ → Work → Option (List ℕ)
 unfolding end round
 rounds p zero W = cond (leb (length W.broken) 0) (end p W.words) none
 rounds p (suc f) W =
     cond (leb (length W.broken) 0) (end p W.words)
-    (cond (leb (length W.broken) p.v)
-    (cond (ltb (length (round p W).broken) (length W.broken)) (rounds p f (round p W)) none) none)
+    (cond (leb (length W.broken) p.v) (cond (ltb (length (round p W).broken) (length W.broken)) (rounds p f (round p W)) none) none)
 
 unfoldable pub mend_page : Parameters → List ℕ → Option (List ℕ)
 unfolding rounds start

@@ -9,24 +9,7 @@ use Rattle.std.proofs.Common.{sym, ap, ◌∙◌, inl, inr, zero-le, suc-le-suc,
 use Rattle.std.proofs.Math.Nat.{pow-zero, add-mul-mod_self_right, mod-mod, zero-mod}
 use Rattle.generator.specs.Distinct.{Mem, Once, distinct}
 use Rattle.generator.specs.Distinct.{distinct-once, mem-distinct, distinct-mem}
-use Rattle.generator.specs.Exponents.{Orbit, coset, exponents, last_root, mod-mul-l, row, row-ind, row-mem, values, values-ind, values-mem}
-
-pub coset-mem : (n q j s : ℕ) → s < q → Mem (j * 2 ^ s % n) (coset n q j)
-unfolding coset
-coset-mem n q j s l = mem-distinct (j * 2 ^ s % n) (row n j q) (row-mem n j q s l)
-
-pub coset-ind : (P : ℕ → Type 0) (n q j : ℕ) → ((s : ℕ) → s < q → P (j * 2 ^ s % n)) → (a : ℕ) → Mem a (coset n q j) → P a
-unfolding coset
-coset-ind P n q j f a m = row-ind P n j q f a (distinct-mem (row n j q) a m)
-
-pub exponents-mem : (n q t j s : ℕ) → 0 < j → j ≤ last_root t → s < q → Mem (j * 2 ^ s % n) (exponents n q t)
-unfolding exponents
-exponents-mem n q t j s p h l = mem-distinct (j * 2 ^ s % n) (values n q (last_root t)) (values-mem n q (last_root t) j s p h l)
-
-pub exponents-ind : (P : ℕ → Type 0) (n q t : ℕ) → ((j s : ℕ) → 0 < j → j ≤ last_root t → s < q → P (j * 2 ^ s % n)) → (a : ℕ)
-    → Mem a (exponents n q t) → P a
-unfolding exponents
-exponents-ind P n q t f a m = values-ind P n q (last_root t) f a (distinct-mem (values n q (last_root t)) a m)
+use Rattle.generator.specs.Exponents.{Orbit, coset, exponents, last_root, mod-mul-l, row, row-ind, row-mem, values, values-ind, values-mem, coset-mem, coset-ind, exponents-mem, exponents-ind}
 
 coset-once : (n q j : ℕ) → Once (coset n q j)
 unfolding coset

@@ -17,7 +17,8 @@ use Rattle.field.specs.Field.{ring, add-self, mul_comm, mul-eq-zero, add-eq-zero
 use Rattle.field.specs.Fields.{BinaryField}
 use Rattle.field.specs.Powers.{pow-mod, n_pos, eval-double}
 use Rattle.generator.specs.Exponents.{coset, exponents}
-use Rattle.generator.proofs.Exponents.{coset-self, coset-ind, exponents-ind, exponents-mono, exponents-pos, exponents-self}
+use Rattle.generator.specs.Exponents.{coset-ind, exponents-ind}
+use Rattle.generator.proofs.Exponents.{coset-self, exponents-mono, exponents-pos, exponents-self}
 use Rattle.generator.specs.Exponents.{Orbit, orbit-join, upto, upto-mem, length-upto}
 use Rattle.generator.proofs.Exponents.{orbit-coset, orbit-exponents}
 use Rattle.generator.specs.Distinct.{Mem, mem-join, mem-map, map-mem}

@@ -5,7 +5,7 @@ use Rattle.std.proofs.Common.{sym, ap, ◌∙◌, inl, inr, zero-le, suc-le-suc,
 use Rattle.std.proofs.Math.Nat.{mod-mod}
 use Rattle.generator.specs.Distinct.{Mem}
 use Rattle.generator.specs.Exponents.{mod-mul-l, coset, exponents}
-use Rattle.generator.proofs.Exponents.{coset-mem, coset-ind, exponents-mem, exponents-ind}
+use Rattle.generator.specs.Exponents.{coset-mem, coset-ind, exponents-mem, exponents-ind}
 use Rattle.generator.proofs.Exponents.{exponents-self, orbit-coset, orbit-exponents, again, back-mem, nonzero}
 use Rattle.generator.specs.Leaders.{leader}
 

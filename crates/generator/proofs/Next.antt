@@ -8,7 +8,8 @@ use Rattle.polynomial.specs.Division.{deg-mul, deg-unique}
 use Rattle.field.specs.Fields.{BinaryField}
 use Rattle.field.specs.Powers.{n_pos}
 use Rattle.generator.specs.Exponents.{row, values, coset, exponents}
-use Rattle.generator.proofs.Exponents.{coset-ind, exponents-mem, exponents-mono}
+use Rattle.generator.specs.Exponents.{coset-ind, exponents-mem}
+use Rattle.generator.proofs.Exponents.{exponents-mono}
 use Rattle.generator.specs.Exponents.{Orbit, orbit-join, row-mem, length-row}
 use Rattle.generator.proofs.Exponents.{orbit-coset, orbit-exponents}
 use Rattle.generator.specs.Generator.{with_roots, generator, generator-eq}

@@ -3,7 +3,7 @@ use Rattle.std.specs.Prelude.{◌≡◌, refl, ◌⊎◌, List, [], ◌∷◌, �
 use Rattle.std.proofs.Common.{sym, ap, ◌∙◌, inl, inr, zero-le, suc-le-suc, le_refl, not-suc-le-zero, le_of_suc-le-suc, eq-or-lt_of_le, div-add-mod', arith}
 use Rattle.std.proofs.Math.Nat.{add-mul-mod_self_right}
 use Rattle.generator.specs.Distinct.{Mem, Once, mem-left, mem-right, mem-join, distinct}
-use Rattle.generator.specs.Distinct.{once_join}
+use Rattle.generator.specs.Distinct.{distinct-mem, mem-distinct, once_join}
 
 -- ---- products modulo n
 pub mod-mul-l : (a b n : ℕ) → (a % n) * b % n ≡ a * b % n
@@ -94,6 +94,23 @@ coset n q j = distinct (row n j q)
 unfoldable pub exponents : ℕ → ℕ → ℕ → List ℕ
 unfolding distinct values
 exponents n q t = distinct (values n q (last_root t))
+
+pub coset-mem : (n q j s : ℕ) → s < q → Mem (j * 2 ^ s % n) (coset n q j)
+unfolding coset
+coset-mem n q j s l = mem-distinct (j * 2 ^ s % n) (row n j q) (row-mem n j q s l)
+
+pub coset-ind : (P : ℕ → Type 0) (n q j : ℕ) → ((s : ℕ) → s < q → P (j * 2 ^ s % n)) → (a : ℕ) → Mem a (coset n q j) → P a
+unfolding coset
+coset-ind P n q j f a m = row-ind P n j q f a (distinct-mem (row n j q) a m)
+
+pub exponents-mem : (n q t j s : ℕ) → 0 < j → j ≤ last_root t → s < q → Mem (j * 2 ^ s % n) (exponents n q t)
+unfolding exponents
+exponents-mem n q t j s p h l = mem-distinct (j * 2 ^ s % n) (values n q (last_root t)) (values-mem n q (last_root t) j s p h l)
+
+pub exponents-ind : (P : ℕ → Type 0) (n q t : ℕ) → ((j s : ℕ) → 0 < j → j ≤ last_root t → s < q → P (j * 2 ^ s % n)) → (a : ℕ)
+    → Mem a (exponents n q t) → P a
+unfolding exponents
+exponents-ind P n q t f a m = values-ind P n q (last_root t) f a (distinct-mem (values n q (last_root t)) a m)
 
 pub orbit-join : (n : ℕ) (E D : List ℕ) → Orbit n E → Orbit n D → ((a : ℕ) → Mem a E → Mem a D → ⊥) → Orbit n (E ++ D)
 orbit-join n E D o p d = record {

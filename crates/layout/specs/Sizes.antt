@@ -6,7 +6,7 @@ use Rattle.std.proofs.Common.{◌∙◌, zero-le, suc-le-suc, arith, lit≤, lit
 use Rattle.std.proofs.Math.Nat as Nat
 use Rattle.field.specs.Fields.{BinaryField, field_of, field_of-exponent, by-known}
 use Rattle.generator.specs.Exponents.{exponents}
-use Rattle.generator.proofs.Exponents.{exponents-mem}
+use Rattle.generator.specs.Exponents.{exponents-mem}
 use Rattle.generator.specs.Generator.{width, width-eq}
 use Rattle.generator.specs.Distinct.{Mem}
 use Rattle.code.specs.declared.Parameters.{Parameters}
