@@ -923,31 +923,31 @@ def as_list(xs):
 
 
 def layouts():
-    table('offsets', 'Where each block begins.', 'blockOffset range')
+    table('offsets', 'Where each block begins.', 'block_offset range')
     for s in [A, B, TIGHT, EIGHT]:
-        numbers('map (blockOffset %s) (range 0 %d)' % (named(s), s[1]), [sum(block_bytes(s)[:i]) for i in range(s[1])])
-    table('placedBits', 'Coefficients of a page and bits of blocks, read off their bytes.', 'blockOffset range')
+        numbers('map (block_offset %s) (range 0 %d)' % (named(s), s[1]), [sum(block_bytes(s)[:i]) for i in range(s[1])])
+    table('placed_bits', 'Coefficients of a page and bits of blocks, read off their bytes.', 'block_offset range')
     for s, i in [(A, 0), (B, 2), (WIDE, 4)]:
         x = some_page(s)
-        numbers('map (%s %d) (range 0 15)' % (call('coefficientOf', s, x), i), words(s, x)[i])
+        numbers('map (%s %d) (range 0 15)' % (call('coefficient_of', s, x), i), words(s, x)[i])
     for s, i in [(A, 1), (B, 2), (TIGHT, 1)]:
         blocks, b = some_blocks(s), block_bits(s)[i]
-        numbers('map (%s %d) (range 0 %d)' % (call('blockBit', s, blocks), i, b), blocks_with_unused(s, blocks)[i][:b])
+        numbers('map (%s %d) (range 0 %d)' % (call('block_bit', s, blocks), i, b), blocks_with_unused(s, blocks)[i][:b])
 
 
 def equal_form():
     table('nestings', 'N(i, l) past what the call gives: i above 7, and l above i.', 'N range')
     numbers('map (N 9) (range 0 11)', [number(nesting(9, l)) for l in range(11)])
     numbers('map (λ i. N i 4) (range 0 10)', [number(nesting(i, 4)) for i in range(10)])
-    table('newtonSums', 'The sums Σ N(i, l) × c_i of the equal form.', 'wordsOf combine N')
+    table('newton_sums', 'The sums Σ N(i, l) × c_i of the equal form.', 'words_of combine N')
     for s, l in [(A, 0), (B, 0), (B, 1), (WIDE, 1), (DEEP, 2)]:
         x = some_page(s)
-        alone('newton %d (%s)' % (l, call('wordsOf', s, x)), number(newton(s, x, l)))
-    table('carries', 'What the later words add to the rule of sub-word i, at its level: nothing at level 0.', 'carried wordsOf')
+        alone('newton %d (%s)' % (l, call('words_of', s, x)), number(newton(s, x, l)))
+    table('carries', 'What the later words add to the rule of sub-word i, at its level: nothing at level 0.', 'carried words_of')
     for s, i in [(A, 0), (B, 1), (DEEP, 0), (DEEP, 3)]:
         x = some_page(s)
         level = max(s[2] - i, 0)
-        alone('carried %d %d (drop %d (%s))' % (level, i, i + 1, call('wordsOf', s, x)), number(carried(words(s, x), i)) if level else 0)
+        alone('carried %d %d (drop %d (%s))' % (level, i, i + 1, call('words_of', s, x)), number(carried(words(s, x), i)) if level else 0)
 
 
 def divisors():
@@ -957,7 +957,7 @@ def divisors():
 
 
 def page_differences():
-    table('bitsApart', 'Two pages: at how many places they differ; their spare bits count for nothing.', 'differences')
+    table('bits_apart', 'Two pages: at how many places they differ; their spare bits count for nothing.', 'differences')
     x, y = some_page(B), some_page(B)
     for s, a, b in [(B, x, y), (B, x, x), (B, x, flipped(B, x, (1, 14), (0, 0))), (A, [0x00] * 4, [0xFF] * 4)]:
         alone(call('differences', s, a, b), differences(s, a, b))
@@ -979,27 +979,27 @@ def parts():
     table('cuts', 'A polynomial cut for feeding, highest power first: the parts\' widths, and the parts.', 'sum')
     word, widths = [below(2) for _ in range(15)], [3, 8, 4]
     text = 'cut 0x%X %s' % (number(word), as_list(widths))
-    numbers('map (λ u. u .0) (%s)' % text, widths)
-    numbers('map (λ u. u .1) (%s)' % text, cut(word, widths))
-    table('fedParts', 'The parts fed in turn from the empty register: level, count and words.', 'fed sum pow')
+    numbers('map (λ u. u.0) (%s)' % text, widths)
+    numbers('map (λ u. u.1) (%s)' % text, cut(word, widths))
+    table('fed_parts', 'The parts fed in turn from the empty register: level, count and words.', 'fed sum pow')
     for s, level, widths in [(B, 2, [7, 1, 7]), (TIGHT, 0, [4, 11])]:
         fed_in_parts(s, level, widths)
 
 
 def field_sums():
-    table('fieldSums', 'The powers of α, and a syndrome as the sum Σ c_k α^(j k).', 'power sumBelow xor range')
+    table('field_sums', 'The powers of α, and a syndrome as the sum Σ c_k α^(j k).', 'power sum_below xor range')
     numbers('map (power 4) (range 0 16)', [powers(4)[k % 15] for k in range(16)])
     word = [below(2) for _ in range(15)]
-    alone('sumBelow 15 (λ k. coefficient 0x%X k * power 4 (3 * k))' % number(word), syndrome(4, word, 3))
+    alone('sum_below 15 (λ k. coefficient 0x%X k * power 4 (3 * k))' % number(word), syndrome(4, word, 3))
 
 
 def bytes_for_c():
-    table('bytePairs', 'Numbers as C takes them, two bytes each, low byte first, and read back.', 'asBytes asNumbers')
+    table('byte_pairs', 'Numbers as C takes them, two bytes each, low byte first, and read back.', 'as_bytes as_numbers')
     xs = [0, 255, 256, 4095, 65535]
-    row('asBytes %s' % as_list(xs), listed(hexed(low_byte_first(xs))))
-    numbers('asNumbers (asBytes %s)' % as_list(xs), xs)
+    row('as_bytes %s' % as_list(xs), listed(hexed(low_byte_first(xs))))
+    numbers('as_numbers (as_bytes %s)' % as_list(xs), xs)
     for xs in ([], [0x12], [0x34, 0x12], [0x34, 0x12, 0x56], [0xFF, 0xFF, 0x00, 0x01, 0x01, 0x00]):
-        numbers('asNumbers %s' % data(xs), [a + 256 * b for a, b in zip(xs[::2], xs[1::2])])
+        numbers('as_numbers %s' % data(xs), [a + 256 * b for a, b in zip(xs[::2], xs[1::2])])
 
 
 def writings():
@@ -1010,20 +1010,20 @@ def writings():
 
 def feedings(sheet, steps):
     """What refuses each of some feedings: width, level, count, number."""
-    in_turn([call('feedRefusal', sheet, width, '(record { level = %d; count = %d; remainder = replicate 12 0 })' % (level, count), u) for width, level, count, u in steps],
+    in_turn([call('feed_refusal', sheet, width, '(record { level = %d; count = %d; remainder = replicate 12 0 })' % (level, count), u) for width, level, count, u in steps],
             [refusal(sheet, width=width, fed=u, register=(level, count, 0)) for width, level, count, u in steps])
 
 
 def huge_numbers():
     """Numbers that would not end if a range, a power or a list were made of them."""
-    table('hugeNumbers', 'Huge numbers: sheets; a register, its width and what is fed; an index.', 'sheetRefusal feedRefusal wordRefusal')
+    table('huge_numbers', 'Huge numbers: sheets; a register, its width and what is fed; an index.', 'sheet_refusal feed_refusal word_refusal')
     sheets = [(U32, 2, 1, 1, 2, 0, 0, 0), (4, U32, 1, 1, 2, 0, 0, 0), (4, 2, U32, 1, 2, 0, 0, 0), (4, 2, 1, 1, U32, 0, 0, 0), (4, 2, 1, 1, 2, 0, U32, 0),
               (12, 8, 3, 1, 2, 3, U32, 0)]
-    numbers('map sheetRefusal %s' % as_list(map(named, sheets)), [refusal(s) for s in sheets])
+    numbers('map sheet_refusal %s' % as_list(map(named, sheets)), [refusal(s) for s in sheets])
     steps = [(U32, U32, U64, U64), (64, 0, U64, U64), (1, U32, 0, 1)]
     feedings(A, steps)
     page = [0xC2, 0x01, 0x13, 0x00]
-    alone('%s %d 0' % (call('remainderRefusal', A, page), U64), refusal(A, page=page, sub_word=U64, room=(0, lambda: 96)))
+    alone('%s %d 0' % (call('remainder_refusal', A, page), U64), refusal(A, page=page, sub_word=U64, room=(0, lambda: 96)))
 
 
 def each(function, pages, answer):
@@ -1045,11 +1045,11 @@ def answered(number, leaves, answer):
 
 def written(sheet, blocks):
     size = page_bytes(sheet)
-    answered(call('writeRefusal', sheet, 8, blocks, size), call('writeLeaves', sheet, 8, blocks, old(size)), write(sheet, 8, blocks, [0xA5] * size))
+    answered(call('write_refusal', sheet, 8, blocks, size), call('write_leaves', sheet, 8, blocks, old(size)), write(sheet, 8, blocks, [0xA5] * size))
 
 
 def read(sheet, page, size):
-    answered(call('readNumber', sheet, page, old(size)), call('readLeaves', sheet, page, old(size)), read_out(sheet, page, [0xA5] * size))
+    answered(call('read_number', sheet, page, old(size)), call('read_leaves', sheet, page, old(size)), read_out(sheet, page, [0xA5] * size))
 
 
 def erased_pages():
@@ -1058,86 +1058,86 @@ def erased_pages():
     near = [[flipped(A, x, (i, k)) for i in (0, 1) for k in (0, 6, 14)] for x in (clear, full)]
     half = [[y for word in ([0x00, 0x00], [0x13, 0x00], [0x01, 0x00]) for y in (x[:2] + word, word + x[2:])] for x in (clear, full)]
 
-    table('erasedJudged', 'Judge on erased pages and on pages that are nearly so: spare bits in all patterns, all clear, all set.',
-          'judgeNumber judgeValues pow')
+    table('erased_judged', 'Judge on erased pages and on pages that are nearly so: spare bits in all patterns, all clear, all set.',
+          'judge_number judge_values pow')
     for pages in [patterns, *near, *half, [[0xFF] * size for size in (0, 3, 5, 6)]]:
-        each('judgeNumber A', pages, lambda x: judged(A, x)[0])
+        each('judge_number A', pages, lambda x: judged(A, x)[0])
     refused = [(5, 2, 1, 1, 2, 0, 0, 0), (4, 1, 1, 1, 2, 0, 0, 0), (4, 2, 1, 2, 2, 0, 0, 0), CLASH]
     for given in [[(B, erased(B, (0, 1, 0))), (SMALL, erased(SMALL, (1, 0, 1)))], [(PAIR, [0xFF] * 64), (PAIR, [0xFE] + [0xFF] * 63)],
                   [(s, [0xFF] * (2 * s[1])) for s in refused]]:
-        in_turn([call('judgeNumber', s, x) for s, x in given], [judged(s, x)[0] for s, x in given])
+        in_turn([call('judge_number', s, x) for s, x in given], [judged(s, x)[0] for s, x in given])
     for x in (full, near[0][5]):
-        numbers(call('judgeValues', A, x), judged(A, x)[1:])
+        numbers(call('judge_values', A, x), judged(A, x)[1:])
 
-    table('erasedRead', 'Read out on them: the number and what it leaves.', 'readNumber readLeaves pow')
+    table('erased_read', 'Read out on them: the number and what it leaves.', 'read_number read_leaves pow')
     for s, x, size in [*((A, x, 3) for x in patterns + [near[0][2], near[1][2]]), (B, erased(B, (0, 1, 0)), 4), (A, full, 2), (A, full[:-1], 3)]:
         read(s, x, size)
 
-    table('onesWritten', 'Write where every data bit is 1, or all but one: the number and what it leaves; 5, 6, 7 and 8 go before 13.',
-          'writeRefusal pageOf writer pow')
+    table('ones_written', 'Write where every data bit is 1, or all but one: the number and what it leaves; 5, 6, 7 and 8 go before 13.',
+          'write_refusal page_of writer pow')
     ones = all_ones(A)
     for s, blocks in [(A, ones), (A, all_but_one(A, 0, 0)), (A, all_but_one(A, 1, 10)), (A, [0xFF, 0xFF, 0x07]),
                       (B, all_ones(B)), (SMALL, all_ones(SMALL)), (SMALL, all_but_one(SMALL, 1, 0))]:
         written(s, blocks)
     wrong = [(0, ones, 4), (8, ones[:-1], 4), (8, ones, 5)]
-    in_turn([call('writeRefusal', A, *given) for given in wrong], [refusal(A, width, blocks, size) for width, blocks, size in wrong])
+    in_turn([call('write_refusal', A, *given) for given in wrong], [refusal(A, width, blocks, size) for width, blocks, size in wrong])
     x = [4, 2, 1, 8, 1, 2] + ones
     row('writer %s' % data(x), listed(hexed(writer(x))))
 
-    table('erasedWords', 'One word of an erased page, as of any other: 8 with a spare bit set, else worked out.',
-          'wordRefusal remainderBytes nestedWordBytes syndromeList nestedSyndromeList pow')
-    for name, part, size in [('remainderRefusal', 'sub_word', 96), ('nestedRefusal', 'nested_word', 2), ('syndromesRefusal 1', 'sub_word', 1)]:
+    table('erased_words', 'One word of an erased page, as of any other: 8 with a spare bit set, else worked out.',
+          'word_refusal remainder_bytes nested_word_bytes syndrome_list nested_syndrome_list pow')
+    for name, part, size in [('remainder_refusal', 'sub_word', 96), ('nested_refusal', 'nested_word', 2), ('syndromes_refusal 1', 'sub_word', 1)]:
         each('λ x. %s A x 0 %d' % (name, size), patterns, lambda x: refusal(A, page=x, room=(size, lambda: size), **{part: 0}))
-    row(call('remainderBytes', A, clear, 1), listed(hexed(remainder_bytes(A, clear, 1))))
+    row(call('remainder_bytes', A, clear, 1), listed(hexed(remainder_bytes(A, clear, 1))))
     for s in (A, B):
         x = erased(s, [0] * s[1])
-        row(call('nestedWordBytes', s, x, s[2] - 1), listed(hexed(nested_bytes(s, x, s[2] - 1))))
-    numbers(call('syndromeList', A, clear, 1), syndrome_list(A, clear, 1))
-    numbers(call('nestedSyndromeList', A, clear, 0), nested_syndrome_list(A, clear, 0))
+        row(call('nested_word_bytes', s, x, s[2] - 1), listed(hexed(nested_bytes(s, x, s[2] - 1))))
+    numbers(call('syndrome_list', A, clear, 1), syndrome_list(A, clear, 1))
+    numbers(call('nested_syndrome_list', A, clear, 0), nested_syndrome_list(A, clear, 0))
 
 
 def short_sheets():
-    table('shortSheets', 'Sheets with s: accepted up to n - w_v - 1, 14 above it, behind 1 to 4 and before every other number.',
-          'sheetRefusal writeRefusal judgeNumber readNumber wordRefusal openRefusal feedRefusal quoteRefusal')
+    table('short_sheets', 'Sheets with s: accepted up to n - w_v - 1, 14 above it, behind 1 to 4 and before every other number.',
+          'sheet_refusal write_refusal judge_number read_number word_refusal open_refusal feed_refusal quote_refusal')
     edges = [shortened(s, k) for s in (A, B, SMALL, EIGHT, TWELVE) for k in (largest(s), largest(s) + 1)]
     behind = [(5, 2, 1, 1, 2, 0, 0, U32), (4, 1, 1, 1, 2, 0, 0, U32), (4, 2, 1, 2, 2, 0, 0, U32), shortened(CLASH, U32), shortened(A, U32)]
     for sheets in (edges, behind):
-        numbers('map sheetRefusal %s' % as_list(map(named, sheets)), [refusal(s) for s in sheets])
+        numbers('map sheet_refusal %s' % as_list(map(named, sheets)), [refusal(s) for s in sheets])
     register, page = '(record { level = 9; count = 99; remainder = replicate 12 0 })', [0xFF] * 5
     for s in (A6, shortened(A, 7)):
-        in_turn([call('writeRefusal', s, 0, page, 5), call('judgeNumber', s, page), call('readNumber', s, page, page), call('remainderRefusal', s, page, 9, 5),
-                 call('openRefusal', s, 9), call('feedRefusal', s, 0, register, 1), call('quoteRefusal', 1, s, 5)],
+        in_turn([call('write_refusal', s, 0, page, 5), call('judge_number', s, page), call('read_number', s, page, page), call('remainder_refusal', s, page, 9, 5),
+                 call('open_refusal', s, 9), call('feed_refusal', s, 0, register, 1), call('quote_refusal', 1, s, 5)],
                 [refusal(s, width=0, blocks=page, page=5), judged(s, page)[0], read_out(s, page, page)[0], refusal(s, page=page, sub_word=9, room=(5, lambda: 96)),
                  opened(s, 9)[0], fed(s, 0, (9, 99, 0), 1)[0], refusal(s, room=(5, lambda: 12))])
 
 
 def short_sizes():
-    table('shortSizes', 'Sizes by s: bytes of page and blocks where n - s passes a multiple of 8, where blocks begin, and the quote.',
-          'dataBytes blockOffset distance quote range')
+    table('short_sizes', 'Sizes by s: bytes of page and blocks where n - s passes a multiple of 8, where blocks begin, and the quote.',
+          'data_bytes block_offset distance quote range')
     steps = [0, 6, 7, 8, 230, 231]
-    for name, size in (('pageBytes', page_bytes), ('dataBytes', data_bytes)):
+    for name, size in (('page_bytes', page_bytes), ('data_bytes', data_bytes)):
         numbers('map (λ s. %s (sheet %s s)) %s' % (name, ' '.join(map(str, PAIR[:7])), as_list(steps)), [size(shortened(PAIR, s)) for s in steps])
     s = shortened(EIGHT, 233)
-    numbers('map (blockOffset %s) (range 0 8)' % named(s), [sum(block_bytes(s)[:i]) for i in range(8)])
+    numbers('map (block_offset %s) (range 0 8)' % named(s), [sum(block_bytes(s)[:i]) for i in range(8)])
     numbers('map distance %s' % as_list(map(named, SHORTENED)), [distance(s) for s in SHORTENED])
     for s in (B4, s):
         numbers('quote %s' % named(s), quote(s))
 
 
 def short_pages():
-    table('shortPlaces', 'Coefficients, bits of blocks and differences of pages, of sub-words that take three bytes and four.', 'blockOffset differences range')
+    table('short_places', 'Coefficients, bits of blocks and differences of pages, of sub-words that take three bytes and four.', 'block_offset differences range')
     x = some_page(PAIR24)
-    numbers('map (%s 1) (range 0 24)' % call('coefficientOf', PAIR24, x), words(PAIR24, x)[1][:24])
+    numbers('map (%s 1) (range 0 24)' % call('coefficient_of', PAIR24, x), words(PAIR24, x)[1][:24])
     x = some_blocks(PAIR25)
-    numbers('map (%s 1) (range 0 17)' % call('blockBit', PAIR25, x), blocks_with_unused(PAIR25, x)[1][:17])
+    numbers('map (%s 1) (range 0 17)' % call('block_bit', PAIR25, x), blocks_with_unused(PAIR25, x)[1][:17])
     in_turn([call('differences', s, [0x00] * page_bytes(s), [0xFF] * page_bytes(s)) for s in (A3, PAIR24, PAIR25)],
             [differences(s, [0x00] * page_bytes(s), [0xFF] * page_bytes(s)) for s in (A3, PAIR24, PAIR25)])
 
-    table('shortWritten', 'Write: the number and what it leaves; blocks of ones are written too.', 'writeRefusal pageOf pow')
+    table('short_written', 'Write: the number and what it leaves; blocks of ones are written too.', 'write_refusal page_of pow')
     for s, blocks in [*((s, some_blocks(s)) for s in (A3, DEEP4, PAIR24)), *((s, all_ones(s)) for s in (shortened(A, 1), B4)), (A3, [0x10, 0x00])]:
         written(s, blocks)
 
-    table('shortJudged', 'Judge: members and words that fail; each spare bit; blank pages, their spare bits clear and set, and pages nearly so.', 'judgeNumber pow')
+    table('short_judged', 'Judge: members and words that fail; each spare bit; blank pages, their spare bits clear and set, and pages nearly so.', 'judge_number pow')
     x, y = some_member(A3), some_member(B4)
     strays = lambda s, x: [flipped(s, x, (i, k)) for i in range(s[1]) for k in range(stored(s), 8 * word_bytes(s))]
     blanks = lambda s, *spare: [erased(s, [a, b]) for a, b in spare]
@@ -1147,47 +1147,47 @@ def short_pages():
                      (A6, strays(A6, [0x00] * 4)[7:]), (A3, blanks(A3, (0, 0), (0, 1), (8, 0), (15, 15)) + nearly(A3, 0) + nearly(A3, 15)),
                      (PAIR24, blanks(PAIR24, (0, 0)) + nearly(PAIR24, 0) + [[0xFF] * size for size in (5, 7, 64)]),
                      (PAIR25, blanks(PAIR25, (0, 0), (64, 1), (127, 127)) + nearly(PAIR25, 127))]:
-        each('judgeNumber %s' % named(s), pages, lambda x: judged(s, x)[0])
+        each('judge_number %s' % named(s), pages, lambda x: judged(s, x)[0])
 
-    table('shortRead', 'Read out: the number and what it leaves.', 'readNumber readLeaves pow')
+    table('short_read', 'Read out: the number and what it leaves.', 'read_number read_leaves pow')
     for s, page in [(A3, x), (A3, flipped(A3, x, (1, 11))), (A3, flipped(A3, x, (1, 12))), (A6, *blanks(A6, (64, 127))), (PAIR25, *blanks(PAIR25, (127, 0)))]:
         read(s, page, data_bytes(s))
 
 
 def short_words():
-    table('shortWords', 'One word of a page: each spare bit; a nested word, where x^(l i) takes a coefficient past the stored ones and past n.',
-          'wordRefusal remainderBytes shortBytes nestedWordBytes syndromeList nestedSyndromeList pow')
+    table('short_words', 'One word of a page: each spare bit; a nested word, where x^(l i) takes a coefficient past the stored ones and past n.',
+          'word_refusal remainder_bytes short_bytes nested_word_bytes syndrome_list nested_syndrome_list pow')
     x = some_page(A6)
-    each('λ x. %s' % call('syndromesRefusal', 1, A6, 'x', 0, 1), [x] + [flipped(A6, x, (0, k)) for k in range(9, 16)],
+    each('λ x. %s' % call('syndromes_refusal', 1, A6, 'x', 0, 1), [x] + [flipped(A6, x, (0, k)) for k in range(9, 16)],
          lambda x: refusal(A6, page=x, sub_word=0, room=(1, lambda: 1)))
     page = some_page(PAIR24)
-    in_turn([call('nestedRefusal', PAIR24, page, 0, size) for size in (3, 32)], [refusal(PAIR24, page=page, nested_word=0, room=(size, lambda: nested_size(PAIR24))) for size in (3, 32)])
+    in_turn([call('nested_refusal', PAIR24, page, 0, size) for size in (3, 32)], [refusal(PAIR24, page=page, nested_word=0, room=(size, lambda: nested_size(PAIR24))) for size in (3, 32)])
     x = flipped(DEEP4, [0x00] * 10, (4, 10))
     for l in (1, 2):
-        row(call('nestedWordBytes', DEEP4, x, l), listed(hexed(nested_bytes(DEEP4, x, l))))
+        row(call('nested_word_bytes', DEEP4, x, l), listed(hexed(nested_bytes(DEEP4, x, l))))
     x, long = some_page(DEEP4), (8, 3, 2, 1, 2, 2, 0, 231)
     for s, page in [(DEEP4, x), (long, some_page(long))]:
-        row(call('nestedWordBytes', s, page, s[2] - 1), listed(hexed(nested_bytes(s, page, s[2] - 1))))
-    row(call('remainderBytes', DEEP4, x, 2), listed(hexed(remainder_bytes(DEEP4, x, 2))))
-    row(call('shortBytes', DEEP4, x, 1), listed(hexed(short_bytes(DEEP4, x, 1))))
-    numbers(call('syndromeList', DEEP4, x, 3), syndrome_list(DEEP4, x, 3))
-    numbers(call('nestedSyndromeList', DEEP4, x, 2), nested_syndrome_list(DEEP4, x, 2))
+        row(call('nested_word_bytes', s, page, s[2] - 1), listed(hexed(nested_bytes(s, page, s[2] - 1))))
+    row(call('remainder_bytes', DEEP4, x, 2), listed(hexed(remainder_bytes(DEEP4, x, 2))))
+    row(call('short_bytes', DEEP4, x, 1), listed(hexed(short_bytes(DEEP4, x, 1))))
+    numbers(call('syndrome_list', DEEP4, x, 3), syndrome_list(DEEP4, x, 3))
+    numbers(call('nested_syndrome_list', DEEP4, x, 2), nested_syndrome_list(DEEP4, x, 2))
 
 
 def short_registers():
-    table('shortFed', 'Registers: fed up to n - s, and what refuses a feeding there and past it.', 'fed feedRefusal sum pow')
+    table('short_fed', 'Registers: fed up to n - s, and what refuses a feeding there and past it.', 'fed feed_refusal sum pow')
     fed_in_parts(A3, 1, [5, 7])
     feedings(A3, [(1, 0, 11, 1), (1, 0, 12, 1), (12, 0, 0, 0), (13, 0, 0, 0), (1, 0, 14, 1)])
     feedings(PAIR24, [(24, 0, 0, 0), (25, 0, 0, 0), (64, 0, 191, 0)])
 
 
 def many_refused():
-    table('manyRefused', 'Many pages in one call, refused whole: the numbers in their order, counts, and lengths that are one off or of a page more or fewer.',
-          'manyRefusal')
+    table('many_refused', 'Many pages in one call, refused whole: the numbers in their order, counts, and lengths that are one off or of a page more or fewer.',
+          'many_refusal')
     exact = lambda s, count: [count * data_bytes(s), count * page_bytes(s), count]
 
     def whole(*given):
-        in_turn([call('manyRefusal', *g) for g in given],
+        in_turn([call('many_refusal', *g) for g in given],
                 [refusal(s, width=width, count=count, blocks=blocks, page=pages, room=(room, lambda: count)) for s, width, count, blocks, pages, room in given])
 
     def with_lengths(s, count):
@@ -1212,8 +1212,8 @@ def many_refused():
 
 
 def many_pages():
-    table('manyListed', 'Many pages in one call: the list, then the pages. Stray blocks (8) and blocks of ones (13; written where s is above 0), in every place, and alone.',
-          'statuses pagesBy pow')
+    table('many_listed', 'Many pages in one call: the list, then the pages. Stray blocks (8) and blocks of ones (13; written where s is above 0), in every place, and alone.',
+          'statuses pages_by pow')
 
     def made(s, width, *sets):
         count, blocks, pages = len(sets), [x for data in sets for x in data], some_bytes(len(sets) * page_bytes(s))
@@ -1252,12 +1252,12 @@ def ends_of_blocks(sheet):
 
 def alter_refused():
     code = lambda s, page, i, r, b: refusal(s, page=page, bit=(i, r, b))
-    whole = lambda *given: in_turn([call('alterRefusal', *g) for g in given], [code(*g) for g in given])
-    blocks = lambda s, page, indices, r, b: numbers('map (λ i. %s) %s' % (call('alterRefusal', s, page, 'i', r, b), as_list(indices)), [code(s, page, i, r, b) for i in indices])
-    places = lambda s, page, i, indices, b: numbers('map (λ r. %s) %s' % (call('alterRefusal', s, page, i, 'r', b), as_list(indices)), [code(s, page, i, r, b) for r in indices])
-    values = lambda s, page, i, r, bits: numbers('map (%s) %s' % (call('alterRefusal', s, page, i, r), as_list(bits)), [code(s, page, i, r, b) for b in bits])
+    whole = lambda *given: in_turn([call('alter_refusal', *g) for g in given], [code(*g) for g in given])
+    blocks = lambda s, page, indices, r, b: numbers('map (λ i. %s) %s' % (call('alter_refusal', s, page, 'i', r, b), as_list(indices)), [code(s, page, i, r, b) for i in indices])
+    places = lambda s, page, i, indices, b: numbers('map (λ r. %s) %s' % (call('alter_refusal', s, page, i, 'r', b), as_list(indices)), [code(s, page, i, r, b) for r in indices])
+    values = lambda s, page, i, r, bits: numbers('map (%s) %s' % (call('alter_refusal', s, page, i, r), as_list(bits)), [code(s, page, i, r, b) for b in bits])
 
-    table('alterRefused', 'One bit altered, refused: the numbers in their order; lengths, spare bits, and bits that are none.', 'alterRefusal pow')
+    table('alter_refused', 'One bit altered, refused: the numbers in their order; lengths, spare bits, and bits that are none.', 'alter_refusal pow')
     sheets = [(5, 2, 1, 1, 2, 0, 0, U32), (4, 1, 1, 1, 2, 0, 0, U32), (4, 2, 1, 2, 2, 0, 0, U32), shortened(CLASH, U32), shortened(A, 7)]
     whole(*[(s, [0xFF], 9, 99, 9) for s in sheets])
     # one condition less with each, then one or two alone
@@ -1268,7 +1268,7 @@ def alter_refused():
     for s, base in [(A, x), (A, clear), (B4, some_member(B4)), (A6, erased(A6, (0, 0)))]:
         strays = [flipped(s, base, (i, k)) for i in range(s[1]) for k in range(stored(s), 8 * word_bytes(s))]
         b = below(2)
-        each('λ x. %s' % call('alterRefusal', s, 'x', 0, 0, b), strays, lambda x: code(s, x, 0, 0, b))
+        each('λ x. %s' % call('alter_refusal', s, 'x', 0, 0, b), strays, lambda x: code(s, x, 0, 0, b))
     # blocks, bits and values at their ends, past them and far past them; on a blank page they go before 13
     for s in (A, B, A6, PAIR24):
         page = some_page(s)
@@ -1281,7 +1281,7 @@ def alter_refused():
     places(A, clear, 1, [0, 6, 7, 8, 10, 11, 256, 2 ** 32, U64, 2 ** 64], 1)
     values(A, clear, 1, 10, [0, 1, 2, 256, 257, 2 ** 32, U64, 2 ** 64 + 1])
 
-    table('alterBlanks', 'A blank page, at an equal value and at another; a page that another value would make blank, and pages near it.', 'alterRefusal pow')
+    table('alter_blanks', 'A blank page, at an equal value and at another; a page that another value would make blank, and pages near it.', 'alter_refusal pow')
     for s, ends in [(A, ends_of_blocks(A)), (A6, ends_of_blocks(A6)), (B4, [(0, 0), (2, 6)])]:
         ones = erased(s, [0] * s[1])
         near = [(altered(s, ones, i, r, 0), i, r) for i, r in ends]
@@ -1316,19 +1316,19 @@ def alter_made():
             blocks = [x | y if b else x & ~y for x, y in zip(data, one_bit(s, i, r))]
             code, *page = alter(s, page_of_blocks(s, data), i, r, b)
             assert refusal(s, blocks=blocks) == code and (code or page == page_of_blocks(s, blocks))
-    table('alterMembers', 'One bit of a member altered: the number, then the page. First and last bits of blocks, both values.', 'alterRefusal altered pow')
+    table('alter_members', 'One bit of a member altered: the number, then the page. First and last bits of blocks, both values.', 'alter_refusal altered pow')
     values(A, some_member(A), *ends_of_blocks(A))
     for s, i, r in [(B4, 0, 0), (B4, 1, 2), (B4, 2, 6), (DEEP, 1, 6), (DEEP, 4, 10)]:
         other(s, some_member(s), i, r)
 
-    table('alterPages', 'Of a page that is none.', 'alterRefusal altered pow')
+    table('alter_pages', 'Of a page that is none.', 'alter_refusal altered pow')
     page = some_page(B)
     assert failing(B, page)
     values(B, page, *ends_of_blocks(B))
     for s, i, r in [(A6, 0, 0), (A6, 1, 4), (WIDE, 2, 10), (ALIKE, 1, 0), (DEEP4, 3, 0), (PAIR24, 0, 7)]:
         other(s, some_page(s), i, r)
 
-    table('alterRest', 'Of the zero page, of a blank one and of one that would be blank; and refused, the page as it was.', 'alterRefusal altered pow')
+    table('alter_rest', 'Of the zero page, of a blank one and of one that would be blank; and refused, the page as it was.', 'alter_refusal altered pow')
     for s in (A, SMALL, B4):
         zeros, ones = [0x00] * page_bytes(s), erased(s, [0] * s[1])
         i, r = s[1] - 1, block_bits(s)[-1] - 1
@@ -1354,11 +1354,11 @@ def faults_test(sheet):
 
 def mend_refused():
     code = lambda s, page, i, size, unit=1: refusal(s, page=page, sub_word=i, room=(size, lambda: unit * strength(s, 0)), mending=True)
-    whole = lambda *given: in_turn([call('mendRefusal', 1, *g) for g in given], [code(*g) for g in given])
-    indices = lambda s, page, places: numbers('map (λ i. %s) %s' % (call('mendRefusal', 1, s, page, 'i', strength(s, 0)), as_list(places)), [code(s, page, i, strength(s, 0)) for i in places])
-    sizes = lambda s, page, unit, lengths: numbers('map (%s) %s' % (call('mendRefusal', unit, s, page, 0), as_list(lengths)), [code(s, page, 0, k, unit) for k in lengths])
+    whole = lambda *given: in_turn([call('mend_refusal', 1, *g) for g in given], [code(*g) for g in given])
+    indices = lambda s, page, places: numbers('map (λ i. %s) %s' % (call('mend_refusal', 1, s, page, 'i', strength(s, 0)), as_list(places)), [code(s, page, i, strength(s, 0)) for i in places])
+    sizes = lambda s, page, unit, lengths: numbers('map (%s) %s' % (call('mend_refusal', unit, s, page, 0), as_list(lengths)), [code(s, page, 0, k, unit) for k in lengths])
 
-    table('mendRefused', 'A sub-word to mend, refused: the numbers in their order; lengths, spare bits, indices, and lists of numbers and of bytes.', 'mendRefusal pow')
+    table('mend_refused', 'A sub-word to mend, refused: the numbers in their order; lengths, spare bits, indices, and lists of numbers and of bytes.', 'mend_refusal pow')
     sheets = [(5, 2, 1, 1, 2, 0, 0, U32), (4, 1, 1, 1, 2, 0, 0, U32), (4, 2, 1, 2, 2, 0, 0, U32), shortened(CLASH, U32), shortened(A, 7)]
     whole(*[(s, [0xFF], 9, 9) for s in sheets])
     # one condition less with each, then one or two alone
@@ -1371,7 +1371,7 @@ def mend_refused():
     # each spare bit, of any page and of a blank one
     for s, base in [(A, x), (A, erased(A, (0, 0))), (B4, some_page(B4)), (short, clear)]:
         strays = [flipped(s, base, (i, k)) for i in range(s[1]) for k in range(stored(s), 8 * word_bytes(s))]
-        each('λ x. %s' % call('mendRefusal', 1, s, 'x', 0, 1), strays, lambda x: code(s, x, 0, 1))
+        each('λ x. %s' % call('mend_refusal', 1, s, 'x', 0, 1), strays, lambda x: code(s, x, 0, 1))
     for s in (A, B, TWO, THREE, PAIR24):
         page = some_member(s)
         indices(s, page, [0, s[1] - 1, s[1], s[1] + 1, 256, 2 ** 32, U64, 2 ** 64])
@@ -1379,13 +1379,13 @@ def mend_refused():
         for unit in (1, 2):
             sizes(s, page, unit, sorted({0, t - 1, t, t + 1, 2 * t - 1, 2 * t, 2 * t + 1, 4 * t, 256, U64}))
 
-    table('mendNowhere', 'Words drawn, and each pair of neighbours alone: 15 where no multiple of g_0 is near, else 0.', 'mendRefusal pow')
+    table('mend_nowhere', 'Words drawn, and each pair of neighbours alone: 15 where no multiple of g_0 is near, else 0.', 'mend_refusal pow')
     answers = set()
     neighbours = lambda s: [flipped(s, [0x00] * page_bytes(s), (0, k), (0, k + 1)) for k in range(stored(s) - 1)]
     for s, pages in [(A6, neighbours(A6)), (B4, neighbours(B4))] + [(s, [some_page(s) for _ in range(count)]) for s, count in ((A6, 12), (B4, 10), (TWO, 4), (TWO4, 6))]:
         for page in pages:
             answers.add(code(s, page, 0, strength(s, 0)))
-            row(call('mendRefusal', 1, s, page, 0, strength(s, 0)), str(code(s, page, 0, strength(s, 0))))
+            row(call('mend_refusal', 1, s, page, 0, strength(s, 0)), str(code(s, page, 0, strength(s, 0))))
     assert answers == {0, 15}
 
 
@@ -1403,8 +1403,8 @@ def mend_made():
 
     for s in (A, TWO, THREE, ALIKE, A3, A6, B4, TWO4, PAIR24):
         faults_test(s)
-    table('mendMembers', 'A member with flips, 0 to t_0 of them, in one sub-word, and one in each other: the number, then page, list and number of flips.',
-          'mendRefusal mending flipped placeList pow')
+    table('mend_members', 'A member with flips, 0 to t_0 of them, in one sub-word, and one in each other: the number, then page, list and number of flips.',
+          'mend_refusal mending flipped place_list pow')
     for s in (A, A3, B4, TWO, TWO4, THREE, ALIKE):
         for f in range(strength(s, 0) + 1 if s != ALIKE else 2):
             i = below(s[1])
@@ -1413,7 +1413,7 @@ def mend_made():
     for i, s, places in [(0, A, (0,)), (1, A, (14,)), (0, A6, (8,)), (1, A6, (7,)), (0, TWO, (0, 14)), (2, TWO, (7, 8)), (2, TWO4, (0, 10)), (0, PAIR24, (23,)), (1, PAIR24, (16,))]:
         assert made(s, flipped(s, some_member(s), *[(i, k) for k in places]), i) == (0, len(places))
 
-    table('mendPages', 'More flips than t_0, any page, pages of zeros and of ones: a multiple, or 15 and nothing changed.', 'mendRefusal mending flipped placeList pow')
+    table('mend_pages', 'More flips than t_0, any page, pages of zeros and of ones: a multiple, or 15 and nothing changed.', 'mend_refusal mending flipped place_list pow')
     answers = set()
     for s in (A, A6, B4, TWO, TWO4):
         for page in [damaged(s, strength(s, 0) + f, 0) for f in (1, 2)] + [some_page(s)]:
@@ -1434,12 +1434,12 @@ def mend_made():
     assert [made(A, *g)[0] for g in given] == [7, 7, 8, 8, 9, 10, 10]
     assert made(CLASH, [0x00] * 8, 0)[0] == 4 and made(shortened(A, 7), x, 0)[0] == 14
 
-    table('flippedPlaces', 'Places flipped in a sub-word, and places in lists: 65535 from their end on.', 'flipped placeList pow')
+    table('flipped_places', 'Places flipped in a sub-word, and places in lists: 65535 from their end on.', 'flipped place_list pow')
     for s in (A, TWO4, PAIR24):
         page, i, R = some_page(s), below(s[1]), some_places(s, 3)
         row(call('flipped', s, page, i, as_list(R)), listed(hexed(flipped(s, page, *[(i, k) for k in R]))))
     for k, R in [(1, []), (1, [14]), (2, [3]), (3, [0, 9]), (6, [4094]), (2, [0, 1])]:
-        numbers('placeList %d %s' % (k, as_list(R)), R + [NO_PLACE] * (k - len(R)))
+        numbers('place_list %d %s' % (k, as_list(R)), R + [NO_PLACE] * (k - len(R)))
 
 
 def some_word(count):
@@ -1455,61 +1455,61 @@ WORDS = [(A, 2, 15), (B, 3, 15), (THREE, 7, 15), (EIGHT, 2, 40), (BYTE, 5, 9), (
 
 
 def odd_lists():
-    table('oddLists', 'Lists of odd syndromes, S_1, S_3, ..: of words, and of sub-words and nested words of pages.',
-          'oddSyndromes syndromeList nestedSyndromeList')
+    table('odd_lists', 'Lists of odd syndromes, S_1, S_3, ..: of words, and of sub-words and nested words of pages.',
+          'odd_syndromes syndrome_list nested_syndrome_list')
     for s, t, count in WORDS + [(B, 0, 15), (B, 1, 15), (B, 12, 15), (EIGHT, 1, 255), (EIGHT, 1, 0), (TWELVE, 1, 130)]:
         word = some_word(count)
-        numbers('oddSyndromes %s %d %s' % (named(s), t, hex_number(word)), odd_syndromes(s[0], word, t))
+        numbers('odd_syndromes %s %d %s' % (named(s), t, hex_number(word)), odd_syndromes(s[0], word, t))
     for s in (B, THREE, DEEP4, PAIR24, TWELVE_SHORT):
         page, i, l = some_page(s), below(s[1]), below(s[2])
-        numbers(call('syndromeList', s, page, i), syndrome_list(s, page, i))
-        numbers(call('nestedSyndromeList', s, page, l), nested_syndrome_list(s, page, l))
+        numbers(call('syndrome_list', s, page, i), syndrome_list(s, page, i))
+        numbers(call('nested_syndrome_list', s, page, l), nested_syndrome_list(s, page, l))
 
-    table('listLengths', 'Their lengths: t_0 of a sub-word, t_(v-l) of nested word l, in C twice as many bytes.', 'wordRefusal')
+    table('list_lengths', 'Their lengths: t_0 of a sub-word, t_(v-l) of nested word l, in C twice as many bytes.', 'word_refusal')
     for s in (B, THREE, BYTE_SHORT, TWELVE_SHORT):
         page = some_page(s)
-        for name, part, t in [('syndromesRefusal', 'sub_word', strength(s, 0)), ('nestedSyndromesRefusal', 'nested_word', strength(s, s[2]))]:
+        for name, part, t in [('syndromes_refusal', 'sub_word', strength(s, 0)), ('nested_syndromes_refusal', 'nested_word', strength(s, s[2]))]:
             for unit in (1, 2):
                 sizes = sorted({0, t - 1, t, t + 1, 2 * t - 1, 2 * t, 2 * t + 1, 4 * t, U64})
                 numbers('map (%s) %s' % (call(name, unit, s, page, 0), as_list(sizes)), [refusal(s, page=page, room=(size, lambda: unit * t), **{part: 0}) for size in sizes])
 
 
 def all_by_odd():
-    table('allByOdd', 'All syndromes from the odd ones, even ones by squares: those of the word.', 'allSyndromes oddSyndromes syndromes range sum')
+    table('all_by_odd', 'All syndromes from the odd ones, even ones by squares: those of the word.', 'all_syndromes odd_syndromes syndromes range sum')
     for s, t, count in WORDS:
         word = some_word(count)
         every, odd = syndromes(s[0], word, 2 * t), odd_syndromes(s[0], word, t)
         assert all_syndromes(s[0], odd) == every
         numbers('syndromes %s %d %s' % (named(s), 2 * t, hex_number(word)), every)
-        numbers('allSyndromes %s %s' % (named(s), as_list(odd)), every)
-        numbers('allSyndromes %s (oddSyndromes %s %d %s)' % (named(s), named(s), t, hex_number(word)), every)
+        numbers('all_syndromes %s %s' % (named(s), as_list(odd)), every)
+        numbers('all_syndromes %s (odd_syndromes %s %d %s)' % (named(s), named(s), t, hex_number(word)), every)
     # every element alone, squared
-    numbers('map (λ x. sum (drop 1 (allSyndromes A (x ∷ [])))) (range 0 16)', [all_syndromes(4, [x])[1] for x in range(16)])
+    numbers('map (λ x. sum (drop 1 (all_syndromes A (x ∷ [])))) (range 0 16)', [all_syndromes(4, [x])[1] for x in range(16)])
 
-    table('allOthers', 'Lists of no word: none, of any length, and numbers that are no elements, squared as polynomials.', 'allSyndromes')
-    numbers('allSyndromes A []', [])
+    table('all_others', 'Lists of no word: none, of any length, and numbers that are no elements, squared as polynomials.', 'all_syndromes')
+    numbers('all_syndromes A []', [])
     for s in (A, EIGHT, TWELVE):
         q = s[0]
         size, f = 2 ** q, FIELD[q]
         for odd in ([below(size) for _ in range(5)], [size - 1], [size], [size + 1], [f], [f ^ 1], [65535], [below(65536) for _ in range(4)],
                     [0, size, 0, 65535, f], [U64, 1]):
-            numbers('allSyndromes %s %s' % (named(s), as_list(odd)), all_syndromes(q, odd))
+            numbers('all_syndromes %s %s' % (named(s), as_list(odd)), all_syndromes(q, odd))
 
-    table('pastRemainders', 'A nested word past 2t_0: the remainder by g_0 has its S_1 and another S_3, the short remainder its S_3 and another S_1.',
-          'oddSyndromes allSyndromes nestedSyndromeList shortRemainder rem gen degree nested wordsOf pow xor')
+    table('past_remainders', 'A nested word past 2t_0: the remainder by g_0 has its S_1 and another S_3, the short remainder its S_3 and another S_1.',
+          'odd_syndromes all_syndromes nested_syndrome_list short_remainder rem gen degree nested words_of pow xor')
     for page in ([0x10, 0x00, 0x00, 0x00], some_page(A), some_page(A)):
         word = nested(A, words(A, page), 0)
         right, rest, short = [odd_syndromes(4, w, 2) for w in (word, divided(word, gen(A, 0))[1], divided(word, divisor(A, 0))[1])]
         assert right[0] == rest[0] != short[0] and right[1] == short[1] != rest[1]
-        numbers(call('nestedSyndromeList', A, page, 0), right)
-        numbers('oddSyndromes A 2 (remainder A 0 (nested A 0 (%s)))' % call('wordsOf', A, page), rest)
-        numbers('oddSyndromes A 2 (shortRemainder A 0 (%s))' % call('wordsOf', A, page), short)
-        numbers('allSyndromes A (%s)' % call('nestedSyndromeList', A, page, 0), syndromes(4, word, 4))
+        numbers(call('nested_syndrome_list', A, page, 0), right)
+        numbers('odd_syndromes A 2 (remainder A 0 (nested A 0 (%s)))' % call('words_of', A, page), rest)
+        numbers('odd_syndromes A 2 (short_remainder A 0 (%s))' % call('words_of', A, page), short)
+        numbers('all_syndromes A (%s)' % call('nested_syndrome_list', A, page, 0), syndromes(4, word, 4))
 
 
 def all_refused():
-    whole = lambda unit, *given: in_turn([call('allRefusal', unit, *g) for g in given], [all_refusal(*g, unit) for g in given])
-    table('allRefused', 'All from the odd ones, refused: the numbers in their order; levels, and the lengths of both lists, of numbers and of bytes.', 'allRefusal')
+    whole = lambda unit, *given: in_turn([call('all_refusal', unit, *g) for g in given], [all_refusal(*g, unit) for g in given])
+    table('all_refused', 'All from the odd ones, refused: the numbers in their order; levels, and the lengths of both lists, of numbers and of bytes.', 'all_refusal')
     sheets = [(5, 2, 1, 1, 2, 0, 0, U32), (4, 1, 1, 1, 2, 0, 0, U32), (4, 2, 1, 2, 2, 0, 0, U32), shortened(CLASH, U32), shortened(A, 7)]
     for unit in (1, 2):
         whole(unit, *[(s, 9, 99, 99) for s in sheets])
@@ -1522,8 +1522,8 @@ def all_refused():
             t = unit * strength(s, a)
             odds = sorted({0, t - 1, t, t + 1, 2 * t, unit * strength(s, 0), 2 * unit * strength(s, 0), strength(s, a), 256, U64})
             outs = sorted({0, t, 2 * t - 1, 2 * t, 2 * t + 1, 4 * t, 2 * unit * strength(s, 0), 2 * strength(s, a), 256, U64})
-            numbers('map (λ k. %s) %s' % (call('allRefusal', unit, s, a, 'k', 2 * t), as_list(odds)), [all_refusal(s, a, k, 2 * t, unit) for k in odds])
-            numbers('map (%s) %s' % (call('allRefusal', unit, s, a, t), as_list(outs)), [all_refusal(s, a, t, k, unit) for k in outs])
+            numbers('map (λ k. %s) %s' % (call('all_refusal', unit, s, a, 'k', 2 * t), as_list(odds)), [all_refusal(s, a, k, 2 * t, unit) for k in odds])
+            numbers('map (%s) %s' % (call('all_refusal', unit, s, a, t), as_list(outs)), [all_refusal(s, a, t, k, unit) for k in outs])
 
 
 def all_made():
@@ -1532,7 +1532,7 @@ def all_made():
         row('all %s %d %s %s' % (named(s), level, as_list(odd) if odd else '[]', as_list([258 + k for k in range(size)]) if size else '[]'), listed(answer))
         return answer[0]
 
-    table('allMade', 'The call: the number, then what it leaves in the list.', 'allRefusal allSyndromes')
+    table('all_made', 'The call: the number, then what it leaves in the list.', 'all_refusal all_syndromes')
     for s in (A, B, THREE, DEEP4, EIGHT, TWELVE):
         for level in range(s[2] + 1):
             t = strength(s, level)
@@ -1542,10 +1542,10 @@ def all_made():
     assert [made(A, *g) for g in refused] == [9] + [10] * 7
     assert made(CLASH, 0, [1], 2) == 4 and made(shortened(A, 7), 0, [1], 2) == 14
 
-    table('allBytes', 'In C\'s bytes.', 'allSyndromes asBytes asNumbers')
+    table('all_bytes', 'In C\'s bytes.', 'all_syndromes as_bytes as_numbers')
     for s, t in [(A, 2), (EIGHT, 2), (TWELVE, 3)]:
         odd = [below(2 ** s[0]) for _ in range(t)]
-        row('asBytes (allSyndromes %s (asNumbers %s))' % (named(s), data(low_byte_first(odd))), listed(hexed(low_byte_first(all_syndromes(s[0], odd)))))
+        row('as_bytes (all_syndromes %s (as_numbers %s))' % (named(s), data(low_byte_first(odd))), listed(hexed(low_byte_first(all_syndromes(s[0], odd)))))
 
 
 def drawn(page_of, wanted):
@@ -1597,20 +1597,20 @@ def mended_test(sheet):
 
 
 def mend_page_errors():
-    table('errorSyndromes', 'The syndromes of one error out of those of the nested words, of words drawn: S_1 to S_2t of the level of so many broken words.',
-          'errorSyndrome pow range')
+    table('error_syndromes', 'The syndromes of one error out of those of the nested words, of words drawn: S_1 to S_2t of the level of so many broken words.',
+          'error_syndrome pow range')
     for s, left in [(A, [0]), (A6, [1]), (B3, [2]), (B3, [0, 1]), (B4, [0, 2]), (B, [1, 2]), (DEEP4, [3]), (DEEP4, [1, 4]), (DEEP4, [0, 2, 3]), (DEEP4, [2, 3, 4]), (EVEN, [0, 2])]:
         ws = [[below(2) for _ in range(stored(s))] + [0] * s[7] for _ in range(s[1])]
         for i in left:
             others = [k for k in left if k != i]
             found = error_syndromes(s, ws, left, i)
-            row('map (errorSyndrome %s %s %s %d) (range 1 %d)' % (named(s), as_list(map(hex, map(number, ws))), as_list(others) if others else '[]', i, len(found)), listed(found))
+            row('map (error_syndrome %s %s %s %d) (range 1 %d)' % (named(s), as_list(map(hex, map(number, ws))), as_list(others) if others else '[]', i, len(found)), listed(found))
 
 
 def mend_page_refused():
     code = lambda s, page: refusal(s, page=page, whole=True)
-    whole = lambda *given: in_turn([call('mendPageRefusal', *g) for g in given], [code(*g) for g in given])
-    table('pageRefused', 'A page to mend, refused: the numbers in their order; lengths, and each spare bit.', 'mendPageRefusal pow')
+    whole = lambda *given: in_turn([call('mend_page_refusal', *g) for g in given], [code(*g) for g in given])
+    table('page_refused', 'A page to mend, refused: the numbers in their order; lengths, and each spare bit.', 'mend_page_refusal pow')
     sheets = [(5, 2, 1, 1, 2, 0, 0, U32), (4, 1, 1, 1, 2, 0, 0, U32), (4, 2, 1, 2, 2, 0, 0, U32), shortened(CLASH, U32), shortened(A, 7)]
     whole(*[(s, [0xFF]) for s in sheets])
     ones, x = [0xFF] * 4, some_member(A)
@@ -1618,19 +1618,19 @@ def mend_page_refused():
     whole((A6, ones + [0xFF]), (A6, ones), (A6, clear), (A6, [0x00] * 4), (A, x[:3]), (A, []), (A, x + [0x00]), (A, ones), (A, x))
     for s, base in [(A, x), (A6, clear)]:
         strays = [flipped(s, base, (i, k)) for i in range(s[1]) for k in range(stored(s), 8 * word_bytes(s))]
-        each('λ x. %s' % call('mendPageRefusal', s, 'x'), strays, lambda x: code(s, x))
+        each('λ x. %s' % call('mend_page_refusal', s, 'x'), strays, lambda x: code(s, x))
 
 
 def mend_page_made():
     def made(s, page):
         """The row; what came, and the rounds or why nothing did."""
         after, why = mended(s, page)
-        row(call('mendedPage', s, page), 'none' if after is None else 'some ' + data(after))
+        row(call('mended_page', s, page), 'none' if after is None else 'some ' + data(after))
         return after, why
 
     for s in (A, A3, A6, B, B3, B4, TWO, TWO4, DEEP4, EVEN):
         mended_test(s)
-    table('pageBack', 'Members as they are, and with flips in their sub-words that the first pass and rounds mend: the member.', 'mendedPage pow')
+    table('page_back', 'Members as they are, and with flips in their sub-words that the first pass and rounds mend: the member.', 'mended_page pow')
     for s in (A, B3, EVEN):
         page = some_member(s)
         assert made(s, page) == (page, 0)
@@ -1641,8 +1641,8 @@ def mend_page_made():
         page, damaged = drawn(lambda: some_damage(s, counts), lambda x: high(s, x) and hoped(s, *x) and not blank(s, x[0]))
         assert made(s, damaged) == (page, rounds)
 
-    table('pageElse', 'Other pages: another member where words were mended wrong, or none: no member at the end, a blank one, more than v sub-words left, a round that finds none.',
-          'mendedPage pow')
+    table('page_else', 'Other pages: another member where words were mended wrong, or none: no member at the end, a blank one, more than v sub-words left, a round that finds none.',
+          'mended_page pow')
     for s, ends in [(A, ('other', 0)), (A6, ('other', 'many', 'stuck', 1)), (B4, ('other', 'stuck')), (TWO, ('many',)), (TWO4, ('stuck', 1)), (DEEP4, ('other', 'stuck'))]:
         for end in ends:
             damage = lambda: some_damage(s, [below(strength(s, s[2]) + 1) for _ in range(s[1])])
@@ -1659,57 +1659,52 @@ def mend_page_made():
     for s in (A3, B4):
         made(s, some_page(s))
 
-    table('pageCalled', 'The call: the number, then what it leaves in the page.', 'mendPageRefusal mendedPage pow')
+    table('page_called', 'The call: the number, then what it leaves in the page.', 'mend_page_refusal mended_page pow')
     x = some_member(A)
     given = [(A, x), (A, flipped(A, x, (0, 3), (1, 14))), (A6, drawn(lambda: some_damage(A6, (2, 1)), lambda y: hoped(A6, *y))[1]),
              (A6, drawn(lambda: some_page(A6), lambda y: mended(A6, y)[0] is None)), (A, erased(A, (0, 0))),
              (A, x[:3]), (A, x + [0x00]), (A, flipped(A, x, (0, 15))), (A, erased(A, (0, 1))), (CLASH, [0x00] * 8), (shortened(A, 7), x)]
     assert [mend_page(*g)[0] for g in given] == [0, 0, 0, 17, 17, 7, 7, 8, 8, 4, 14]
     for g in given:
-        row(call('mendPaged', *g), listed(mend_page(*g)[:1] + hexed(mend_page(*g)[1:])))
+        row(call('mend_paged', *g), listed(mend_page(*g)[:1] + hexed(mend_page(*g)[1:])))
 
 
 HEADS = {
     OWN: '''-- Cases of our own, of definitions that no compiled call gives back, and of the calls on erased pages, on shortened sheets,
 -- on many pages, on one bit of a page and on odd syndromes: each row has what a definition gives and what an independent program says.
 -- Written by tools/cases.py, which works every number out by other means; see there. The calls' own cases are run: tools/trial.py.
-use mathlib.Core.Path.{_≡_, refl}
-use mathlib.Core.List.{List, [], _∷_, map}
-use Prim.Native.Nat.{_*_}
-use lib.ListN.{drop, replicate}
-use Rattle·polynomial.specs.Bits.{coefficient}
-use Rattle·polynomial.specs.Division.{rem}
-use Rattle·polynomial.specs.Sums.{add}
-use Rattle·polynomial.specs.Xor.{xor}
-use Rattle·field.specs.Elements.{power, sumBelow}
-use Rattle·field.specs.Field.{pow}
-use Rattle·code.specs.Lists.{range, sum}
-use Rattle·code.specs.Parameters.{sheet, sheetRefusal}
-use Rattle·code.specs.Code.{allSyndromes, carried, combine, degree, distance, divisor, gen, N, nested, newton, oddSyndromes}
-use Rattle·code.specs.Code.{remainder, shortRemainder, syndromes}
-use Rattle·code.specs.Layout.{altered, blockOffset, wordsOf, pageOf, pageBytes, dataBytes, coefficientOf, blockBit, differences}
-use Rattle·code.specs.Refusals.{writeRefusal, wordRefusal, remainderRefusal, nestedRefusal, syndromesRefusal, nestedSyndromesRefusal, allRefusal}
-use Rattle·code.specs.Refusals.{manyRefusal, alterRefusal, openRefusal, feedRefusal, quoteRefusal}
-use Rattle·code.specs.Calls.{asBytes, asNumbers, empty, fed, judgeNumber, judgeValues, readNumber, readLeaves, writeLeaves, quote}
-use Rattle·code.specs.Calls.{statuses, pagesBy}
-use Rattle·code.specs.Calls.{remainderBytes, shortBytes, nestedWordBytes, syndromeList, nestedSyndromeList}
-use Rattle·code.specs.Registers.{cut, feedings}
-use Rattle·code.specs.Writer.{writer}
-use Rattle·cases·specs.specs.Sheets.{Row, A, B, held, many, alter, all}
+use Rattle.std.specs.Prelude.{◌≡◌, refl, List, [], ◌∷◌, map, ◌*◌, drop, replicate}
+use Rattle.polynomial.specs.Bits.{coefficient}
+use Rattle.polynomial.specs.Division.{rem}
+use Rattle.polynomial.specs.Sums.{add}
+use Rattle.polynomial.specs.Xor.{xor}
+use Rattle.field.specs.Elements.{power, sum_below}
+use Rattle.field.specs.Field.{pow}
+use Rattle.code.specs.Lists.{range, sum}
+use Rattle.code.specs.Parameters.{sheet, sheet_refusal}
+use Rattle.code.specs.Code.{all_syndromes, carried, combine, degree, distance, divisor, gen, N, nested, newton, odd_syndromes}
+use Rattle.code.specs.Code.{remainder, short_remainder, syndromes}
+use Rattle.code.specs.Layout.{altered, block_offset, words_of, page_of, page_bytes, data_bytes, coefficient_of, block_bit, differences}
+use Rattle.code.specs.Refusals.{write_refusal, word_refusal, remainder_refusal, nested_refusal, syndromes_refusal, nested_syndromes_refusal, all_refusal}
+use Rattle.code.specs.Refusals.{many_refusal, alter_refusal, open_refusal, feed_refusal, quote_refusal}
+use Rattle.code.specs.Calls.{as_bytes, as_numbers, empty, fed, judge_number, judge_values, read_number, read_leaves, write_leaves, quote}
+use Rattle.code.specs.Calls.{statuses, pages_by}
+use Rattle.code.specs.Calls.{remainder_bytes, short_bytes, nested_word_bytes, syndrome_list, nested_syndrome_list}
+use Rattle.code.specs.Registers.{cut, feedings}
+use Rattle.code.specs.Writer.{writer}
+use Rattle.cases.specs.Sheets.{Row, A, B, held, many, alter, all}
 ''',
     MENDED: '''-- Cases of our own of a sub-word to mend and of a page to mend: each equation has what a definition gives and what an independent program says.
 -- Written by tools/cases.py, which works every number out by other means; see there. The calls' own cases are run: tools/trial.py.
-use mathlib.Core.Path.{_≡_, refl}
-use mathlib.Core.List.{[], _∷_, map}
-use mathlib.Core.Option.{none, some}
-use lib.ListN.{replicate}
-use Rattle·field.specs.Field.{pow}
-use Rattle·code.specs.Lists.{range}
-use Rattle·code.specs.Parameters.{sheet}
-use Rattle·code.specs.Layout.{flipped, mendedPage, mending, placeList}
-use Rattle·code.specs.Nest.{errorSyndrome}
-use Rattle·code.specs.Refusals.{mendPageRefusal, mendRefusal}
-use Rattle·cases_mended·specs.specs.Calls.{mend, mendPaged}
+use Rattle.std.specs.Prelude.{◌≡◌, refl, [], ◌∷◌, map, replicate}
+use Rattle.std.proofs.Math.Option.{none, some}
+use Rattle.field.specs.Field.{pow}
+use Rattle.code.specs.Lists.{range}
+use Rattle.code.specs.Parameters.{sheet}
+use Rattle.code.specs.Layout.{flipped, mended_page, mending, place_list}
+use Rattle.code.specs.Nest.{error_syndrome}
+use Rattle.code.specs.Refusals.{mend_page_refusal, mend_refusal}
+use Rattle.cases_mended.specs.Calls.{mend, mend_paged}
 ''',
 }
 
@@ -1722,7 +1717,7 @@ def printed(file):
             out.append('-- %s\npub %s :\n    %s\nunfolding %s\n%s = (%s)\n' % (about, name, equations(rows), unfolding, name, ', '.join(['refl'] * len(rows))))
             continue
         out.append('-- %s\npub %s : List Row\n%s\n' % (about, name, laid(name, rows)))
-        out.append('pub %s-hold : map (λ r. r .0) %s ≡ map (λ r. r .1) %s\nunfolding %s %s\n%s-hold = refl\n' % (name, name, name, name, unfolding, name))
+        out.append('pub %s-hold : map (λ r. r.0) %s ≡ map (λ r. r.1) %s\nunfolding %s %s\n%s-hold = refl\n' % (name, name, name, name, unfolding, name))
     return '\n'.join(out)
 
 

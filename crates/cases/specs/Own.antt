@@ -44,7 +44,8 @@ placed_bits =
       1 ∷ 0 ∷ 1 ∷ 0 ∷ 1 ∷ 1 ∷ 1 ∷ 0 ∷ 1 ∷ 0 ∷ 0 ∷ 0 ∷ 1 ∷ 1 ∷ 1 ∷ [],
     )
     ∷ (
-      map (coefficient_of (sheet 4 5 2 1 2 2 0 0) (0x03 ∷ 0x03 ∷ 0x6B ∷ 0x02 ∷ 0x35 ∷ 0x07 ∷ 0x05 ∷ 0x72 ∷ 0xC7 ∷ 0x0B ∷ []) 4) (range 0 15),
+      map (coefficient_of (sheet 4 5 2 1 2 2 0 0) (0x03 ∷ 0x03 ∷ 0x6B ∷ 0x02 ∷ 0x35 ∷ 0x07 ∷ 0x05 ∷ 0x72 ∷ 0xC7 ∷ 0x0B
+          ∷ []) 4) (range 0 15),
       1 ∷ 1 ∷ 1 ∷ 0 ∷ 0 ∷ 0 ∷ 1 ∷ 1 ∷ 1 ∷ 1 ∷ 0 ∷ 1 ∷ 0 ∷ 0 ∷ 0 ∷ [],
     )
     ∷ (map (block_bit A (0x0C ∷ 0xC1 ∷ 0x04 ∷ []) 1) (range 0 11), 1 ∷ 0 ∷ 0 ∷ 0 ∷ 0 ∷ 0 ∷ 1 ∷ 1 ∷ 0 ∷ 0 ∷ 1 ∷ [])
@@ -272,8 +273,8 @@ erased_judged = (
       7 ∷ 7 ∷ 7 ∷ 7 ∷ [],
     )
     ∷ (
-      judge_number B (0xFF ∷ 0x7F ∷ 0xFF ∷ 0xFF ∷ 0xFF ∷ 0x7F ∷ []) ∷ judge_number (sheet 4 3 2 6 7 7 0 0) (0xFF ∷ 0xFF ∷ 0xFF ∷ 0x7F ∷ 0xFF
-          ∷ 0xFF ∷ []) ∷ [],
+      judge_number B (0xFF ∷ 0x7F ∷ 0xFF ∷ 0xFF ∷ 0xFF ∷ 0x7F ∷ []) ∷ judge_number (sheet 4 3 2 6 7 7 0 0) (0xFF ∷ 0xFF ∷ 0xFF ∷ 0x7F
+          ∷ 0xFF ∷ 0xFF ∷ []) ∷ [],
       96 ∷ 96 ∷ [],
     )
     ∷ (
@@ -372,8 +373,8 @@ ones_written = (
       0 ∷ 0xFF ∷ 0x7F ∷ 0x00 ∷ 0x00 ∷ 0xFF ∷ 0x7F ∷ [],
     )
     ∷ (
-      write_refusal A 0 (0x7F ∷ 0xFF ∷ 0x07 ∷ []) 4 ∷ write_refusal A 8 (0x7F ∷ 0xFF ∷ []) 4 ∷ write_refusal A 8 (0x7F ∷ 0xFF ∷ 0x07 ∷ []) 5
-          ∷ [],
+      write_refusal A 0 (0x7F ∷ 0xFF ∷ 0x07 ∷ []) 4 ∷ write_refusal A 8 (0x7F ∷ 0xFF ∷ []) 4 ∷ write_refusal A 8 (0x7F ∷ 0xFF ∷ 0x07
+          ∷ []) 5 ∷ [],
       5 ∷ 6 ∷ 7 ∷ [],
     )
     ∷ (writer (0x04 ∷ 0x02 ∷ 0x01 ∷ 0x08 ∷ 0x01 ∷ 0x02 ∷ 0x7F ∷ 0xFF ∷ 0x07 ∷ []), 0x0D ∷ [])
@@ -492,7 +493,8 @@ short_places-hold = refl
 -- Write: the number and what it leaves; blocks of ones are written too.
 pub short_written : List Row
 short_written = (
-  write_refusal (sheet 4 2 1 1 2 0 0 3) 8 (0x0C ∷ 0x01 ∷ []) 4 ∷ write_leaves (sheet 4 2 1 1 2 0 0 3) 8 (0x0C ∷ 0x01 ∷ []) (replicate 4 0xA5),
+  write_refusal (sheet 4 2 1 1 2 0 0 3) 8 (0x0C ∷ 0x01 ∷ []) 4 ∷ write_leaves (sheet 4 2 1 1 2 0 0 3) 8 (0x0C ∷ 0x01
+      ∷ []) (replicate 4 0xA5),
   0 ∷ 0xE8 ∷ 0x0C ∷ 0x13 ∷ 0x00 ∷ [],
 )
     ∷ (
@@ -579,8 +581,8 @@ short_judged-hold = refl
 -- Read out: the number and what it leaves.
 pub short_read : List Row
 short_read = (
-  read_number (sheet 4 2 1 1 2 0 0 3) (0xA1 ∷ 0x0D ∷ 0x47 ∷ 0x09 ∷ []) (replicate 2 0xA5) ∷ read_leaves (sheet 4 2 1 1 2 0 0 3) (0xA1 ∷ 0x0D
-      ∷ 0x47 ∷ 0x09 ∷ []) (replicate 2 0xA5),
+  read_number (sheet 4 2 1 1 2 0 0 3) (0xA1 ∷ 0x0D ∷ 0x47 ∷ 0x09 ∷ []) (replicate 2 0xA5) ∷ read_leaves (sheet 4 2 1 1 2 0 0 3) (0xA1
+      ∷ 0x0D ∷ 0x47 ∷ 0x09 ∷ []) (replicate 2 0xA5),
   0 ∷ 0x0D ∷ 0x94 ∷ [],
 )
     ∷ (
@@ -647,7 +649,10 @@ short_words = (
       0x0C ∷ replicate 95 0x00,
     )
     ∷ (syndrome_list (sheet 4 5 3 1 2 2 2 4) (0xE1 ∷ 0x03 ∷ 0x5E ∷ 0x04 ∷ 0x69 ∷ 0x01 ∷ 0x54 ∷ 0x01 ∷ 0x23 ∷ 0x02 ∷ []) 3, 14 ∷ [])
-    ∷ (nested_syndrome_list (sheet 4 5 3 1 2 2 2 4) (0xE1 ∷ 0x03 ∷ 0x5E ∷ 0x04 ∷ 0x69 ∷ 0x01 ∷ 0x54 ∷ 0x01 ∷ 0x23 ∷ 0x02 ∷ []) 2, 12 ∷ 1 ∷ [])
+    ∷ (
+      nested_syndrome_list (sheet 4 5 3 1 2 2 2 4) (0xE1 ∷ 0x03 ∷ 0x5E ∷ 0x04 ∷ 0x69 ∷ 0x01 ∷ 0x54 ∷ 0x01 ∷ 0x23 ∷ 0x02 ∷ []) 2,
+      12 ∷ 1 ∷ [],
+    )
     ∷ []
 
 pub short_words-hold : map (λ r. r.0) short_words ≡ map (λ r. r.1) short_words
@@ -687,13 +692,13 @@ many_refused = (
   1 ∷ 2 ∷ 3 ∷ 4 ∷ 14 ∷ [],
 )
     ∷ (
-      many_refusal A 0 17 1 1 1 ∷ many_refusal A 8 17 1 1 1 ∷ many_refusal A 8 2 1 1 1 ∷ many_refusal A 8 2 6 1 1 ∷ many_refusal A 8 2 6 8 1
-          ∷ many_refusal A 8 2 6 8 2 ∷ [],
+      many_refusal A 0 17 1 1 1 ∷ many_refusal A 8 17 1 1 1 ∷ many_refusal A 8 2 1 1 1 ∷ many_refusal A 8 2 6 1 1
+          ∷ many_refusal A 8 2 6 8 1 ∷ many_refusal A 8 2 6 8 2 ∷ [],
       5 ∷ 9 ∷ 6 ∷ 7 ∷ 10 ∷ 0 ∷ [],
     )
     ∷ (
-      many_refusal A 65 2 6 8 2 ∷ many_refusal A 0 2 6 8 1 ∷ many_refusal A 8 0 3 4 1 ∷ many_refusal A 8 17 6 8 2 ∷ many_refusal A 8 2 5 8 1
-          ∷ many_refusal A 8 2 6 9 1 ∷ many_refusal A 8 2 5 9 2 ∷ [],
+      many_refusal A 65 2 6 8 2 ∷ many_refusal A 0 2 6 8 1 ∷ many_refusal A 8 0 3 4 1 ∷ many_refusal A 8 17 6 8 2
+          ∷ many_refusal A 8 2 5 8 1 ∷ many_refusal A 8 2 6 9 1 ∷ many_refusal A 8 2 5 9 2 ∷ [],
       5 ∷ 5 ∷ 9 ∷ 9 ∷ 6 ∷ 7 ∷ 6 ∷ [],
     )
     ∷ (
@@ -720,16 +725,16 @@ many_refused = (
     )
     ∷ (
       many_refusal A 8 1 0 4 1 ∷ many_refusal A 8 1 2 4 1 ∷ many_refusal A 8 1 4 4 1 ∷ many_refusal A 8 1 6 4 1 ∷ many_refusal A 8 1 3 0 1
-          ∷ many_refusal A 8 1 3 3 1 ∷ many_refusal A 8 1 3 5 1 ∷ many_refusal A 8 1 3 8 1 ∷ many_refusal A 8 1 3 4 0 ∷ many_refusal A 8 1 3 4 2
-          ∷ many_refusal A 8 1 18446744073709551615 4 1 ∷ many_refusal A 8 1 3 18446744073709551615 1
+          ∷ many_refusal A 8 1 3 3 1 ∷ many_refusal A 8 1 3 5 1 ∷ many_refusal A 8 1 3 8 1 ∷ many_refusal A 8 1 3 4 0
+          ∷ many_refusal A 8 1 3 4 2 ∷ many_refusal A 8 1 18446744073709551615 4 1 ∷ many_refusal A 8 1 3 18446744073709551615 1
           ∷ many_refusal A 8 1 3 4 18446744073709551615 ∷ [],
       6 ∷ 6 ∷ 6 ∷ 6 ∷ 7 ∷ 7 ∷ 7 ∷ 7 ∷ 10 ∷ 10 ∷ 6 ∷ 7 ∷ 10 ∷ [],
     )
     ∷ (
-      many_refusal A 8 3 6 12 3 ∷ many_refusal A 8 3 8 12 3 ∷ many_refusal A 8 3 10 12 3 ∷ many_refusal A 8 3 12 12 3 ∷ many_refusal A 8 3 9 8 3
-          ∷ many_refusal A 8 3 9 11 3 ∷ many_refusal A 8 3 9 13 3 ∷ many_refusal A 8 3 9 16 3 ∷ many_refusal A 8 3 9 12 2
-          ∷ many_refusal A 8 3 9 12 4 ∷ many_refusal A 8 3 18446744073709551615 12 3 ∷ many_refusal A 8 3 9 18446744073709551615 3
-          ∷ many_refusal A 8 3 9 12 18446744073709551615 ∷ [],
+      many_refusal A 8 3 6 12 3 ∷ many_refusal A 8 3 8 12 3 ∷ many_refusal A 8 3 10 12 3 ∷ many_refusal A 8 3 12 12 3
+          ∷ many_refusal A 8 3 9 8 3 ∷ many_refusal A 8 3 9 11 3 ∷ many_refusal A 8 3 9 13 3 ∷ many_refusal A 8 3 9 16 3
+          ∷ many_refusal A 8 3 9 12 2 ∷ many_refusal A 8 3 9 12 4 ∷ many_refusal A 8 3 18446744073709551615 12 3
+          ∷ many_refusal A 8 3 9 18446744073709551615 3 ∷ many_refusal A 8 3 9 12 18446744073709551615 ∷ [],
       6 ∷ 6 ∷ 6 ∷ 6 ∷ 7 ∷ 7 ∷ 7 ∷ 7 ∷ 10 ∷ 10 ∷ 6 ∷ 7 ∷ 10 ∷ [],
     )
     ∷ (
@@ -844,8 +849,8 @@ many_listed-hold = refl
 pub alter_refused : List Row
 alter_refused = (
   alter_refusal (sheet 5 2 1 1 2 0 0 4294967295) (0xFF ∷ []) 9 99 9 ∷ alter_refusal (sheet 4 1 1 1 2 0 0 4294967295) (0xFF ∷ []) 9 99 9
-      ∷ alter_refusal (sheet 4 2 1 2 2 0 0 4294967295) (0xFF ∷ []) 9 99 9 ∷ alter_refusal (sheet 4 4 2 1 2 3 0 4294967295) (0xFF ∷ []) 9 99 9
-      ∷ alter_refusal (sheet 4 2 1 1 2 0 0 7) (0xFF ∷ []) 9 99 9 ∷ [],
+      ∷ alter_refusal (sheet 4 2 1 2 2 0 0 4294967295) (0xFF ∷ []) 9 99 9 ∷ alter_refusal (sheet 4 4 2 1 2 3 0 4294967295) (0xFF
+      ∷ []) 9 99 9 ∷ alter_refusal (sheet 4 2 1 1 2 0 0 7) (0xFF ∷ []) 9 99 9 ∷ [],
   1 ∷ 2 ∷ 3 ∷ 4 ∷ 14 ∷ [],
 )
     ∷ (
@@ -856,8 +861,8 @@ alter_refused = (
     )
     ∷ (
       alter_refusal A (0x6E ∷ 0x46 ∷ 0x7D ∷ []) 0 0 0 ∷ alter_refusal A (0xFF ∷ 0xFF ∷ 0xFF ∷ []) 0 0 1 ∷ alter_refusal A [] 0 0 0
-          ∷ alter_refusal A (replicate 64 0x00) 0 0 0 ∷ alter_refusal A (0x6E ∷ 0x46 ∷ 0x7D ∷ []) 0 0 2 ∷ alter_refusal A (0xFF ∷ 0xFF ∷ 0xFF
-          ∷ 0xFF ∷ []) 0 7 1 ∷ alter_refusal A (0xFF ∷ 0xFF ∷ 0xFF ∷ 0xFF ∷ []) 0 0 1 ∷ alter_refusal A (0xFF ∷ 0xFF ∷ 0xFF ∷ 0xFF
+          ∷ alter_refusal A (replicate 64 0x00) 0 0 0 ∷ alter_refusal A (0x6E ∷ 0x46 ∷ 0x7D ∷ []) 0 0 2 ∷ alter_refusal A (0xFF ∷ 0xFF
+          ∷ 0xFF ∷ 0xFF ∷ []) 0 7 1 ∷ alter_refusal A (0xFF ∷ 0xFF ∷ 0xFF ∷ 0xFF ∷ []) 0 0 1 ∷ alter_refusal A (0xFF ∷ 0xFF ∷ 0xFF ∷ 0xFF
           ∷ []) 0 0 0 ∷ [],
       7 ∷ 7 ∷ 7 ∷ 7 ∷ 7 ∷ 8 ∷ 8 ∷ 8 ∷ [],
     )
@@ -882,7 +887,10 @@ alter_refused = (
       replicate 14 8,
     )
     ∷ (map (λ i. alter_refusal A (0xE9 ∷ 0x40 ∷ 0xD9 ∷ 0x78 ∷ []) i 0 1) (0 ∷ 1 ∷ 2 ∷ 3 ∷ 4294967295 ∷ []), 0 ∷ 0 ∷ 9 ∷ 9 ∷ 9 ∷ [])
-    ∷ (map (λ r. alter_refusal A (0xE9 ∷ 0x40 ∷ 0xD9 ∷ 0x78 ∷ []) 0 r 0) (0 ∷ 6 ∷ 7 ∷ 8 ∷ 256 ∷ 4294967295 ∷ []), 0 ∷ 0 ∷ 9 ∷ 9 ∷ 9 ∷ 9 ∷ [])
+    ∷ (
+      map (λ r. alter_refusal A (0xE9 ∷ 0x40 ∷ 0xD9 ∷ 0x78 ∷ []) 0 r 0) (0 ∷ 6 ∷ 7 ∷ 8 ∷ 256 ∷ 4294967295 ∷ []),
+      0 ∷ 0 ∷ 9 ∷ 9 ∷ 9 ∷ 9 ∷ [],
+    )
     ∷ (
       map (λ r. alter_refusal A (0xE9 ∷ 0x40 ∷ 0xD9 ∷ 0x78 ∷ []) 1 r 0) (0 ∷ 10 ∷ 11 ∷ 12 ∷ 256 ∷ 4294967295 ∷ []),
       0 ∷ 0 ∷ 9 ∷ 9 ∷ 9 ∷ 9 ∷ [],
@@ -1133,7 +1141,10 @@ odd_lists =
     ∷ (syndrome_list (sheet 4 2 1 3 7 0 0 0) (0x6C ∷ 0x46 ∷ 0x18 ∷ 0x03 ∷ []) 0, 2 ∷ 14 ∷ 0 ∷ [])
     ∷ (nested_syndrome_list (sheet 4 2 1 3 7 0 0 0) (0x6C ∷ 0x46 ∷ 0x18 ∷ 0x03 ∷ []) 0, 6 ∷ 14 ∷ 1 ∷ 1 ∷ 13 ∷ 1 ∷ 1 ∷ [])
     ∷ (syndrome_list (sheet 4 5 3 1 2 2 2 4) (0x7A ∷ 0x03 ∷ 0xAA ∷ 0x06 ∷ 0x98 ∷ 0x01 ∷ 0x0A ∷ 0x01 ∷ 0x60 ∷ 0x03 ∷ []) 2, 5 ∷ [])
-    ∷ (nested_syndrome_list (sheet 4 5 3 1 2 2 2 4) (0x7A ∷ 0x03 ∷ 0xAA ∷ 0x06 ∷ 0x98 ∷ 0x01 ∷ 0x0A ∷ 0x01 ∷ 0x60 ∷ 0x03 ∷ []) 2, 7 ∷ 2 ∷ [])
+    ∷ (
+      nested_syndrome_list (sheet 4 5 3 1 2 2 2 4) (0x7A ∷ 0x03 ∷ 0xAA ∷ 0x06 ∷ 0x98 ∷ 0x01 ∷ 0x0A ∷ 0x01 ∷ 0x60 ∷ 0x03 ∷ []) 2,
+      7 ∷ 2 ∷ [],
+    )
     ∷ (syndrome_list (sheet 8 2 1 1 2 0 0 231) (0xBB ∷ 0x6C ∷ 0x20 ∷ 0x12 ∷ 0x8D ∷ 0xC8 ∷ []) 0, 198 ∷ [])
     ∷ (nested_syndrome_list (sheet 8 2 1 1 2 0 0 231) (0xBB ∷ 0x6C ∷ 0x20 ∷ 0x12 ∷ 0x8D ∷ 0xC8 ∷ []) 0, 10 ∷ 243 ∷ [])
     ∷ (
@@ -1231,13 +1242,13 @@ list_lengths = (
       10 ∷ 10 ∷ 0 ∷ 10 ∷ 10 ∷ 10 ∷ [],
     )
     ∷ (
-      map (nested_syndromes_refusal 1 (sheet 12 3 2 1 2 3 0 4050) (0x4D ∷ 0x35 ∷ 0xA4 ∷ 0x13 ∷ 0x39 ∷ 0x19 ∷ 0x78 ∷ 0x27 ∷ 0x4B ∷ 0x94 ∷ 0xDC
-          ∷ 0x0A ∷ 0x62 ∷ 0x34 ∷ 0x15 ∷ 0x71 ∷ 0x28 ∷ 0x0D ∷ []) 0) (0 ∷ 2 ∷ 3 ∷ 4 ∷ 5 ∷ 6 ∷ 7 ∷ 12 ∷ 18446744073709551615 ∷ []),
+      map (nested_syndromes_refusal 1 (sheet 12 3 2 1 2 3 0 4050) (0x4D ∷ 0x35 ∷ 0xA4 ∷ 0x13 ∷ 0x39 ∷ 0x19 ∷ 0x78 ∷ 0x27 ∷ 0x4B ∷ 0x94
+          ∷ 0xDC ∷ 0x0A ∷ 0x62 ∷ 0x34 ∷ 0x15 ∷ 0x71 ∷ 0x28 ∷ 0x0D ∷ []) 0) (0 ∷ 2 ∷ 3 ∷ 4 ∷ 5 ∷ 6 ∷ 7 ∷ 12 ∷ 18446744073709551615 ∷ []),
       10 ∷ 10 ∷ 0 ∷ replicate 6 10,
     )
     ∷ (
-      map (nested_syndromes_refusal 2 (sheet 12 3 2 1 2 3 0 4050) (0x4D ∷ 0x35 ∷ 0xA4 ∷ 0x13 ∷ 0x39 ∷ 0x19 ∷ 0x78 ∷ 0x27 ∷ 0x4B ∷ 0x94 ∷ 0xDC
-          ∷ 0x0A ∷ 0x62 ∷ 0x34 ∷ 0x15 ∷ 0x71 ∷ 0x28 ∷ 0x0D ∷ []) 0) (0 ∷ 2 ∷ 3 ∷ 4 ∷ 5 ∷ 6 ∷ 7 ∷ 12 ∷ 18446744073709551615 ∷ []),
+      map (nested_syndromes_refusal 2 (sheet 12 3 2 1 2 3 0 4050) (0x4D ∷ 0x35 ∷ 0xA4 ∷ 0x13 ∷ 0x39 ∷ 0x19 ∷ 0x78 ∷ 0x27 ∷ 0x4B ∷ 0x94
+          ∷ 0xDC ∷ 0x0A ∷ 0x62 ∷ 0x34 ∷ 0x15 ∷ 0x71 ∷ 0x28 ∷ 0x0D ∷ []) 0) (0 ∷ 2 ∷ 3 ∷ 4 ∷ 5 ∷ 6 ∷ 7 ∷ 12 ∷ 18446744073709551615 ∷ []),
       10 ∷ 10 ∷ 10 ∷ 10 ∷ 10 ∷ 0 ∷ 10 ∷ 10 ∷ 10 ∷ [],
     )
     ∷ []
@@ -1447,9 +1458,15 @@ all_refused = (
     )
     ∷ (map (λ k. all_refusal 2 A 0 k 4) (0 ∷ 1 ∷ 2 ∷ 3 ∷ 4 ∷ 256 ∷ 18446744073709551615 ∷ []), 10 ∷ 10 ∷ 0 ∷ 10 ∷ 10 ∷ 10 ∷ 10 ∷ [])
     ∷ (map (all_refusal 2 A 0 2) (0 ∷ 2 ∷ 3 ∷ 4 ∷ 5 ∷ 8 ∷ 256 ∷ 18446744073709551615 ∷ []), 10 ∷ 10 ∷ 10 ∷ 0 ∷ 10 ∷ 10 ∷ 10 ∷ 10 ∷ [])
-    ∷ (map (λ k. all_refusal 2 A 1 k 8) (0 ∷ 2 ∷ 3 ∷ 4 ∷ 5 ∷ 8 ∷ 256 ∷ 18446744073709551615 ∷ []), 10 ∷ 10 ∷ 10 ∷ 0 ∷ 10 ∷ 10 ∷ 10 ∷ 10 ∷ [])
+    ∷ (
+      map (λ k. all_refusal 2 A 1 k 8) (0 ∷ 2 ∷ 3 ∷ 4 ∷ 5 ∷ 8 ∷ 256 ∷ 18446744073709551615 ∷ []),
+      10 ∷ 10 ∷ 10 ∷ 0 ∷ 10 ∷ 10 ∷ 10 ∷ 10 ∷ [],
+    )
     ∷ (map (all_refusal 2 A 1 4) (0 ∷ 4 ∷ 7 ∷ 8 ∷ 9 ∷ 16 ∷ 256 ∷ 18446744073709551615 ∷ []), 10 ∷ 10 ∷ 10 ∷ 0 ∷ 10 ∷ 10 ∷ 10 ∷ 10 ∷ [])
-    ∷ (map (λ k. all_refusal 2 B 1 k 8) (0 ∷ 2 ∷ 3 ∷ 4 ∷ 5 ∷ 8 ∷ 256 ∷ 18446744073709551615 ∷ []), 10 ∷ 10 ∷ 10 ∷ 0 ∷ 10 ∷ 10 ∷ 10 ∷ 10 ∷ [])
+    ∷ (
+      map (λ k. all_refusal 2 B 1 k 8) (0 ∷ 2 ∷ 3 ∷ 4 ∷ 5 ∷ 8 ∷ 256 ∷ 18446744073709551615 ∷ []),
+      10 ∷ 10 ∷ 10 ∷ 0 ∷ 10 ∷ 10 ∷ 10 ∷ 10 ∷ [],
+    )
     ∷ (map (all_refusal 2 B 1 4) (0 ∷ 4 ∷ 7 ∷ 8 ∷ 9 ∷ 16 ∷ 256 ∷ 18446744073709551615 ∷ []), 10 ∷ 10 ∷ 10 ∷ 0 ∷ 10 ∷ 10 ∷ 10 ∷ 10 ∷ [])
     ∷ (
       map (λ k. all_refusal 2 (sheet 4 2 1 3 7 0 0 0) 0 k 12) (0 ∷ 3 ∷ 5 ∷ 6 ∷ 7 ∷ 12 ∷ 256 ∷ 18446744073709551615 ∷ []),
