@@ -7,7 +7,7 @@
 # a path from rust/.
 set -eu
 cd "$(dirname "$0")/rust"
-archive=${GII_ARCHIVE:-../target/staticlib/libgii_bch.a}
+archive=${GII_ARCHIVE:-../crates/gii_bch/out/libgii_bch.a}
 prefix=${PREFIX:-/usr/local}
 to=${DESTDIR:-}$prefix
 case $prefix in
@@ -15,7 +15,7 @@ case $prefix in
 *) echo "install.sh: PREFIX is to be a path from the root, not $prefix" >&2; exit 1 ;;
 esac
 if [ ! -f "$archive" ]; then
-    echo "install.sh: there is no archive at $(realpath -m "$archive"): 'rt staticlib gii_bch' makes target/staticlib/libgii_bch.a" >&2
+    echo "install.sh: there is no archive at $(realpath -m "$archive"): 'rt lib' in crates/gii_bch makes crates/gii_bch/out/libgii_bch.a" >&2
     exit 1
 fi
 version=$(sed -n 's/^#define GII_BCH_VERSION "\(.*\)"$/\1/p' ../include/gii_bch.h)

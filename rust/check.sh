@@ -2,13 +2,13 @@
 # All that surrounds the archive, in one run: what it exports and needs, the header in C and C++, the installed library under the
 # C program, the stack of the calls, any calls from C, the Rust crate's examples, the reference, the comparison, the time that
 # shortened sub-words and many pages in one call save and an altered bit, a mended sub-word, a mended page and odd syndromes take,
-# any calls beside the reference. The archive is that of GII_ARCHIVE (a path from rust/), or ../target/staticlib/libgii_bch.a; FUZZ sets the number
+# any calls beside the reference. The archive is that of GII_ARCHIVE (a path from rust/), or ../crates/gii_bch/out/libgii_bch.a; FUZZ sets the number
 # of any calls.
 set -euo pipefail
 cd "$(dirname "$0")"
 ../tools/needed.sh gcc g++ cargo nm
-archive=${GII_ARCHIVE:-../target/staticlib/libgii_bch.a}
-[ -f "$archive" ] || { echo "there is no archive at $archive (from rust/): rt staticlib gii_bch makes it"; exit 1; }
+archive=${GII_ARCHIVE:-../crates/gii_bch/out/libgii_bch.a}
+[ -f "$archive" ] || { echo "there is no archive at $archive (from rust/): 'rt lib' in crates/gii_bch makes it"; exit 1; }
 mkdir -p target
 warnings=(-pedantic -Wall -Wextra -Werror)
 

@@ -12,6 +12,7 @@ whole. Lists.antt has the generators as numbers, which the proofs test and compa
 crates/tables proves what every entry is, so nothing rests on this program. All files are in rt fmt's layout.
 """
 import sys
+import textwrap
 from pathlib import Path
 
 ROOT = Path(__file__).resolve().parent.parent
@@ -20,6 +21,7 @@ FIELDS = {4: 19, 8: 285, 12: 4179}
 WORDS = {4: 1, 8: 4, 12: 12}               # of a generator
 BLOCK = 16                                 # generators in a constant
 COLUMNS = 100                              # what is longer takes a line an entry
+SHORT = 11                                # numbers of so many characters, their comma among them, stand several to a line
 
 
 def times_alpha(q, a):
@@ -88,7 +90,14 @@ def words(q, rows):
 def constant(name, kind, entries):
     head = f"pub const {name}: [{kind}; {len(entries)}] = ["
     line = head + ", ".join(map(str, entries)) + "];"
-    return line if len(line) <= COLUMNS else "\n".join([head, *(f"    {x}," for x in entries), "];"])
+    if len(line) <= COLUMNS:
+        return line
+    texts = [f"{x}," for x in entries]
+    if max(map(len, texts)) <= SHORT:
+        rows = textwrap.wrap(" ".join(texts), COLUMNS - 1, initial_indent="    ", subsequent_indent="    ", break_on_hyphens=False)
+    else:
+        rows = [f"    {x}" for x in texts]
+    return "\n".join([head, *rows, "];"])
 
 
 def rattle(about, constants):
@@ -110,7 +119,7 @@ def listed(q):
 
 
 LISTS = """-- The generators in the three fields as numbers, from strength 1 on. Made by tools/tables.py; tested in Generated.
-use mathlib.Core.List.{List, [], _∷_}
+use mathlib.Core.List.{List, [], ◌∷◌}
 use Prim.Native.Nat.{ℕ}
 
 """
