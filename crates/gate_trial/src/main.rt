@@ -34,7 +34,7 @@ fn number(b: &[u8]) -> u64 {
 
 fn put(rt: &impl Print, n: u8) -> io::Result<()> {
     let out = [n];
-    io::writer(rt).write_all(out)
+    io::writer(rt).write_all(&out)
 }
 
 fn put_number(rt: &impl Print, n: u64) -> io::Result<()> {
@@ -221,7 +221,7 @@ fn put_pairs(rt: &impl Print, list: &[u16]) -> io::Result<()> {
 
 fn put_bytes(rt: &impl Print, r: Outcome, out: &[u8]) -> io::Result<()> {
     put_outcome(rt, r)?;
-    io::writer(rt).write_all(out)
+    io::writer(rt).write_all(&out)
 }
 
 fn put_list(rt: &impl Print, r: Outcome, list: &[u16]) -> io::Result<()> {
