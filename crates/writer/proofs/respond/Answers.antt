@@ -1,6 +1,5 @@
-use mathlib.Core.Path.{sym, ◌∙◌}
-use native.Mathlib.Nat as Nat
-use lib.ListN.{length-take, take}
+use mathlib.Core.Path.{◌∙◌}
+use lib.ListN.{take}
 use Rattle.std.proofs.lemmas.Result.{IfOk-weaker}
 use Rattle.code.specs.Writer.{writer}
 use Rattle.given.specs.Output.{Answered}
