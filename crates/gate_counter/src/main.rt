@@ -271,8 +271,8 @@ fn large(rt: &impl Print, s: u32) -> io::Result<()> {
     )
 }
 
-// Sheet A with s 3 stores 12 coefficients of a sub-word, and has 4 spare bits above them. An erased page is blank whatever they are; its blocks
-// are written, and make a member.
+// Sheet A with s 3 stores 12 coefficients of a sub-word, and has 4 spare bits above them. An erased page is blank whatever they
+// are; its blocks are written, and make a member.
 fn shortened(rt: &impl Print) -> io::Result<()> {
     let mut blocks = [0xAAu8; 2];
     let mut page = [0xAAu8; 4];
@@ -396,8 +396,9 @@ fn not_reduced(rt: &impl Print) -> io::Result<()> {
     )
 }
 
-// A nested word of a shortened sheet has n places: of 11 stored coefficients, x^10 of sub-word 4 is x^14 in nested word 1, and x^3 in nested
-// word 2, where it is turned out at x^15. A sub-word takes the bytes of its stored coefficients, here two and at q 8 three.
+// A nested word of a shortened sheet has n places: of 11 stored coefficients, x^10 of sub-word 4 is x^14 in nested word 1, and
+// x^3 in nested word 2, where it is turned out at x^15. A sub-word takes the bytes of its stored coefficients, here two and at q
+// 8 three.
 fn kept_places(rt: &impl Print) -> io::Result<()> {
     let deep = Parameters {
         q: 4,

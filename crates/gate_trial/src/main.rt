@@ -1,13 +1,14 @@
 // Runs the calls on records from standard input and writes what they give.
-//   record   36 bytes: call, q, m, v, t0 to t3, index, second index, width, 0, page length, buffer length (two bytes each, low first), u,
-//            count (eight bytes each), s (four); then the page's bytes, for a writing the blocks', for a feeding the register's 96.
-//            A writing of many pages has their number in count, the length of all in the buffer's length, and the list's in u; an alteration
-//            the block and the bit in the lower and the upper four bytes of u, and the value in count; a sub-word's mending its index in u, the
-//            list's length in the buffer's length, and what the number of flips is before the call in count; all syndromes from the odd
-//            ones the level in u, and in the page's bytes the odd ones, two each
-//   answer   the refusal's number or 0, then what the call gives, and the lent buffer whole, of many pages that and the list, of an
-//            alteration and of a whole page's mending the page, of a sub-word's the page, the list and the number of flips;
-//            of a verdict 0, 32 or 64, then the word's index; 96 for blank
+//   record   36 bytes: call, q, m, v, t0 to t3, index, second index, width, 0, page length, buffer length (two bytes each, low
+//            first), u, count (eight bytes each), s (four); then the page's bytes, for a writing the blocks', for a feeding the
+//            register's 96. A writing of many pages has their number in count, the length of all in the buffer's length, and the
+//            list's in u; an alteration the block and the bit in the lower and the upper four bytes of u, and the value in count;
+//            a sub-word's mending its index in u, the list's length in the buffer's length, and what the number of flips is
+//            before the call in count; all syndromes from the odd ones the level in u, and in the page's bytes the odd ones, two
+//            each
+//   answer   the refusal's number or 0, then what the call gives, and the lent buffer whole, of many pages that and the list, of
+//            an alteration and of a whole page's mending the page, of a sub-word's the page, the list and the number of flips; of
+//            a verdict 0, 32 or 64, then the word's index; 96 for blank
 #![tactic(auto)]
 
 use code::{Nesting, Outcome, Parameters, Tested, Verdict};

@@ -1,5 +1,5 @@
-// A program's input, read; its head, which is q, m, v, L, then t_0 to t_v if v is 1 to 3, a missing byte counting as 0; what stands behind it;
-// and a program's output.
+// A program's input, read; its head, which is q, m, v, L, then t_0 to t_v if v is 1 to 3, a missing byte counting as 0; what
+// stands behind it; and a program's output.
 #![tactic(auto)]
 
 ghost use Rattle.std.specs.Prelude.{◌≡◌, ◌≤◌, ◌<◌, ◌∷◌, IfOk, length, replicate, take};

@@ -1,7 +1,7 @@
-// The quote at the counter: standard input has q, m, v, then, if v is 1 to 3, t_0 to t_v, a byte each, and s in two, low byte first;
-// a missing byte counts as 0.
-// It writes, as text, the sheet and then the check bits of each level, the data bits of each block, the bytes of blocks and page, and the
-// distance, or the refusal.
+// The quote at the counter: standard input has q, m, v, then, if v is 1 to 3, t_0 to t_v, a byte each, and s in two, low byte
+// first; a missing byte counts as 0.
+// It writes, as text, the sheet and then the check bits of each level, the data bits of each block, the bytes of blocks and page,
+// and the distance, or the refusal.
 #![tactic(auto)]
 
 ghost use Rattle.std.specs.Prelude.{◌≡◌, ◌+◌, ◌*◌, ◌<◌};

@@ -47,8 +47,8 @@ fn page_written(input: &[u8], p: Parameters) -> Output
 
 // ---- writing
 
-// The output owed for the `got` bytes that were read to the room's start is written. That it goes to standard output, whole, is tested and
-// not proved: no contract speaks of what a program writes.
+// The output owed for the `got` bytes that were read to the room's start is written. That it goes to standard output, whole, is
+// tested and not proved: no contract speaks of what a program writes.
 fn put(rt: &impl Print, room: &[u8], got: usize, out: Output) -> io::Result<Output>
     requires { Answered writer room.now got out.count out.bytes }
     ensures { IfOk result (λ r. r ≡ out) }

@@ -29,7 +29,7 @@ pub page_out-requires : goal.page_out-requires
 page_out-requires c =
     let same : c.copy.new.to ≡ rest_given c.args.input.now = c.copy.ensures ∙ is (goal.at.page_out-requires c).After-rest_begins-at in
     let fits : length c.copy.new.to ≤ 4096 = page-fits c.args.input.now c.args.p c.copy.new.to c.requires.0 (same) c.mend_page-outcome.new.page c.mend_page-outcome.result c.in_default.is c.mend_page-outcome.ensures in
-    omega arith
+    omega (arith, ap length c.copy.ensures)
 
 pub returns-in_default : goal.returns-in_default
 returns-in_default c =
