@@ -1,12 +1,34 @@
-// The head of a program's input, which is q, m, v, L, then t_0 to t_v if v is 1 to 3, a missing byte counting as 0; what stands behind it; and
-// a program's output.
+// A program's input, read; its head, which is q, m, v, L, then t_0 to t_v if v is 1 to 3, a missing byte counting as 0; what
+// stands behind it; and a program's output.
 #![tactic(auto)]
 
-ghost use Rattle.std.specs.Prelude.{◌≡◌, ◌∷◌, replicate};
+ghost use Rattle.std.specs.Prelude.{◌≡◌, ◌≤◌, ◌<◌, ◌∷◌, IfOk, length, replicate, take};
+ghost use Rattle.std.specs.Io.KnownBytes.{Consumes, IsAtEnd};
 ghost use Rattle.code.specs.Writer.{lead, sheet_given, strength_given, strengths_given};
 ghost use Rattle.given.specs.Input.{Begins};
 
 use code::Parameters;
+use std::io;
+use std::io::Read;
+
+// ---- reading
+
+// Reads until buf is full or the input ends, and says how many bytes it put at buf's start.
+pub fn read_full<R: Read>(input: &mut R, buf: &mut [u8]) -> io::Result<usize>
+    ensures bound { IfOk result (λ n. n ≤ length buf.new) }
+    ensures bytes { IfOk result (λ n. Consumes (R.remaining input.old) (R.remaining input.new) (take n buf.new)) }
+    ensures end { IfOk result (λ n. n < length buf.new → IsAtEnd (R.remaining input.new)) }
+{
+    let mut done = 0;
+    while done < buf.len() {
+        let n = input.read(&mut buf[done..])?;
+        if n == 0 {
+            return Ok(done);
+        }
+        done += n;
+    }
+    Ok(done)
+}
 
 // ---- the input's parts
 

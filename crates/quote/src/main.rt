@@ -1,13 +1,16 @@
-// The quote at the counter: standard input has q, m, v, then, if v is 1 to 3, t_0 to t_v, a byte each, and s in two, low byte first;
-// a missing byte counts as 0.
-// It writes, as text, the sheet and then the check bits of each level, the data bits of each block, the bytes of blocks and page, and the
-// distance, or the refusal.
+// The quote at the counter: standard input has q, m, v, then, if v is 1 to 3, t_0 to t_v, a byte each, and s in two, low byte
+// first; a missing byte counts as 0.
+// It writes, as text, the sheet and then the check bits of each level, the data bits of each block, the bytes of blocks and page,
+// and the distance, or the refusal.
+#![tactic(auto)]
+
 ghost use Rattle.std.specs.Prelude.{◌≡◌, ◌+◌, ◌*◌, ◌<◌};
 ghost use Rattle.quote.specs.Given.{shortening_read, strength_read, sheet_read};
 
 use code::{Outcome, Parameters};
-use libc::STDOUT_FILENO;
 use sizes::Size;
+use std::io;
+use std::io::Write;
 
 // ---- the input
 
@@ -68,108 +71,110 @@ fn sheet_given(input: [u8; 9]) -> Parameters
 
 // ---- lines
 
-fn text(s: &[u8]) {
-    io::write_all(STDOUT_FILENO, s);
+fn text(rt: &impl Print, s: &[u8]) -> io::Result<()> {
+    io::writer(rt).write_all(s)
 }
 
-fn number(n: u64) {
-    text(b" ");
-    io::print_decimal(STDOUT_FILENO, n);
+fn number(rt: &impl Print, n: u64) -> io::Result<()> {
+    print!(rt; " {n}")
 }
 
 // A number of the quote, unless it is 0: spare places are, and no other.
-fn shown(n: u16) {
+fn shown(rt: &impl Print, n: u16) -> io::Result<()> {
     if n != 0 {
-        number(n as u64);
+        number(rt, n as u64)?;
     }
+    Ok(())
 }
 
 // A strength; 0 is none.
-fn strength(t: u32) {
+fn strength(rt: &impl Print, t: u32) -> io::Result<()> {
     if t != 0 {
-        number(t as u64);
+        number(rt, t as u64)?;
     }
+    Ok(())
 }
 
-fn sheet(p: Parameters) {
-    text(b"sheet: q");
-    number(p.q as u64);
-    text(b", m");
-    number(p.m as u64);
-    text(b", v");
-    number(p.v as u64);
-    text(b", t");
-    strength(p.t0);
-    strength(p.t1);
-    strength(p.t2);
-    strength(p.t3);
+fn sheet(rt: &impl Print, p: Parameters) -> io::Result<()> {
+    text(rt, b"sheet: q")?;
+    number(rt, p.q as u64)?;
+    text(rt, b", m")?;
+    number(rt, p.m as u64)?;
+    text(rt, b", v")?;
+    number(rt, p.v as u64)?;
+    text(rt, b", t")?;
+    strength(rt, p.t0)?;
+    strength(rt, p.t1)?;
+    strength(rt, p.t2)?;
+    strength(rt, p.t3)?;
     if p.s != 0 {
-        text(b", s");
-        number(p.s as u64);
+        text(rt, b", s")?;
+        number(rt, p.s as u64)?;
     }
-    text(b"\n");
+    text(rt, b"\n")
 }
 
-fn size(name: &[u8], r: Size, unit: &[u8]) {
+fn size(rt: &impl Print, name: &[u8], r: Size, unit: &[u8]) -> io::Result<()> {
     if let Size::Is(n) = r {
-        text(name);
-        number(n as u64);
-        text(unit);
+        text(rt, name)?;
+        number(rt, n as u64)?;
+        text(rt, unit)?;
     }
+    Ok(())
 }
 
 // The number, and the word of the table of refusals.
-fn refused(k: u8) {
-    text(b"refused");
-    number(k as u64);
+fn refused(rt: &impl Print, k: u8) -> io::Result<()> {
+    text(rt, b"refused")?;
+    number(rt, k as u64)?;
     if k == 1 {
-        text(b": field\n");
+        text(rt, b": field\n")?;
     }
     if k == 2 {
-        text(b": shape\n");
+        text(rt, b": shape\n")?;
     }
     if k == 3 {
-        text(b": strengths\n");
+        text(rt, b": strengths\n")?;
     }
     if k == 4 {
-        text(b": clash\n");
+        text(rt, b": clash\n")?;
     }
     if k == 14 {
-        text(b": shortening\n");
+        text(rt, b": shortening\n")?;
     }
+    Ok(())
 }
 
-fn quoted(p: Parameters, list: [u16; 12]) {
-    text(b"check bits of each level:");
-    shown(list[0]);
-    shown(list[1]);
-    shown(list[2]);
-    shown(list[3]);
-    text(b"\ndata bits of each block:");
-    shown(list[4]);
-    shown(list[5]);
-    shown(list[6]);
-    shown(list[7]);
-    shown(list[8]);
-    shown(list[9]);
-    shown(list[10]);
-    shown(list[11]);
-    text(b"\n");
-    size(b"blocks:", sizes::data_bytes(p), b" bytes\n");
-    size(b"page:", sizes::page_bytes(p), b" bytes\n");
-    size(b"distance:", sizes::distance(p), b" bits\n");
+fn quoted(rt: &impl Print, p: Parameters, list: [u16; 12]) -> io::Result<()> {
+    text(rt, b"check bits of each level:")?;
+    shown(rt, list[0])?;
+    shown(rt, list[1])?;
+    shown(rt, list[2])?;
+    shown(rt, list[3])?;
+    text(rt, b"\ndata bits of each block:")?;
+    shown(rt, list[4])?;
+    shown(rt, list[5])?;
+    shown(rt, list[6])?;
+    shown(rt, list[7])?;
+    shown(rt, list[8])?;
+    shown(rt, list[9])?;
+    shown(rt, list[10])?;
+    shown(rt, list[11])?;
+    text(rt, b"\n")?;
+    size(rt, b"blocks:", sizes::data_bytes(p), b" bytes\n")?;
+    size(rt, b"page:", sizes::page_bytes(p), b" bytes\n")?;
+    size(rt, b"distance:", sizes::distance(p), b" bits\n")
 }
 
-fn main() {
+fn main(rt: HostRuntime) -> io::Result<()> {
     let mut input = [0u8; 9];
-    io::read_full(0, &mut input);
+    given::read_full(&mut rt.reader(), &mut input)?;
     let p = sheet_given(input);
-    sheet(p);
+    sheet(&rt, p)?;
     let mut list = [0u16; 12];
     let r = sizes::quote(p, &mut list);
     let Outcome::Refused(k) = r else {
-        quoted(p, list);
-        return;
+        return quoted(&rt, p, list);
     };
-    refused(k);
+    refused(&rt, k)
 }

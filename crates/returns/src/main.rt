@@ -1,13 +1,16 @@
 // The returns desk's program: standard input has q, m, v, L, then t_0 to t_v if v is 1 to 3, as the writer's has, then a page;
 // a missing one of these leading bytes counts as 0, and L for nothing.
 // It writes byte 0 and the mended page, or one byte, the refusal's number. No sub-word is shortened: s is 0.
-ghost use Rattle.std.specs.Prelude.{◌≡◌, ◌∷◌, ◌≤◌, ◌<◌, length};
+#![tactic(auto)]
+
+ghost use Rattle.std.specs.Prelude.{◌≡◌, ◌∷◌, ◌≤◌, ◌<◌, IfOk, length};
 ghost use Rattle.code.specs.Writer.{Puts, Returned, mender, sheet_given};
 ghost use Rattle.given.specs.Output.{Answered};
 
 use code::{Outcome, Parameters};
 use given::Output;
-use libc::STDOUT_FILENO;
+use std::io;
+use std::io::Write;
 
 // ---- the output
 
@@ -53,31 +56,30 @@ fn page_mended(input: &[u8], p: Parameters) -> Output
 
 // ---- writing
 
-// The output owed for the `got` bytes that were read to the room's start is written. That it goes to standard output, whole, is tested and
-// not proved: no contract speaks of what a program writes.
-fn put(room: &[u8], got: usize, out: Output) -> Output
+// The output owed for the `got` bytes that were read to the room's start is written. That it goes to standard output, whole, is
+// tested and not proved: no contract speaks of what a program writes.
+fn put(rt: &impl Print, room: &[u8], got: usize, out: Output) -> io::Result<Output>
     requires { Answered mender room.now got out.count out.bytes }
-    ensures { result ≡ out }
+    ensures { IfOk result (λ r. r ≡ out) }
 {
-    let count = out.count;
-    let bytes = out.bytes;
-    io::write_all(STDOUT_FILENO, &bytes[..count]);
-    out
+    io::writer(rt).write_all(&out.bytes[..out.count])?;
+    Ok(out)
 }
 
 // Byte 0 and the mended page, or the number of a refusal, for the `got` bytes that were read to the room's start:
 // no byte that comes after a full room alters it.
-fn respond(room: &[u8], got: usize) -> Output
+fn respond(rt: &impl Print, room: &[u8], got: usize) -> io::Result<Output>
     requires { (length room.now ≡ 4105) × (got ≤ length room.now) }
-    ensures { Answered mender room.now got result.count result.bytes }
+    ensures { IfOk result (λ r. Answered mender room.now got r.count r.bytes) }
 {
     let input = &room[..got];
     let p = given::sheet_given(input);
-    put(room, got, page_mended(input, p))
+    put(rt, room, got, page_mended(input, p))
 }
 
-fn main() {
+fn main(rt: HostRuntime) -> io::Result<()> {
     let mut room = [0u8; 4105];
-    let got = io::read_full(0, &mut room);
-    respond(&room, got);
+    let got = given::read_full(&mut rt.reader(), &mut room)?;
+    respond(&rt, &room, got)?;
+    Ok(())
 }

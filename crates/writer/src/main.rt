@@ -1,14 +1,17 @@
 // The writer program: standard input has q, m, v, L, then t_0 to t_v if v is 1 to 3, then the blocks;
 // a missing one of these leading bytes counts as 0.
 // It writes byte 0 and the page, or one byte, the refusal's number. No sub-word is shortened: s is 0.
-ghost use Rattle.std.specs.Prelude.{◌≡◌, ◌≤◌, length};
+#![tactic(auto)]
+
+ghost use Rattle.std.specs.Prelude.{◌≡◌, ◌≤◌, IfOk, length};
 ghost use Rattle.code.specs.Parameters.{tested_number, Accepted};
 ghost use Rattle.code.specs.Writer.{Wrote, sheet_given, writer};
 ghost use Rattle.given.specs.Output.{Answered};
 
 use code::{Outcome, Parameters, Tested};
 use given::Output;
-use libc::STDOUT_FILENO;
+use std::io;
+use std::io::Write;
 
 // ---- the output
 
@@ -44,23 +47,21 @@ fn page_written(input: &[u8], p: Parameters) -> Output
 
 // ---- writing
 
-// The output owed for the `got` bytes that were read to the room's start is written. That it goes to standard output, whole, is tested and
-// not proved: no contract speaks of what a program writes.
-fn put(room: &[u8], got: usize, out: Output) -> Output
+// The output owed for the `got` bytes that were read to the room's start is written. That it goes to standard output, whole, is
+// tested and not proved: no contract speaks of what a program writes.
+fn put(rt: &impl Print, room: &[u8], got: usize, out: Output) -> io::Result<Output>
     requires { Answered writer room.now got out.count out.bytes }
-    ensures { result ≡ out }
+    ensures { IfOk result (λ r. r ≡ out) }
 {
-    let count = out.count;
-    let bytes = out.bytes;
-    io::write_all(STDOUT_FILENO, &bytes[..count]);
-    out
+    io::writer(rt).write_all(&out.bytes[..out.count])?;
+    Ok(out)
 }
 
 // Byte 0 and the page, or the number of a refusal, for the `got` bytes that were read to the room's start:
 // no byte that comes after a full room alters it.
-fn respond(room: &[u8], got: usize) -> Output
+fn respond(rt: &impl Print, room: &[u8], got: usize) -> io::Result<Output>
     requires { (4093 ≤ length room.now) × (got ≤ length room.now) }
-    ensures { Answered writer room.now got result.count result.bytes }
+    ensures { IfOk result (λ r. Answered writer room.now got r.count r.bytes) }
 {
     let input = &room[..got];
     let p = given::sheet_given(input);
@@ -77,7 +78,7 @@ fn respond(room: &[u8], got: usize) -> Output
     } = tested
     else {
         let k = tested_number(tested);
-        return put(room, got, given::refused(k));
+        return put(rt, room, got, given::refused(k));
     };
     let accepted = Parameters {
         q: q,
@@ -89,11 +90,12 @@ fn respond(room: &[u8], got: usize) -> Output
         t3: t3,
         s: s,
     };
-    put(room, got, page_written(input, accepted))
+    put(rt, room, got, page_written(input, accepted))
 }
 
-fn main() {
+fn main(rt: HostRuntime) -> io::Result<()> {
     let mut room = [0u8; 4093];
-    let got = io::read_full(0, &mut room);
-    respond(&room, got);
+    let got = given::read_full(&mut rt.reader(), &mut room)?;
+    respond(&rt, &room, got)?;
+    Ok(())
 }
