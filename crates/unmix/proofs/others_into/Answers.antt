@@ -15,12 +15,15 @@ loop-k-preserved c =
     let i = l.invariant in
     let K = i.3 in
     elim c.if-ks-k.branch [
-      then-ks-k w ↦
-        rw (w.list-is, w.c-is)
-        (length-set l.list l.c _ ∙ i.0, i.1, omega arith,
-        kept-else K (omega (arith, i.1, c.loop-k-test.true)) (omega (arith, K.few, i.0, i.1, c.requires, c.loop-k-test.true)) w.if-ks-k.true)
-    | else-ks-k w ↦
-        rw (w.list-is, w.c-is) (i.0, i.1, omega arith, kept_same K (omega (arith, i.1, c.loop-k-test.true)) w.if-ks-k.false)
+      | then-ks-k w ↦
+          rw (w.list-is, w.c-is) (
+            length-set l.list l.c _ ∙ i.0,
+            i.1,
+            omega arith,
+            kept-else K (omega (arith, i.1, c.loop-k-test.true)) (omega (arith, K.few, i.0, i.1, c.requires, c.loop-k-test.true)) w.if-ks-k.true,
+          )
+      | else-ks-k w ↦
+          rw (w.list-is, w.c-is) (i.0, i.1, omega arith, kept_same K (omega (arith, i.1, c.loop-k-test.true)) w.if-ks-k.false)
     ]
 
 pub returns : goal.returns

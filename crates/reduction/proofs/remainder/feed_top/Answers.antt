@@ -17,13 +17,18 @@ feed_words-q-requires c =
 pub loop-q-init : goal.loop-q-init
 loop-q-init c =
     elim c.if-l-eq64.branch [
-      then-l-eq64 w ↦
-        let f = w.feed_words-q in
-        rw (w.v-is, w.q-is, w.most-is) (omega arith, omega arith, f.ensures.1, f.ensures.0, f.auto.r, f.ensures.3)
-    | else-l-eq64 w ↦
-        rw (w.v-is, w.q-is, w.most-is)
-        (c.requires.7, omega (arith, c.requires.8, w.if-l-eq64.false), Nat.le_refl c.args.n, c.requires.4, refl,
-        start-fed c.args.t.now (value 8 c.args.s.now) c.args.n _ row-of-zeros)
+      | then-l-eq64 w ↦
+          let f = w.feed_words-q in
+          rw (w.v-is, w.q-is, w.most-is) (omega arith, omega arith, f.ensures.1, f.ensures.0, f.auto.r, f.ensures.3)
+      | else-l-eq64 w ↦
+          rw (w.v-is, w.q-is, w.most-is) (
+            c.requires.7,
+            omega (arith, c.requires.8, w.if-l-eq64.false),
+            Nat.le_refl c.args.n,
+            c.requires.4,
+            refl,
+            start-fed c.args.t.now (value 8 c.args.s.now) c.args.n _ row-of-zeros,
+          )
     ]
 
 pub step_part-requires : goal.step_part-requires
