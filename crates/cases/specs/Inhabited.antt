@@ -1,5 +1,5 @@
 -- The theorems' hypotheses hold of something, and ten statements that go further than the theorems are false. All by computation.
--- Those on mended sub_words and pages stand in `cases_mended`.
+-- Those on mended sub-words and pages stand in `cases_mended`.
 use Rattle.std.specs.Prelude.{◌≡◌, refl, ◌≢◌, ◌⊎◌, Bool, true, false, not, ◌&&◌, ◌||◌, List, [], ◌∷◌, ℕ, zero, suc, ◌+◌, ◌-◌, ◌≤◌, ◌<◌, T, eqb, ltb, get_or, replicate}
 use Rattle.std.proofs.Common.{sym, ap, ◌∙◌, inl, inr, zero-le, le_of_suc-le-suc, not-suc-le-zero, lt_irrefl, zero-add, arith, eqb→eq, lit<, lit≤, ltb→lt}
 use Rattle.polynomial.specs.Clmul.{clmul}
@@ -39,7 +39,7 @@ pub accepted-B : Accepted B
 unfolding sheet_refusal
 accepted-B = refl
 
--- one of q = 8, with the most sub_words and nested words
+-- one of q = 8, with the most sub-words and nested words
 pub accepted-8 : Accepted (sheet 8 8 3 1 2 2 2 0)
 unfolding sheet_refusal
 accepted-8 = refl

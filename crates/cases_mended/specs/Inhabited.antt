@@ -35,7 +35,7 @@ pub whole-member : Judged B3 whole Verdict.Member
 unfolding judge_answer pow
 whole-member = judged B3 whole Verdict.Member refl
 
--- ---- one sub_word mended: place 3 of sub_word 0 flipped
+-- ---- one sub-word mended: place 3 of sub-word 0 flipped
 abbrev one-flip : List ℕ
 one-flip = 0x2E ∷ 0x00 ∷ 0x35 ∷ 0x00 ∷ 0x13 ∷ 0x00 ∷ []
 
@@ -57,7 +57,7 @@ mend-nowhere = (
   made-refused _ 15 _ _ refl (lit< tt) (lit≤ tt),
 )
 
--- what the law on members supposes, beside the judged page above: flips in one sub_word, and what mend is to be lent
+-- what the law on members supposes, beside the judged page above: flips in one sub-word, and what mend is to be lent
 pub mend-damaged : Damaged B3 whole one-flip 0
 unfolding differences
 mend-damaged = record { elsewhere = go; few = lit≤ tt }
@@ -104,7 +104,7 @@ pub mend-other : Mended B3 two-flips other 0 (7 ∷ []) (4 ∷ []) 9 1 Outcome.D
 unfolding mend_refusal mending flipped place_list pow
 mend-other = (made-done _ _ _ _ refl refl, made-done _ _ _ _ refl refl, made-done _ _ _ _ refl refl)
 
--- so that a member with t_0 + 1 bits of a sub_word flipped comes back is false
+-- so that a member with t_0 + 1 bits of a sub-word flipped comes back is false
 pub not_back :
     ((z x after : List ℕ) (i : ℕ) (l listed : List ℕ) (n counted : ℕ) → Judged B3 z Verdict.Member
     → ((j : ℕ) → j < B3.m → j ≢ i → part 2 j x ≡ part 2 j z) → differences B3 x z ≤ strength B3 0 + 1
@@ -121,7 +121,7 @@ not_back h =
     go (suc (suc zero)) h n = refl
     go (suc (suc (suc j))) h n = absurd (not-suc-le-zero (le_of_suc-le-suc (le_of_suc-le-suc (le_of_suc-le-suc h))))
 
--- and that a page with its one faulty sub_word mended is a member: nested word 0 fails
+-- and that a page with its one faulty sub-word mended is a member: nested word 0 fails
 other-nested : Verdict.NestedWord 0 ≡ judge_answer B3 other
 unfolding judge_answer pow
 other-nested = refl
@@ -135,7 +135,7 @@ not-member-mended h =
     let z : ◌≡◌ {A = ℕ} 64 0 = ap verdict_number e in omega arith
 
 -- ---- the page mended through its nested words
--- with one flip in sub_word 0, three in sub_word 1 and two in sub_word 2
+-- with one flip in sub-word 0, three in sub-word 1 and two in sub-word 2
 abbrev hurt : List ℕ
 hurt = 0xA6 ∷ 0x00 ∷ 0x31 ∷ 0x0C ∷ 0x52 ∷ 0x00 ∷ []
 
@@ -143,7 +143,7 @@ pub hurt-page : IsPage B3 hurt
 unfolding page_clear
 hurt-page = record { bytes = (lit< tt, (lit< tt, (lit< tt, (lit< tt, (lit< tt, (lit< tt, tt)))))); exact = refl; clear = tt }
 
--- the first pass mends sub_word 0, a round sub_word 2 and a second one sub_word 1; no other changes anything
+-- the first pass mends sub-word 0, a round sub-word 2 and a second one sub-word 1; no other changes anything
 abbrev work : ℕ → Work
 work k = after B3 (words_of B3 hurt) k
 
@@ -201,7 +201,7 @@ pub page-blank : PageMended (sheet 4 2 1 1 2 0 0 0) erased erased (Outcome.Refus
 unfolding mend_page_refusal pow
 page-blank = made-refused _ 17 _ _ refl (lit< tt) (lit≤ tt)
 
--- two places of the zero page flipped: the first pass takes sub_word 0 for another multiple
+-- two places of the zero page flipped: the first pass takes sub-word 0 for another multiple
 pub page-wrong : PageMended B3 two-flips two-flips (Outcome.Refused 17)
 unfolding mend_page_refusal pow
 page-wrong = made-refused _ 17 _ _ refl (lit< tt) (lit≤ tt)

@@ -1,4 +1,4 @@
--- Demand 3, blank pages, the quote, bursts, many pages, one bit altered, one sub_word mended and a page mended of the C calls, from those of the calls behind them: a C call's promise is that of the call behind it, with the number of its answer.
+-- Demand 3, blank pages, the quote, bursts, many pages, one bit altered, one sub-word mended and a page mended of the C calls, from those of the calls behind them: a C call's promise is that of the call behind it, with the number of its answer.
 use Rattle.std.specs.Prelude.{◌≡◌, ◌↔◌, ◌⊎◌, length, get_or}
 use Rattle.std.proofs.Math.Path.{refl, sym, ap}
 use Rattle.std.proofs.Common.{◌∙◌, inl, inr}
@@ -292,7 +292,7 @@ module _ (p : Parameters) (A : Accepted p) where
     most = λ x after i r b y M. (alters p A).most x after i r b y (altered-done x after i r b M);
   }
 
-  -- ---- one sub_word mended
+  -- ---- one sub-word mended
   bytes-ones : (k : ℕ) → as_bytes (replicate k no_place) ≡ replicate (2 * k) 255
   unfolding as_bytes digits
   bytes-ones zero = refl

@@ -1,4 +1,4 @@
--- One sub_word mended: at most one multiple is near, and the flips that lead to it are what is tried and found.
+-- One sub-word mended: at most one multiple is near, and the flips that lead to it are what is tried and found.
 --   Found P k n t y R    R rises from k on, below n, has at most t places, and their flips take y to a word that passes P
 --   Mendable p x i k t   what mend does not refuse, but for 15: k is the length of the list, t what it is to be
 use Rattle.std.specs.Prelude.{◌≡◌, ◌≢◌, ◌↔◌, ◌⊎◌, Bool, true, false, not, List, [], ◌∷◌, ◌++◌, ℕ, zero, suc, ◌+◌, ◌-◌, ◌*◌, ◌^◌, ◌≤◌, ◌<◌, T, leb, length, get_or, set, replicate}
@@ -236,7 +236,7 @@ module _ (p : Parameters) (R : Rules p) (a : ℕ) (av : a ≤ p.v) (y : ℕ) whe
     pub nearest-clean : Multiple (gen p a) y → nearest p a y ≡ some []
     nearest-clean m = (nearest-iff []).1 (record { rising = tt; few = zero-le; multiple = rw (flips-nil, xor_zero_r y) m })
 
--- ---- pages with places of sub_word i flipped
+-- ---- pages with places of sub-word i flipped
 module _ (p : Parameters) (R : Rules p) (x : List ℕ) (h : IsPage p x) (i : ℕ) (li : i < p.m) where
   abbrev pub word : ℕ
   word = get_or (words_of p x) i 0

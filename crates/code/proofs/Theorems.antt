@@ -1,5 +1,5 @@
 -- THE THEOREM: demands 2 and 3 hold for all accepted parameters, judge finds every burst, many pages in one call are those of single calls,
--- a member with one bit altered is the page of its blocks with that bit altered, one sub_word is mended by the only multiple near it, and a page
+-- a member with one bit altered is the page of its blocks with that bit altered, one sub-word is mended by the only multiple near it, and a page
 -- through its nested words.
 use Rattle.std.proofs.Math.Path.{◌≡◌, refl}
 use Rattle.std.proofs.Common.{sym, ap, ap₂, ◌∙◌, inl, inr, arith, T_not, pow_pos}
@@ -903,14 +903,14 @@ module _ (p : Parameters) (A : Accepted p) where
     most = alter-most;
   }
 
-  -- ---- one sub_word mended
+  -- ---- one sub-word mended
   mend-given : (size : ℕ) (x : List ℕ) (i k : ℕ) → Bytes x → Mendable p x i k (size * strength p 0) → MendLent size p x i k
   mend-given size x i k y s = record { page = record { bytes = y; exact = s.exact; clear = s.clear }; sub_word = s.sub_word; list = s.room }
 
   given-mend : (size : ℕ) (x : List ℕ) (i k : ℕ) → MendLent size p x i k → Mendable p x i k (size * strength p 0)
   given-mend size x i k g = record { exact = g.page.exact; clear = g.page.clear; sub_word = g.sub_word; room = g.list }
 
-  -- the word of sub_word i
+  -- the word of sub-word i
   module _ (x : List ℕ) (i : ℕ) (h : IsPage p x) (li : i < p.m) where
     sub_low : sub_word_of p x i < 2 ^ stored p
     sub_low = word_lt p R x h i li
@@ -1006,7 +1006,7 @@ module _ (p : Parameters) (A : Accepted p) where
         ap (flipped p x i) t ∙ flipped-none p R x g.page i g.sub_word,
       )
 
-  -- pages with one sub_word that differs
+  -- pages with one sub-word that differs
   module _ (z x : List ℕ) (i : ℕ) (h : IsPage p x) (li : i < p.m) (u : IsPage p z) (same_word : (j : ℕ) → j < p.m → j ≢ i → sub_word_of p z j ≡ sub_word_of p x j) where
     pub damage : differences p x z ≡ weight (xor (sub_word_of p x i) (sub_word_of p z i))
     damage =

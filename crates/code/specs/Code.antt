@@ -1,4 +1,4 @@
--- The code on words. A word is a number whose bit k is the coefficient of x^k; a page's sub_words are a list of m words.
+-- The code on words. A word is a number whose bit k is the coefficient of x^k; a page's sub-words are a list of m words.
 --   gen p a             g_a, the generator of level a; degree p a is its degree w_a (Parameters)
 --   remainder p a c     the remainder of c by g_a
 --   level p i           the level of sub-word i: v - i, and 0 from i = v on; check_bits p i is its number w of check bits
@@ -8,7 +8,7 @@
 --   newton l cs         Σ N(i, l) × c_i: nested word l in the equal form
 --   encode p ds         the words of the data ds; data_words p cs the data of words
 --   IsMember p cs       the words of a member of the code
---   verdict p cs        member, or the first word that fails: sub_words before nested words
+--   verdict p cs        member, or the first word that fails: sub-words before nested words
 --   failing_number p cs  its number, apart from the enum: 32 + i, 64 + l, or 0; failing_values p cs its values: i, l, or none
 --   syndromes p k c     S_1 to S_k of a word
 --   odd_syndromes p t c  S_1, S_3, .., t of them: the list that calls give

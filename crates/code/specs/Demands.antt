@@ -10,14 +10,14 @@
 --   BlankReadLaws, BlankWriteLaws    what read out gives of a blank page, and write of blocks that would make one
 --   QuoteLaws p number   the numbers that the quote gives; QuotedPage p number blocks page: a written page has so many check and data bits
 --   InBurst p a k        place k is one of the w_v neighbouring places from a on
---   Burst p x y i a      two pages differ in sub_word i alone, in the burst from a on: the requirement's scratched run
+--   Burst p x y i a      two pages differ in sub-word i alone, in the burst from a on: the requirement's scratched run
 --   BurstLaws p          judge finds every burst, and a longer one it need not find
 --   ManyLaws p           many pages in one call: each page and each listed byte are a single call's
 --   SetTo p c i r b old  blocks c that fit: bit r of block i is b, and every other as `old` has it
 --   AlterLaws p          one bit altered: what changes, and that a member becomes the page of the altered blocks
---   MendLaws p           one sub_word mended: the one multiple of g_0 within t_0 flips, or nothing changed
+--   MendLaws p           one sub-word mended: the one multiple of g_0 within t_0 flips, or nothing changed
 --   left p x k           b_k, how many sub-words of the page x are broken after the first pass and k rounds; page_after p x k: the page then
---   PassLaws p x W       what the first pass does to each sub_word; RoundLaws p W W': what a round does, and by which syndromes
+--   PassLaws p x W       what the first pass does to each sub-word; RoundLaws p W W': what a round does, and by which syndromes
 --   Succeeds, Fails      when the page is mended, and when it is not, by the numbers b_k
 --   Recoverable p z x    x came from z by flips that passes and rounds mend
 --   heavier p z x a      how many sub-words have more than t_a flips; Reached p z x: as few as rounds mend, and no error near another
@@ -30,7 +30,7 @@
 --   QuotedC p            the quote of C, whose numbers are bytes
 --   ManyC p              many pages in C: a listed byte is the number of a single call
 --   AlterC p             one bit altered, in C
---   MendC p              one sub_word mended, in C: the list is bytes
+--   MendC p              one sub-word mended, in C: the list is bytes
 --   OddC p               all syndromes from the odd ones, in C
 --   PageC p              a page mended through its nested words, in C
 use Rattle.std.specs.Prelude.{◌≡◌, ◌≢◌, ◌↔◌, ◌⊎◌, ◌&&◌, ◌||◌, cond, List, [], ◌++◌, map, ℕ, suc, ◌+◌, ◌-◌, ◌*◌, ◌/◌, ◌%◌, ◌^◌, ◌≤◌, ◌<◌, eqb, ltb, length, get_or, replicate, drop}
@@ -146,10 +146,10 @@ pub record OddLaws (p : Parameters) : Type 0 where
 
 -- ---- demand 2: placement, membership, written pages
 pub record PlacementLaws (p : Parameters) : Type 0 where
-  -- the coefficient of x^k of sub_word i is bit k mod 8 of byte i × ((n - s + 7) / 8) + k div 8
+  -- the coefficient of x^k of sub-word i is bit k mod 8 of byte i × ((n - s + 7) / 8) + k div 8
   pub sub_word : (x : List ℕ) → IsPage p x → (i k : ℕ) → i < p.m → k < stored p
       → coefficient (sub_word_of p x i) k ≡ coefficient (get_or x (i * ((2 ^ p.q - 1 - p.s + 7) / 8) + k / 8) 0) (k % 8)
-  -- bit r of block i is the coefficient of x^(w + r) of sub_word i, in the written page and in what read out gives
+  -- bit r of block i is the coefficient of x^(w + r) of sub-word i, in the written page and in what read out gives
   pub written : (b : List ℕ) → Fits p b → (i r : ℕ) → i < p.m → r < stored p - degree p (p.v - i)
       → coefficient_of p (page_of p b) i (degree p (p.v - i) + r) ≡ block_bit p b i r
   pub read : (x : List ℕ) → Bytes x → (i r : ℕ) → i < p.m → r < stored p - degree p (p.v - i)
@@ -160,8 +160,8 @@ pub record PlacementLaws (p : Parameters) : Type 0 where
       ≡ remainder p (p.v - i)
       (xor (get_or (blocks_of p b) i 0 * 2 ^ degree p (p.v - i)) (carried (p.v - i) i (drop (suc i) (words_of p (page_of p b)))))
 
--- how many coefficients are stored, at which count a register is full, how many bytes a sub_word and a nested word take;
--- the top s coefficients of a sub_word are 0, and every block has a bit
+-- how many coefficients are stored, at which count a register is full, how many bytes a sub-word and a nested word take;
+-- the top s coefficients of a sub-word are 0, and every block has a bit
 pub record StoredLaws (p : Parameters) : Type 0 where
   pub count : stored p ≡ 2 ^ p.q - 1 - p.s
   pub full-count : full p ≡ 2 ^ p.q - 1 - p.s
@@ -198,7 +198,7 @@ pub record QuoteLaws (p : Parameters) (number : ℕ → ℕ) : Type 0 where
   pub past-v : (a : ℕ) → p.v < a → a < 4 → number a ≡ 0
   pub past-m : (i : ℕ) → p.m ≤ i → i < 8 → number (4 + i) ≡ 0
 
--- a written page has so many: sub_word i has number (v - i) check bits in its lowest places, and above them number (4 + i) data bits
+-- a written page has so many: sub-word i has number (v - i) check bits in its lowest places, and above them number (4 + i) data bits
 pub record QuotedPage (p : Parameters) (number : ℕ → ℕ) (blocks page : List ℕ) : Type 0 where
   pub places : (i : ℕ) → i < p.m → number (p.v - i) + number (4 + i) ≡ stored p
   -- the data bits stand above the check bits
@@ -343,7 +343,7 @@ InBurst p a k =
 abbrev pub Burst : Parameters → List ℕ → List ℕ → ℕ → ℕ → Type 0
 Burst p x y i a = (j k : ℕ) → j < p.m → k < stored p → coefficient_of p x j k ≢ coefficient_of p y j k → (j ≡ i) × InBurst p a k
 
--- members x and y that differ in sub_word i alone, within w_v + 1 neighbouring places
+-- members x and y that differ in sub-word i alone, within w_v + 1 neighbouring places
 pub record LongerBurst (p : Parameters) (i a : ℕ) (x y : List ℕ) : Type 0 where
   pub member-x : (r : Verdict) → Judged p x r → r ≡ Verdict.Member
   pub member-y : (r : Verdict) → Judged p y r → r ≡ Verdict.Member
@@ -355,10 +355,10 @@ pub record BurstLaws (p : Parameters) : Type 0 where
   -- a member x and other bytes y, of any length, that differ from it in one burst: whatever judge says of y, it is not member
   pub never : (x y : List ℕ) (i a : ℕ) (r : Verdict) → Bytes x → Bytes y → i < p.m → a < stored p
       → Judged p x Verdict.Member → Burst p x y i a → x ≢ y → Judged p y r → r ≢ Verdict.Member
-  -- of a page other than blank, that sub_word is named or, if it passes, nested word 0
+  -- of a page other than blank, that sub-word is named or, if it passes, nested word 0
   pub named : (x y : List ℕ) (i a : ℕ) (r : Verdict) → Bytes x → IsPage p y → (¬ IsBlank p y) → i < p.m → a < stored p
       → Judged p x Verdict.Member → Burst p x y i a → x ≢ y → Judged p y r → (r ≡ Verdict.SubWord i) ⊎ (r ≡ Verdict.NestedWord 0)
-  -- in bytes: whatever is done to l neighbouring bytes of a sub_word, 8 l up to w_v; and 8 is, so one byte always may be
+  -- in bytes: whatever is done to l neighbouring bytes of a sub-word, 8 l up to w_v; and 8 is, so one byte always may be
   pub bytes : (x y : List ℕ) (i o l : ℕ) (r : Verdict) → Bytes x → Bytes y → i < p.m → 1 ≤ l → o + l ≤ sub_word_bytes p
       → 8 * l ≤ degree p p.v
       → ((k : ℕ) → (k < i * sub_word_bytes p + o) ⊎ (i * sub_word_bytes p + o + l ≤ k) → get_or x k 0 ≡ get_or y k 0)
@@ -367,7 +367,7 @@ pub record BurstLaws (p : Parameters) : Type 0 where
   -- a spare bit that is 1 makes bytes of a page's length 8, unless every coefficient is 1: then they are blank
   pub stray : (y : List ℕ) (j k : ℕ) (r : Verdict) → Bytes y → PageBuffer p y → (¬ IsBlank p y) → j < p.m → stored p ≤ k
       → k < 8 * sub_word_bytes p → coefficient_of p y j k ≡ 1 → Judged p y r → r ≡ Verdict.Refused 8
-  -- and w_v is the most: one place more, and two members differ, in whatever sub_word and from whatever place on
+  -- and w_v is the most: one place more, and two members differ, in whatever sub-word and from whatever place on
   pub longer : (i a : ℕ) → i < p.m → a + degree p p.v < stored p → (x : List ℕ) × (y : List ℕ) × LongerBurst p i a x y
 
 -- ---- many pages in one call
@@ -456,21 +456,21 @@ pub record AlterLaws (p : Parameters) : Type 0 where
   pub most : (x after : List ℕ) (i r b : ℕ) → Bytes x → Altered p x i r b after Outcome.Done
       → differences p x after ≤ add_below p.m (λ j. cond (eqb j i || (ltb j i && ltb j p.v)) (degree p (p.v - j)) 0) + 1
 
--- ---- one sub_word mended
--- what mend is to be lent: a page with clear spare bits, a sub_word of it, and a list of t_0 numbers, each of `size` places
+-- ---- one sub-word mended
+-- what mend is to be lent: a page with clear spare bits, a sub-word of it, and a list of t_0 numbers, each of `size` places
 pub record MendLent (size : ℕ) (p : Parameters) (x : List ℕ) (i k : ℕ) : Type 0 where
   pub page : IsPage p x
   pub sub_word : i < p.m
   pub list : k ≡ size * strength p 0
 
--- the flips R done to sub_word i of x: what it is afterwards, how they are listed, and their number
+-- the flips R done to sub-word i of x: what it is afterwards, how they are listed, and their number
 pub record Mends (p : Parameters) (x after : List ℕ) (i : ℕ) (listed : List ℕ) (counted : ℕ) (R : List ℕ) : Type 0 where
   pub flips : Flips p 0 (sub_word_of p x i) R
   pub sub_word : sub_word_of p after i ≡ xor (sub_word_of p x i) (F.flips R)
   pub list : listed ≡ R ++ replicate (strength p 0 - length R) 65535
   pub number : counted ≡ length R
 
--- z with at most t_0 stored bits of sub_word i flipped
+-- z with at most t_0 stored bits of sub-word i flipped
 pub record Damaged (p : Parameters) (z x : List ℕ) (i : ℕ) : Type 0 where
   pub elsewhere : (j : ℕ) → j < p.m → j ≢ i → part (sub_word_bytes p) j x ≡ part (sub_word_bytes p) j z
   pub few : differences p x z ≤ strength p 0
@@ -487,7 +487,7 @@ pub record MendLaws (p : Parameters) : Type 0 where
   -- a refusal changes nothing: page, list, number
   pub kept : (x after : List ℕ) (i : ℕ) (l listed : List ℕ) (n counted k : ℕ) → Mended p x after i l listed n counted (Outcome.Refused k)
       → (after ≡ x) × (listed ≡ l) × (counted ≡ n)
-  -- done, sub_word i is that multiple; it came by the flips that are listed, and as many bits differ
+  -- done, sub-word i is that multiple; it came by the flips that are listed, and as many bits differ
   pub mended : (x after : List ℕ) (i : ℕ) (l listed : List ℕ) (n counted : ℕ) → Bytes x → Mended p x after i l listed n counted Outcome.Done
       → IsPage p after × Near p 0 (sub_word_of p x i) (sub_word_of p after i)
   pub places : (x after : List ℕ) (i : ℕ) (l listed : List ℕ) (n counted : ℕ) → Bytes x → Mended p x after i l listed n counted Outcome.Done
@@ -495,11 +495,11 @@ pub record MendLaws (p : Parameters) : Type 0 where
   -- whatever is answered, every byte of the other sub-words stays
   pub elsewhere : (x after : List ℕ) (i : ℕ) (l listed : List ℕ) (n counted : ℕ) (o : Outcome) (j : ℕ) → Bytes x
       → Mended p x after i l listed n counted o → j < p.m → j ≢ i → part (sub_word_bytes p) j after ≡ part (sub_word_bytes p) j x
-  -- a fault-free sub_word has no flips
+  -- a fault-free sub-word has no flips
   pub clean : (x after : List ℕ) (i : ℕ) (l listed : List ℕ) (n counted : ℕ) (o : Outcome) → Bytes x → Mended p x after i l listed n counted o
       → MendLent 1 p x i (length l) → Multiple (gen p 0) (sub_word_of p x i)
       → (o ≡ Outcome.Done) × (after ≡ x) × (listed ≡ replicate (strength p 0) 65535) × (counted ≡ 0)
-  -- a member with at most t_0 stored bits of one sub_word flipped comes back
+  -- a member with at most t_0 stored bits of one sub-word flipped comes back
   pub back : (z x after : List ℕ) (i : ℕ) (l listed : List ℕ) (n counted : ℕ) (o : Outcome) → Bytes z → Bytes x → Judged p z Verdict.Member
       → Damaged p z x i → MendLent 1 p x i (length l) → Mended p x after i l listed n counted o
       → (o ≡ Outcome.Done) × (after ≡ z) × (counted ≡ differences p x z)
@@ -512,7 +512,7 @@ left p x k = length (after p (words_of p x) k).broken
 abbrev pub page_after : Parameters → List ℕ → ℕ → List ℕ
 page_after p x k = join (word_sizes p) (after p (words_of p x) k).words
 
--- the first pass: a sub_word that flips of at most t_0 stored places make a multiple of g_0 is mended by these; any other stays, broken
+-- the first pass: a sub-word that flips of at most t_0 stored places make a multiple of g_0 is mended by these; any other stays, broken
 pub record PassLaws (p : Parameters) (x : List ℕ) (W : Work) : Type 0 where
   pub mends : (i : ℕ) (R : List ℕ) → i < p.m → Flips p 0 (sub_word_of p x i) R
       → (get_or W.words i 0 ≡ xor (sub_word_of p x i) (F.flips R)) × (¬ Mem i W.broken)
@@ -521,7 +521,7 @@ pub record PassLaws (p : Parameters) (x : List ℕ) (W : Work) : Type 0 where
 
 -- a round from W to W', of b broken sub-words, at level a = v - b + 1
 pub record RoundLaws (p : Parameters) (W W' : Work) : Type 0 where
-  -- a broken sub_word is mended by the stored places, at most t_a, of an error with the syndromes that the nested words give; or stays, broken
+  -- a broken sub-word is mended by the stored places, at most t_a, of an error with the syndromes that the nested words give; or stays, broken
   pub mends : (i : ℕ) (R : List ℕ) → Mem i W.broken → ErrorBy p (p.v - length W.broken + 1) (error_sums p W i) R
       → (get_or W'.words i 0 ≡ xor (get_or W.words i 0) (F.flips R)) × (¬ Mem i W'.broken)
   pub stays : (i : ℕ) → Mem i W.broken → ((R : List ℕ) → ¬ ErrorBy p (p.v - length W.broken + 1) (error_sums p W i) R)
@@ -553,7 +553,7 @@ pub record Recoverable (p : Parameters) (z x : List ℕ) : Type 0 where
   pub few : count_below p.m (λ i. ltb (strength p 0) (flips_in p x z i)) ≤ p.v
   -- no single mending, in the first pass or in a round, gave a wrong word
   pub right : (k i : ℕ) → i < p.m → ¬ Mem i (after p (words_of p x) k).broken → get_or (after p (words_of p x) k).words i 0 ≡ sub_word_of p z i
-  -- in every round some sub_word that is left has at most t_a flips, a = v - b + 1
+  -- in every round some sub-word that is left has at most t_a flips, a = v - b + 1
   pub light : (k : ℕ) → 0 < length (after p (words_of p x) k).broken
       → (i : ℕ) × Mem i (after p (words_of p x) k).broken × (flips_in p x z i ≤ strength p (p.v - length (after p (words_of p x) k).broken + 1))
 
@@ -602,7 +602,7 @@ pub record PageLaws (p : Parameters) : Type 0 where
   -- the member comes back
   pub back : (z x after : List ℕ) (o : Outcome) → Bytes z → IsPage p x → Judged p z Verdict.Member → Recoverable p z x → PageMended p x after o
       → (o ≡ Outcome.Done) × (after ≡ z)
-  -- always, where no sub_word has more than t_0 flips
+  -- always, where no sub-word has more than t_0 flips
   pub always : (z x after : List ℕ) (o : Outcome) → Bytes z → IsPage p x → Judged p z Verdict.Member
       → ((i : ℕ) → i < p.m → flips_in p x z i ≤ strength p 0) → PageMended p x after o → (o ≡ Outcome.Done) × (after ≡ z)
   -- within reach, in as many rounds as it takes, and in one
@@ -737,7 +737,7 @@ pub record AlterC (p : Parameters) : Type 0 where
   pub most : (x after : List ℕ) (i r b : ℕ) → Bytes x → AlteredC p x i r b after 0
       → differences p x after ≤ add_below p.m (λ j. cond (eqb j i || (ltb j i && ltb j p.v)) (degree p (p.v - j)) 0) + 1
 
--- ---- one sub_word mended, in C: 2 t_0 bytes hold the list
+-- ---- one sub-word mended, in C: 2 t_0 bytes hold the list
 pub record MendC (p : Parameters) : Type 0 where
   pub done : (x after : List ℕ) (i : ℕ) (l listed : List ℕ) (n counted o : ℕ) → Bytes x → MendedC p x after i l listed n counted o
       → (o ≡ 0) ↔ (MendLent 2 p x i (length l) × ((c : ℕ) × Near p 0 (sub_word_of p x i) c))
@@ -784,11 +784,11 @@ Shortening =
     (p : Parameters) → full_refusal p ≡ 0
     → (Accepted p ↔ (p.s ≤ 2 ^ p.q - 1 - degree p p.v - 1)) × ((sheet_refusal p ≡ 14) ↔ (2 ^ p.q - 1 - degree p p.v - 1 < p.s))
 
--- ---- both, bursts, many pages in one call, one bit altered, one sub_word mended, and a page mended, for every accepted sheet
+-- ---- both, bursts, many pages in one call, one bit altered, one sub-word mended, and a page mended, for every accepted sheet
 abbrev pub Demands : Type 0
 Demands = (p : Parameters) → Accepted p → Demand2 p × Demand3 p × BurstLaws p × ManyLaws p × AlterLaws p × MendLaws p × PageLaws p
 
--- ---- and, of the C calls, demand 3, blank pages, the quote, bursts, many pages, one bit altered, one sub_word mended, all syndromes from the odd
+-- ---- and, of the C calls, demand 3, blank pages, the quote, bursts, many pages, one bit altered, one sub-word mended, all syndromes from the odd
 -- ones and a page mended
 abbrev pub DemandsC : Type 0
 DemandsC = (p : Parameters) → Accepted p → Demand3C p × BlankC p × QuotedC p × BurstC p × ManyC p × AlterC p × MendC p × OddC p × PageC p

@@ -1,5 +1,5 @@
--- One coefficient of a member flipped, and the sub_word mended.
---   struck p z i e    the page z with the coefficient of x^e of sub_word i flipped
+-- One coefficient of a member flipped, and the sub-word mended.
+--   struck p z i e    the page z with the coefficient of x^e of sub-word i flipped
 use Rattle.std.specs.Prelude.{◌≡◌, refl, List, [], ◌∷◌, ℕ, ◌^◌, ◌<◌, length}
 use Rattle.std.proofs.Common.{sym, ap, ◌∙◌, zero-le}
 use Rattle.std.proofs.Math.Nat as Nat

@@ -18,7 +18,7 @@ use Rattle.mend.specs.Nearest.{nearest-remainder, nearest_zero, sheet-bounds, sh
 use Rattle.alone.proofs.find.Goals as goal
 use Rattle.alone.proofs.find.Goals.{After-remainder_at}
 
--- the remainder of sub_word i
+-- the remainder of sub-word i
 module _ (m : After-remainder_at) where
   low : (get_or (words_of m.args.p m.args.page.now) m.args.i 0) < 2 ^ stored m.args.p
   low = word_lt m.args.p (accepted m.args.p m.requires.0.accepts) m.args.page.now m.requires.3 m.args.i m.requires.4

@@ -16,7 +16,7 @@ use Rattle.alter.specs.Sum.{no_shift}
 use Rattle.alter.proofs.add_word.Goals as goal
 use Rattle.alter.proofs.add_word.Goals.{After-sub_word_bytes-b}
 
--- sub_word k lies within the page
+-- sub-word k lies within the page
 room : (c : After-sub_word_bytes-b) → (let a = c.args in a.k * c.sub_word_bytes-b.result + c.sub_word_bytes-b.result ≤ length a.sum.now)
 room c = omega (arith, c.requires.1, part_room c.args.p c.requires.0 c.args.k c.sub_word_bytes-b.result c.sub_word_bytes-b.ensures c.requires.6)
 
