@@ -2,7 +2,7 @@
 """What the program quote must write.
 
     python3 tools/quote.py > crates/quote/stdout
-    python3 tools/quote.py target/bin/quote
+    python3 tools/quote.py crates/quote/out/quote
 
 The first writes the text for crates/quote/stdin. The second runs the program on more inputs, says nothing and ends with 0
 where all agree; else it names the inputs that differ and ends with 1. The numbers come from tools/cases.py, with the

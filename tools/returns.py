@@ -1,7 +1,7 @@
 #!/usr/bin/env python3
 """Runs the returns desk's program and compares what it writes with what another decoder works out.
 
-    python3 tools/returns.py target/bin/returns
+    python3 tools/returns.py crates/returns/out/returns
 
 Says nothing and ends with 0 where all agree; else it names the inputs that differ and ends with 1. The expected bytes
 come from tools/cases.py, of the large fields with what tools/trial.py gives it. Inputs come whole, in pieces, and without end.

@@ -1,7 +1,7 @@
 #!/usr/bin/env python3
 """Runs the writer program and compares what it writes with what another encoder works out.
 
-    python3 tools/writer.py target/bin/writer
+    python3 tools/writer.py crates/writer/out/writer
 
 Says nothing and ends with 0 where all agree; else it names the inputs that differ and ends with 1. The expected bytes
 come from tools/cases.py, with the generators of the large fields from tools/trial.py. Inputs come whole, in pieces, and

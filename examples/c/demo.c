@@ -5,8 +5,8 @@
  * with full and with shortened sub-words, and every refusal is shown to leave its buffers.
  * Every length comes from the calls. Prints what it does; the first surprise ends it with status 1.
  *
- *   rt staticlib gii_bch
- *   cc -O2 -Iinclude examples/c/demo.c target/staticlib/libgii_bch.a -o target/demo && target/demo
+ *   (cd crates/gii_bch && rt lib)
+ *   cc -O2 -Iinclude examples/c/demo.c crates/gii_bch/out/libgii_bch.a -o demo && ./demo
  *
  * or, installed (install.sh):
  *
