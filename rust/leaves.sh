@@ -7,10 +7,9 @@ cd "$(dirname "$0")"
 copy=$(mktemp -d)
 trap 'rm -rf "$copy"' EXIT
 cp -r ../crates ../crates.txt "$copy"
-[ -d ../target ] && cp -r ../target "$copy"
 cp -r leaves/crate "$copy/crates/leaves"
 find "$copy/crates/leaves" -name '*.txt' -exec sh -c 'mv "$1" "${1%.txt}"' _ {} \;
-echo 'leaves: polynomial field generator code tables element kernels reduction generator_rows sheet levels layout' >> "$copy/crates.txt"
-(cd "$copy" && rt staticlib leaves && rt staticlib gii_bch) > target/leaves.log
-gcc -std=c11 -Wall -Wextra -Werror -O2 -I../include leaves/bench.c "$copy/target/staticlib/libleaves.a" "$copy/target/staticlib/libgii_bch.a" -o target/leaves
+echo 'leaves staticlib: polynomial field generator code tables element kernels reduction generator_rows sheet levels layout' >> "$copy/crates.txt"
+(cd "$copy/crates/leaves" && rt lib && cd ../gii_bch && rt lib) > target/leaves.log
+gcc -std=c11 -Wall -Wextra -Werror -O2 -I../include leaves/bench.c "$copy/crates/leaves/out/libleaves.a" "$copy/crates/gii_bch/out/libgii_bch.a" -o target/leaves
 target/leaves
