@@ -41,7 +41,7 @@
 //! ```
 //!
 //! `build.rs` links the archive that the variable `GII_ARCHIVE` names (a path from `rust/`), or
-//! `target/staticlib/libgii_bch.a` of the repository, which `rt staticlib gii_bch` makes. It is for x86-64 and takes at
+//! `crates/gii_bch/out/libgii_bch.a` of the repository, which `rt lib` makes there. It is for x86-64 and takes at
 //! most 128 KiB of stack for [`Sheet::write_many`], at most 64 KiB for [`Sheet::mend`], at most 96 KiB for
 //! [`Sheet::mend_page`] and at most 32 KiB for every other call. Calls may run at once in several threads.
 
