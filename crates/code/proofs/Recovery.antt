@@ -117,6 +117,14 @@ module _ (p : Parameters) (A : Accepted p) where
       let r : MendedWords p W.words = record { member = x.0; unblank = x.1; stand = w.stand } in
       rw x.2 at r
 
+  -- more than v broken: nothing, however many rounds
+  pub rounds-many : (f : ℕ) (W : Work) → p.v < length W.broken → rounds p f W ≡ none
+  rounds-many zero W h = rounds-zero p W ∙ no-is (leb (length W.broken) 0) (end p W.words) none (over (length W.broken) 0 (Nat.not-le_of_lt (omega arith)))
+  rounds-many (suc f) W h =
+      let next = cond (ltb (length (round p W).broken) (length W.broken)) (rounds p f (round p W)) none in
+      rounds-suc p f W ∙ no-is (leb (length W.broken) 0) (end p W.words) (cond (leb (length W.broken) p.v) next none) (over (length W.broken) 0 (Nat.not-le_of_lt (omega arith)))
+      ∙ no-is (leb (length W.broken) p.v) next none (over (length W.broken) p.v (Nat.not-le_of_lt h))
+
   rounds-give : (f : ℕ) (W : Work) (es : List ℕ) → IsWork p W → rounds p f W ≡ some es → MendedWords p es
   rounds-give zero W es w h = go (leb (length W.broken) 0) (sym (rounds-zero p W) ∙ h)
     where
@@ -150,14 +158,6 @@ module _ (p : Parameters) (A : Accepted p) where
           → cond b (rounds p (suc f) (round p W)) none ≡ cond b (rounds p f (round p W)) none
       go true e ih = ih (omega (arith, ltb→lt (length (round p W).broken) (length W.broken) (rw e tt)))
       go false e ih = refl
-
-  -- more than v broken: nothing, however many rounds
-  pub rounds-many : (f : ℕ) (W : Work) → p.v < length W.broken → rounds p f W ≡ none
-  rounds-many zero W h = rounds-zero p W ∙ no-is (leb (length W.broken) 0) (end p W.words) none (over (length W.broken) 0 (Nat.not-le_of_lt (omega arith)))
-  rounds-many (suc f) W h =
-      let next = cond (ltb (length (round p W).broken) (length W.broken)) (rounds p f (round p W)) none in
-      rounds-suc p f W ∙ no-is (leb (length W.broken) 0) (end p W.words) (cond (leb (length W.broken) p.v) next none) (over (length W.broken) 0 (Nat.not-le_of_lt (omega arith)))
-      ∙ no-is (leb (length W.broken) p.v) next none (over (length W.broken) p.v (Nat.not-le_of_lt h))
 
   -- ---- with v rounds: none broken, a round that leaves fewer, and one that does not
   pub rounds-end : (W : Work) → length W.broken ≡ 0 → rounds p p.v W ≡ end p W.words

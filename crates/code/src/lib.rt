@@ -1,4 +1,4 @@
-// The code's parameters and the answers of its calls, as types. Definitions and theorems stand in specs/.
+// The code's parameters and the answers of its calls, as types. Definitions stand in specs/, theorems in proofs/.
 
 // The parameters of a code: the requirement's sheet. Its strengths t0 to t3 are the errors each level corrects; places past v are 0.
 // The top s coefficients of every sub-word are 0 and not stored.

@@ -1,1 +1,1 @@
-// Theory alone: the generators. Definitions and laws stand in specs/.
+// Theory alone: the generators. Definitions stand in specs/, with the laws by which they are worked out; theorems in proofs/.
