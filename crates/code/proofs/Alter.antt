@@ -13,7 +13,6 @@ use Rattle.std.proofs.Math.Dec.{eqb_refl, nleb→lt, not_T}
 use Rattle.std.proofs.Math.Pow.{pow-lt}
 use Rattle.polynomial.specs.Bits.{coefficient}
 use Rattle.polynomial.specs.Coefficients.{beyond, coefficient-xor, pow-bit, pow-bits}
-use Rattle.polynomial.specs.Digits.{value}
 use Rattle.polynomial.specs.Division.{rem_lt, rem-zero}
 use Rattle.polynomial.specs.Sums.{All, add, add_at, all-at}
 use Rattle.polynomial.specs.Xor.{bit-ind, xor, xor-cancel, xor_is, xor_self, xor_zero_l, xor_zero_r}

@@ -1,5 +1,5 @@
 -- Demand 3, blank pages, the quote, bursts, many pages, one bit altered, one sub-word mended and a page mended of the C calls, from those of the calls behind them: a C call's promise is that of the call behind it, with the number of its answer.
-use Rattle.std.specs.Prelude.{◌≡◌, ◌↔◌, ◌⊎◌, length, get_or}
+use Rattle.std.specs.Prelude.{◌≡◌, ◌↔◌, ◌⊎◌, length, Ok, Err}
 use Rattle.std.proofs.Math.Path.{refl, sym, ap}
 use Rattle.std.proofs.Common.{◌∙◌, inl, inr}
 use mathlib.Core.List.{List, [], ◌∷◌}
@@ -9,14 +9,15 @@ use native.Mathlib.Omega.{arith}
 use Rattle.std.proofs.Math.ListN.{replicate}
 use Rattle.polynomial.specs.Digits.{digits}
 use Rattle.polynomial.specs.Sums.{add}
-use Rattle.code.specs.declared.Outcome.{Outcome}
 use Rattle.code.specs.declared.Parameters.{Parameters}
+use Rattle.code.specs.declared.Refusal.{Refusal}
 use Rattle.code.specs.declared.Verdict.{Verdict}
+use Rattle.code.specs.Answers.{Judgement, answer_number}
 use Rattle.code.proofs.Accepted.{accepted}
-use Rattle.code.proofs.Answers.{judged, judged-blanks, judged-zero, leaves-refused, made_of, outcome-number, read, read-as-judge, read-zero}
+use Rattle.code.proofs.Answers.{judged, judged-blanks, judged-zero, leaves-refused, made_of, done-zero, outcome-number, read, read-as-judge, read-zero}
 use Rattle.code.proofs.Buffers.{bytes-at, length-bytes}
 use Rattle.code.specs.Calls.{Altered, AlteredC, Judged, JudgedC, MendedC, PageMended, PageMendedC, QuoteMadeC, ReadOut, ReadOutC, Written, WrittenC, WrittenMany, WrittenManyC, as_bytes, judge_answer, number_at, AllMadeC, as_numbers, nested_of, nested_syndrome_list, syndrome_list}
-use Rattle.code.specs.Calls.{leaves, list_of, outcome, outcome_number, places_of, quote, read_answer, sub_word_of, verdict_number}
+use Rattle.code.specs.Calls.{leaves, list_of, outcome, places_of, quote, read_answer, sub_word_of, judgement_number}
 use Rattle.code.specs.Code.{Near, odd_syndromes, all_syndromes, syndromes}
 use Rattle.code.specs.Demands.{AlterC, AlteredMemberC, MendC, Mends, NamesBit, PageC, SetTo}
 use Rattle.code.specs.Demands.{AlikeC, AlikeManyC, BlankC, BlankWriteLaws, BurstC, Demand3C, DemandsC, ManyC, QuoteLaws, QuotedC, RewritesC, SumsC, OddC}
@@ -28,7 +29,7 @@ use Rattle.code.proofs.Quote.{quote-length, quote-none, quote-small}
 use Rattle.code.specs.Refusals.{alter_refusal, many_refusal, mend_page_refusal, mend_refusal, quote_refusal, write_refusal, all_refusal}
 use Rattle.code.specs.Refused.{BlocksBuffer, PageBuffer, Width}
 use Rattle.code.proofs.Refused.{judge-le, judged-page, open_none}
-use Rattle.code.proofs.Theorems.{alters, bursts, demand2, demand3, many, page-mends, quote-numbers, whole-13}
+use Rattle.code.proofs.Theorems.{alters, bursts, demand2, demand3, many, page-mends, quote-numbers, whole-13, many-status}
 use Rattle.code.proofs.Theorems.{member-multiple, mend-15-iff, mend-clean, mend-stays, mend-zero-iff, mends-of, number_of, undamaged}
 use Rattle.code.proofs.Odd.{all_none, all-odd, all-bytes, length-odd, odd-back}
 
@@ -40,8 +41,8 @@ module _ (p : Parameters) (A : Accepted p) where
   written L b old after r W = made_of (refusal L b old) (page_of p b) old after r W
 
   -- a C call that is done has the number 0, and no other has
-  zero_of : (r k : ℕ) → r ≡ k → outcome k ≡ Outcome.Done → r ≡ 0
-  zero_of r k e d = e ∙ sym (outcome-number k) ∙ ap outcome_number d
+  zero_of : (r k : ℕ) → r ≡ k → outcome k ≡ Ok tt → r ≡ 0
+  zero_of r k e d = e ∙ done-zero k d
 
   alike-c : (L M : ℕ) (blocks old old' after after' : List ℕ) (r r' : ℕ) → Width L → Width M → length old ≡ length old'
       → WrittenC p L blocks old after r → WrittenC p M blocks old' after' r' → AlikeC after after' r r'
@@ -51,7 +52,7 @@ module _ (p : Parameters) (A : Accepted p) where
       let a = (demand3 p A).alike L M b old old' after after' (outcome k) (outcome k') w w' e (written L b old after r W)
       (written M b old' after' r' W') in
       record {
-        answers = W.answers ∙ sym (outcome-number k) ∙ ap outcome_number a.answers ∙ outcome-number k' ∙ sym W'.answers;
+        answers = W.answers ∙ sym (outcome-number k W.small) ∙ ap answer_number a.answers ∙ outcome-number k' W'.small ∙ sym W'.answers;
         pages = λ z. a.pages (ap outcome (sym W.answers ∙ z));
       }
 
@@ -72,19 +73,19 @@ module _ (p : Parameters) (A : Accepted p) where
         page = s.page;
       }
 
-  judge-number : (x : List ℕ) (r : ℕ) → JudgedC p x r → r ≡ verdict_number (judge_answer p x)
+  judge-number : (x : List ℕ) (r : ℕ) → JudgedC p x r → r ≡ judgement_number (judge_answer p x)
   judge-number x r J = J.answers ∙ sym (judged p x (judge_answer p x) refl).number
 
-  judge-iff : (x : List ℕ) (j : ℕ) → JudgedC p x j → (j ≡ 0) ↔ (judge_answer p x ≡ Verdict.Member)
-  judge-iff x j J = ((λ e. judged-zero p x (sym J.answers ∙ e)), (λ e. judge-number x j J ∙ ap verdict_number e))
+  judge-iff : (x : List ℕ) (j : ℕ) → JudgedC p x j → (j ≡ 0) ↔ (judge_answer p x ≡ Ok Verdict.Member)
+  judge-iff x j J = ((λ e. judged-zero p x (sym J.answers ∙ e)), (λ e. judge-number x j J ∙ ap judgement_number e))
 
   as_read : (x old out : List ℕ) (r : ℕ) → ReadOutC p x old out r → ReadOut p x old out (read_answer p x old)
   as_read x old out r O = read p x old (read_answer p x old) out refl O.buffer
 
-  read-iff : (x old out : List ℕ) (r : ℕ) → ReadOutC p x old out r → (r ≡ 0) ↔ (read_answer p x old ≡ Verdict.Member)
+  read-iff : (x old out : List ℕ) (r : ℕ) → ReadOutC p x old out r → (r ≡ 0) ↔ (read_answer p x old ≡ Ok Verdict.Member)
   read-iff x old out r O = (
     (λ e. read-zero p x old (sym O.answers ∙ e)),
-    (λ e. O.answers ∙ sym (as_read x old out r O).number ∙ ap verdict_number e),
+    (λ e. O.answers ∙ sym (as_read x old out r O).number ∙ ap judgement_number e),
   )
 
   through : {X Y Z : Type 0} → X ↔ Y → Y ↔ Z → X ↔ Z
@@ -97,7 +98,7 @@ module _ (p : Parameters) (A : Accepted p) where
       let k = refusal L blocks op in
       let s = (demand3 p A).rewrites L x ob blocks op after (judge_answer p x) (read_answer p x ob) (outcome k) w h eb ep
       (judged p x (judge_answer p x) refl) (as_read x ob blocks r O) (written L blocks op after o W) in
-      let d : ((outcome k ≡ Outcome.Done) × (after ≡ x)) ↔ ((o ≡ 0) × (after ≡ x)) = (
+      let d : ((outcome k ≡ Ok tt) × (after ≡ x)) ↔ ((o ≡ 0) × (after ≡ x)) = (
         (λ b. (zero_of o k W.answers b.0, b.1)),
         (λ b. (ap outcome (sym W.answers ∙ b.0), b.1)),
       ) in
@@ -107,8 +108,8 @@ module _ (p : Parameters) (A : Accepted p) where
         by-read-out = through (read-iff x ob blocks r O) (through s.by-read-out d);
       }
 
-  member-c : (x : List ℕ) → JudgedC p x 0 → Judged p x Verdict.Member
-  member-c x J = judged p x Verdict.Member (sym ((judge-iff x 0 J).0 refl))
+  member-c : (x : List ℕ) → JudgedC p x 0 → Judged p x (Ok Verdict.Member)
+  member-c x J = judged p x (Ok Verdict.Member) (sym ((judge-iff x 0 J).0 refl))
 
   pub demand3-c : Demand3C p
   demand3-c = record {
@@ -123,7 +124,7 @@ module _ (p : Parameters) (A : Accepted p) where
   blank-judged-c x r b e J =
       let i = (demand2 p A).blank-laws x (judge_answer p x) b e (judged p x (judge_answer p x) refl) in (
         (λ z. i.0 (judged-blanks p x A (sym J.answers ∙ z))),
-        (λ h. judge-number x r J ∙ ap verdict_number (i.1 h)),
+        (λ h. judge-number x r J ∙ ap judgement_number (i.1 h)),
       )
 
   -- lent blocks of exact length, read out's number is judge's
@@ -131,7 +132,7 @@ module _ (p : Parameters) (A : Accepted p) where
   read-judged x old out r e O =
       let J = judged p x (judge_answer p x) refl in
       record {
-        answers = O.answers ∙ sym (as_read x old out r O).number ∙ ap verdict_number (read-as-judge p x old e) ∙ J.number;
+        answers = O.answers ∙ sym (as_read x old out r O).number ∙ ap judgement_number (read-as-judge p x old e) ∙ J.number;
         small = J.small;
       }
 
@@ -143,7 +144,7 @@ module _ (p : Parameters) (A : Accepted p) where
         (let d = (demand2 p A).blank-read-laws x old out (read_answer p x old) b e f (as_read x old out r O) in (d.fits h, d.ones h));
     written = λ L b old after r w h e W. (
       (λ z. (made L b old after r w h e W).refused.0 (ap outcome (sym W.answers ∙ z))),
-      (λ i. W.answers ∙ sym (outcome-number (refusal L b old)) ∙ ap outcome_number ((made L b old after r w h e W).refused.1 i)),
+      (λ i. W.answers ∙ sym (outcome-number (refusal L b old) W.small) ∙ ap answer_number ((made L b old after r w h e W).refused.1 i)),
     );
     kept = λ L b old after r w h e W. (made L b old after r w h e W).kept;
     whole = λ L b old after h W. whole-13 p A L b (length old) h (sym W.answers);
@@ -181,12 +182,12 @@ module _ (p : Parameters) (A : Accepted p) where
     bytes = λ x y i o l r b c h s d w same J n K z.
         (bursts p A).bytes x y i o l (judge_answer p y) b c h s d w same (member-c x J) n (judged p y (judge_answer p y) refl) ((judge-iff y r K).0 z);
     stray = λ y j k r b e o l h c s K.
-        judge-number y r K ∙ ap verdict_number ((bursts p A).stray y j k (judge_answer p y) b e o l h c s (judged p y (judge_answer p y) refl));
+        judge-number y r K ∙ ap judgement_number ((bursts p A).stray y j k (judge_answer p y) b e o l h c s (judged p y (judge_answer p y) refl));
   }
     where
-      which : (i r : ℕ) (v : Verdict) → r ≡ verdict_number v → (v ≡ Verdict.SubWord i) ⊎ (v ≡ Verdict.NestedWord 0) → (r ≡ 32 + i) ⊎ (r ≡ 64)
-      which i r v e (inl s) = inl (e ∙ ap verdict_number s)
-      which i r v e (inr s) = inr (e ∙ ap verdict_number s)
+      which : (i r : ℕ) (v : Judgement) → r ≡ judgement_number v → (v ≡ Ok (Verdict.SubWord i)) ⊎ (v ≡ Ok (Verdict.NestedWord 0)) → (r ≡ 32 + i) ⊎ (r ≡ 64)
+      which i r v e (inl s) = inl (e ∙ ap judgement_number s)
+      which i r v e (inr s) = inr (e ∙ ap judgement_number s)
 
   -- ---- many pages
   abbrev many_refused : ℕ → ℕ → List ℕ → List ℕ → List ℕ → ℕ
@@ -200,7 +201,7 @@ module _ (p : Parameters) (A : Accepted p) where
   )
 
   many-done : (L count : ℕ) (blocks pages after list listed : List ℕ) → WrittenManyC p L count blocks pages after list listed 0
-      → WrittenMany p L count blocks pages after list listed Outcome.Done
+      → WrittenMany p L count blocks pages after list listed (Ok tt)
   many-done L count blocks pages after list listed W =
       rw (ap outcome (sym W.0.answers)) at (written-many L count blocks pages after list listed 0 W)
 
@@ -212,9 +213,9 @@ module _ (p : Parameters) (A : Accepted p) where
       let k' = many_refused M count blocks pages' list' in
       let s = (many p A).alike L M count blocks pages pages' after after' list list' listed listed' (outcome k) (outcome k') w w' e f
       (written-many L count blocks pages after list listed r W) (written-many M count blocks pages' after' list' listed' r' W') in
-      let d : r ≡ 0 → outcome k ≡ Outcome.Done = λ z. ap outcome (sym W.0.answers ∙ z) in
+      let d : r ≡ 0 → outcome k ≡ Ok tt = λ z. ap outcome (sym W.0.answers ∙ z) in
       record {
-        answers = W.0.answers ∙ sym (outcome-number k) ∙ ap outcome_number s.answers ∙ outcome-number k' ∙ sym W'.0.answers;
+        answers = W.0.answers ∙ sym (outcome-number k W.0.small) ∙ ap answer_number s.answers ∙ outcome-number k' W'.0.small ∙ sym W'.0.answers;
         lists = λ z. s.lists (d z);
         pages = λ z. s.pages (d z);
       }
@@ -232,8 +233,9 @@ module _ (p : Parameters) (A : Accepted p) where
           W.1.buffer ∙ leaves-refused (many_refused L count blocks pages list) _ list h,
         ));
     each = λ L count blocks pages after list listed W k h.
-        (let X = (many p A).each L count blocks pages after list listed (many-done L count blocks pages after list listed W) k h in
-        record { answers = sym (outcome-number (get_or listed k 0)) ∙ X.number; small = X.small; buffer = X.buffer });
+        (let D = many-done L count blocks pages after list listed W in
+        let X = (many p A).each L count blocks pages after list listed D k h in
+        record { answers = many-status p A L count blocks pages after list listed D k h; small = X.small; buffer = X.buffer });
     whole = λ L count blocks pages after list listed W.
         (many p A).whole L count blocks pages after list listed (many-done L count blocks pages after list listed W);
     says = λ L count blocks pages after list listed W.
@@ -245,7 +247,7 @@ module _ (p : Parameters) (A : Accepted p) where
   alters-of : (x after : List ℕ) (i r b o : ℕ) → AlteredC p x i r b after o → Altered p x i r b after (outcome (alter_refusal p x i r b))
   alters-of x after i r b o M = made_of (alter_refusal p x i r b) (altered p x i r b) x after o M
 
-  altered-done : (x after : List ℕ) (i r b : ℕ) → AlteredC p x i r b after 0 → Altered p x i r b after Outcome.Done
+  altered-done : (x after : List ℕ) (i r b : ℕ) → AlteredC p x i r b after 0 → Altered p x i r b after (Ok tt)
   altered-done x after i r b M = rw (ap outcome (sym M.answers)) at (alters-of x after i r b 0 M)
 
   alter-member-c : (L : ℕ) (x after ob a c old page : List ℕ) (i r b v o w : ℕ) → Width L → Bytes x → JudgedC p x 0 → NamesBit p i r b
@@ -256,9 +258,9 @@ module _ (p : Parameters) (A : Accepted p) where
       let l = refusal L c old in
       let m = (alters p A).member L x after ob a c old page i r b (read_answer p x ob) (outcome k) (outcome l) L' y (member-c x J) n eb ep
       (alters-of x after i r b o M) (as_read x ob a v O) S (written L c old page w W) in
-      let d : o ≡ 0 → outcome k ≡ Outcome.Done = λ z. ap outcome (sym M.answers ∙ z) in
+      let d : o ≡ 0 → outcome k ≡ Ok tt = λ z. ap outcome (sym M.answers ∙ z) in
       record {
-        answers = M.answers ∙ sym (outcome-number k) ∙ ap outcome_number m.answers ∙ outcome-number l ∙ sym W.answers;
+        answers = M.answers ∙ sym (outcome-number k M.small) ∙ ap answer_number m.answers ∙ outcome-number l W.small ∙ sym W.answers;
         pages = λ z. m.pages (d z);
         judged = λ z v K. (judge-iff after v K).1 (m.judged (d z) (judge_answer p after) (judged p after (judge_answer p after) refl));
         shortened = λ h. zero_of o k M.answers (m.shortened h);
@@ -274,7 +276,7 @@ module _ (p : Parameters) (A : Accepted p) where
     blank = λ x after i r b o y M.
         (let d = (alters p A).blank x after i r b (outcome (alter_refusal p x i r b)) y (alters-of x after i r b o M) in (
           (λ e. d.0 (ap outcome (sym M.answers ∙ e))),
-          (λ s. M.answers ∙ sym (outcome-number (alter_refusal p x i r b)) ∙ ap outcome_number (d.1 s)),
+          (λ s. M.answers ∙ sym (outcome-number (alter_refusal p x i r b) M.small) ∙ ap answer_number (d.1 s)),
         ));
     kept = λ x after i r b o M n.
         M.buffer ∙ leaves-refused (alter_refusal p x i r b) _ x (Nat.pos_of_ne-zero (λ z. n (M.answers ∙ z)));
@@ -386,18 +388,18 @@ module _ (p : Parameters) (A : Accepted p) where
     one-round = λ z x after o b h J r M. done x after z o M ((page-mends p A).one-round z x after _ b h (member-c z J) r (made x after o M));
   }
     where
-      zero_is : (y : List ℕ) → JudgedC p y 0 ↔ (judge_answer p y ≡ Verdict.Member)
-      zero_is y = ((λ J. (judge-iff y 0 J).0 refl), (λ e. record { answers = sym (ap verdict_number e) ∙ (judged p y (judge_answer p y) refl).number; small = judge-le p y }))
+      zero_is : (y : List ℕ) → JudgedC p y 0 ↔ (judge_answer p y ≡ Ok Verdict.Member)
+      zero_is y = ((λ J. (judge-iff y 0 J).0 refl), (λ e. record { answers = sym (ap judgement_number e) ∙ (judged p y (judge_answer p y) refl).number; small = judge-le p y }))
 
       made : (x after : List ℕ) (o : ℕ) → PageMendedC p x after o → PageMended p x after (outcome (mend_page_refusal p x))
       made x after o M = made_of (mend_page_refusal p x) (list_of (mended_page p x)) x after o M
 
-      done : (x after z : List ℕ) (o : ℕ) → PageMendedC p x after o → (outcome (mend_page_refusal p x) ≡ Outcome.Done) × (after ≡ z) → (o ≡ 0) × (after ≡ z)
+      done : (x after z : List ℕ) (o : ℕ) → PageMendedC p x after o → (outcome (mend_page_refusal p x) ≡ Ok tt) × (after ≡ z) → (o ≡ 0) × (after ≡ z)
       done x after z o M s = (zero_of o (mend_page_refusal p x) M.answers s.0, s.1)
 
       either : (x after : List ℕ) (o : ℕ) → PageMendedC p x after o
-          → ((outcome (mend_page_refusal p x) ≡ Outcome.Done) × IsPage p after × ((r : Verdict) → Judged p after r → r ≡ Verdict.Member))
-          ⊎ ((outcome (mend_page_refusal p x) ≡ Outcome.Refused 17) × (after ≡ x))
+          → ((outcome (mend_page_refusal p x) ≡ Ok tt) × IsPage p after × ((r : Judgement) → Judged p after r → r ≡ Ok Verdict.Member))
+          ⊎ ((outcome (mend_page_refusal p x) ≡ Err Refusal.UnmendedPage) × (after ≡ x))
           → ((o ≡ 0) × IsPage p after × ((r : ℕ) → JudgedC p after r → r ≡ 0)) ⊎ ((o ≡ 17) × (after ≡ x))
       either x after o M (inl s) =
           inl (
@@ -405,7 +407,7 @@ module _ (p : Parameters) (A : Accepted p) where
             s.1,
             (λ r K. (judge-iff after r K).1 (s.2 (judge_answer p after) (judged p after (judge_answer p after) refl))),
           )
-      either x after o M (inr s) = inr (M.answers ∙ sym (outcome-number (mend_page_refusal p x)) ∙ ap outcome_number s.0, s.1)
+      either x after o M (inr s) = inr (M.answers ∙ sym (outcome-number (mend_page_refusal p x) M.small) ∙ ap answer_number s.0, s.1)
 
 pub demands-c : DemandsC
 demands-c p A = (demand3-c p A, blank-c p A, quote-c p A, burst-c p A, many-c p A, alter-c p A, mend-c p A, odd-c p A, page-c p A)

@@ -197,6 +197,13 @@ module _ (p : Parameters) (list blocks pages : List ℕ) (e : length pages ≡ l
       runs-are (page_bytes p) (page_by p list blocks pages) 0 (length list) after (l ∙ e)
       (λ k i. h k i ∙ ap (page_by p list blocks pages) (sym (Nat.zero-add k)))
 
+-- a listed byte is a single call's
+pub status-single : (p : Parameters) (L count : ℕ) (blocks pages : List ℕ) → length pages ≡ count * page_bytes p → (k : ℕ) → k < count
+    → get_or (statuses p L count blocks) k 0 ≡ write_refusal p L (part (data_bytes p) k blocks) (length (part (page_bytes p) k pages))
+status-single p L count blocks pages e k h =
+    status-at p L count blocks k h
+    ∙ ap (write_refusal p L (part (data_bytes p) k blocks)) (sym (part_length (page_bytes p) count pages e k h))
+
 -- THE LAW: each listed byte and each page are what a single call gives
 pub each-written : (p : Parameters) (L count : ℕ) (blocks pages : List ℕ) → length pages ≡ count * page_bytes p → (k : ℕ) → k < count
     → Written p L (part (data_bytes p) k blocks) (part (page_bytes p) k pages)
@@ -205,11 +212,10 @@ each-written p L count blocks pages e k h =
     let c = length-statuses p L count blocks in
     let b : List ℕ = part (data_bytes p) k blocks in
     let old : List ℕ = part (page_bytes p) k pages in
-    let s : get_or (statuses p L count blocks) k 0 ≡ write_refusal p L b (length old) =
-    status-at p L count blocks k h ∙ ap (write_refusal p L b) (sym (part_length (page_bytes p) count pages e k h)) in
+    let s : get_or (statuses p L count blocks) k 0 ≡ write_refusal p L b (length old) = status-single p L count blocks pages e k h in
     record {
       answers = ap outcome s;
-      number = outcome-number (get_or (statuses p L count blocks) k 0) ∙ s;
+      number = outcome-number (get_or (statuses p L count blocks) k 0) (rw s (write-le p L b (length old))) ∙ s;
       values = outcome-values (get_or (statuses p L count blocks) k 0);
       small = write-le p L b (length old);
       buffer = page-at p (statuses p L count blocks) blocks pages (rw c e) k (rw c h) ∙ ap (λ (r : ℕ). leaves r (page_of p b) old) s;

@@ -7,7 +7,7 @@
 --   mend-page-succeeds, mend-page-fails      the same by the numbers of broken sub-words; mend-page-page: to what page
 --   mend-page-else, mend-page-clean          a member or 17, whatever the page; a member as it is
 --   mend-page-back, mend-page-always         the member comes back; mend-page-reached, mend-page-once: by a condition on the flips
-use Rattle.std.specs.Prelude.{◌≡◌, Bool, not, ◌↔◌, ◌⊎◌, List, ℕ, suc, ◌+◌, ◌-◌, ◌≤◌, ◌<◌, T, eqb, ltb, length}
+use Rattle.std.specs.Prelude.{◌≡◌, Bool, not, ◌↔◌, ◌⊎◌, List, ℕ, suc, ◌+◌, ◌-◌, ◌≤◌, ◌<◌, T, eqb, ltb, length, Ok}
 use Rattle.std.proofs.Math.Path.{refl}
 use Rattle.std.proofs.Common.{sym, ap, ap₂, ◌∙◌, inl, inr, lit<, lit≤}
 use Rattle.std.proofs.Math.Option.{Option, none, some}
@@ -20,7 +20,8 @@ use Rattle.code.specs.Accepted.{Rules}
 use Rattle.code.proofs.Accepted.{accepted}
 use Rattle.code.specs.Calls.{judge_answer, list_of, sub_word_of}
 use Rattle.code.proofs.Chains.{exact_none, exact-of, first_of, given, last, off, or_assoc, or-le, or-none, or-second, past, unless, when-le}
-use Rattle.code.specs.Code.{IsMember}
+use Rattle.code.proofs.Answers.{ok-iff}
+use Rattle.code.specs.Code.{IsMember, verdict}
 use Rattle.code.specs.Demands.{Fails, OneRound, PassLaws, Reached, Recoverable, RoundLaws, Succeeds, heavier, left, page_after}
 use Rattle.code.proofs.Distance.{Passing}
 use Rattle.code.proofs.Ending.{NoneComes, in-the-end, mend-none, mend-some, none-mends}
@@ -110,11 +111,11 @@ module _ (p : Parameters) (A : Accepted p) where
   R = accepted p A
 
   -- ---- judge's members
-  pub judged-member : (x : List ℕ) → IsPage p x → judge_answer p x ≡ Verdict.Member → IsMember p (words_of p x)
-  judged-member x h e = (verdict-member p R (words_of p x)).0 (sym (unblanked p A x h (judged-else p x e)) ∙ e)
+  pub judged-member : (x : List ℕ) → IsPage p x → judge_answer p x ≡ Ok Verdict.Member → IsMember p (words_of p x)
+  judged-member x h e = (ok-iff (judge_answer p x) (verdict p (words_of p x)) Verdict.Member (unblanked p A x h (judged-else p x e)) (verdict-member p R (words_of p x))).0 e
 
-  pub member-judged : (x : List ℕ) → IsPage p x → T (not (blank p x)) → IsMember p (words_of p x) → judge_answer p x ≡ Verdict.Member
-  member-judged x h n M = unblanked p A x h n ∙ (verdict-member p R (words_of p x)).1 M
+  pub member-judged : (x : List ℕ) → IsPage p x → T (not (blank p x)) → IsMember p (words_of p x) → judge_answer p x ≡ Ok Verdict.Member
+  member-judged x h n M = unblanked p A x h n ∙ ap Ok ((verdict-member p R (words_of p x)).1 M)
 
   -- ---- flips
   module _ (x z : List ℕ) (h : IsPage p x) (u : IsPage p z) (i : ℕ) (l : i < p.m) where
@@ -152,12 +153,12 @@ module _ (p : Parameters) (A : Accepted p) where
       found-page cs e = ap list_of (mended-eq p x ∙ ap (in_bytes p) e)
 
       -- a member or 17
-      pub mend-page-else : ((mend_page_refusal p x ≡ 0) × IsPage p (list_of (mended_page p x)) × (judge_answer p (list_of (mended_page p x)) ≡ Verdict.Member))
+      pub mend-page-else : ((mend_page_refusal p x ≡ 0) × IsPage p (list_of (mended_page p x)) × (judge_answer p (list_of (mended_page p x)) ≡ Ok Verdict.Member))
           ⊎ (mend_page_refusal p x ≡ 17)
       mend-page-else = go words refl
         where
           go : (o : Option (List ℕ)) → words ≡ o
-              → ((mend_page_refusal p x ≡ 0) × IsPage p (list_of (mended_page p x)) × (judge_answer p (list_of (mended_page p x)) ≡ Verdict.Member))
+              → ((mend_page_refusal p x ≡ 0) × IsPage p (list_of (mended_page p x)) × (judge_answer p (list_of (mended_page p x)) ≡ Ok Verdict.Member))
               ⊎ (mend_page_refusal p x ≡ 17)
           go none e = inr ((mend-page-17 h.bytes).1 (h, e))
           go (some cs) e =
@@ -187,17 +188,17 @@ module _ (p : Parameters) (A : Accepted p) where
       after-words = words-join p R (after p (words_of p x) k).words stands.stand
 
       -- the end is a member
-      end-judged : (es : List ℕ) → end p (after p (words_of p x) k).words ≡ some es → judge_answer p (page_after p x k) ≡ Verdict.Member
+      end-judged : (es : List ℕ) → end p (after p (words_of p x) k).words ≡ some es → judge_answer p (page_after p x k) ≡ Ok Verdict.Member
       end-judged es e =
           let g = end_is p A (after p (words_of p x) k).words es e in
           member-judged (page_after p x k) after-page (rw (blank-words p (page_after p x k), after-words) g.1) (rw after-words g.0)
 
-      judged-end : judge_answer p (page_after p x k) ≡ Verdict.Member → end p (after p (words_of p x) k).words ≡ some (after p (words_of p x) k).words
+      judged-end : judge_answer p (page_after p x k) ≡ Ok Verdict.Member → end p (after p (words_of p x) k).words ≡ some (after p (words_of p x) k).words
       judged-end e =
           is-end p A (after p (words_of p x) k).words (rw after-words at (judged-member (page_after p x k) after-page e))
           (rw (blank-words p (page_after p x k), after-words) at (judged-else p (page_after p x k) e))
 
-      unjudged-end : (judge_answer p (page_after p x k) ≡ Verdict.Member → ⊥) → end p (after p (words_of p x) k).words ≡ none
+      unjudged-end : (judge_answer p (page_after p x k) ≡ Ok Verdict.Member → ⊥) → end p (after p (words_of p x) k).words ≡ none
       unjudged-end n = go (end p (after p (words_of p x) k).words) refl
         where
           go : (o : Option (List ℕ)) → end p (after p (words_of p x) k).words ≡ o → end p (after p (words_of p x) k).words ≡ none
@@ -214,7 +215,7 @@ module _ (p : Parameters) (A : Accepted p) where
         found-page s.0 cs s.1.1 ∙ ap (join (word_sizes p)) (sym w.2)
 
     -- ---- done and 17, literally; Member is judge's word for a member
-    module _ (Member : List ℕ → Type 0) (is : (y : List ℕ) → Member y ↔ (judge_answer p y ≡ Verdict.Member)) where
+    module _ (Member : List ℕ → Type 0) (is : (y : List ℕ) → Member y ↔ (judge_answer p y ≡ Ok Verdict.Member)) where
       pub mend-page-succeeds : Bytes x → (mend_page_refusal p x ≡ 0) ↔ (IsPage p x × Succeeds p x Member)
       mend-page-succeeds b = (
         (λ z. (let s = (mend-page-zero b).0 z in
@@ -268,20 +269,20 @@ module _ (p : Parameters) (A : Accepted p) where
           rising = (round-work p A W w).rising;
           sums = λ j l o b d. round-sums p A W w j l o b d;
           errors = λ z b J s v i j m o t.
-              (let e : judge_answer p z ≡ Verdict.Member = sym J.answers in
+              (let e : judge_answer p z ≡ Ok Verdict.Member = sym J.answers in
               let u = judged-page p z e b in
               let C = page-words p R z u in
               error-is p A (words_of p z) C (member-passing p R (words_of p z) (judged-member z u e) C.many) W w (record { is = s }) i m
               (mem-some i W.broken m) v j o t);
         })
 
-  pub mend-page-clean : (x : List ℕ) → Bytes x → judge_answer p x ≡ Verdict.Member → (mend_page_refusal p x ≡ 0) × (list_of (mended_page p x) ≡ x)
+  pub mend-page-clean : (x : List ℕ) → Bytes x → judge_answer p x ≡ Ok Verdict.Member → (mend_page_refusal p x ≡ 0) × (list_of (mended_page p x) ≡ x)
   mend-page-clean x b e =
       let h = judged-page p x e b in
       page-comes x h x h (mend_page-member p A (words_of p x) (page-words p R x h) (judged-member x h e) (rw (← blank-words p x) (judged-else p x e)))
 
   -- ---- the member comes back
-  module _ (z x : List ℕ) (h : IsPage p x) (b : Bytes z) (e : judge_answer p z ≡ Verdict.Member) where
+  module _ (z x : List ℕ) (h : IsPage p x) (b : Bytes z) (e : judge_answer p z ≡ Ok Verdict.Member) where
     u : IsPage p z
     u = judged-page p z e b
 

@@ -1,7 +1,6 @@
 -- The nodes of Vandermonde's equations, α^(j i), differ.
 use Rattle.std.specs.Prelude.{◌≢◌, ℕ, ◌-◌, ◌*◌, ◌≤◌, ◌<◌}
 use Rattle.std.proofs.Common.{sym, arith}
-use Rattle.std.proofs.Math.Nat as Nat
 use Rattle.std.proofs.Math.Decide.{dec_le}
 use Rattle.field.specs.Field.{Field2, pow}
 use Rattle.field.specs.Fields.{BinaryField, field_of}

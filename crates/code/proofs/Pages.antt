@@ -16,7 +16,7 @@ use Rattle.code.specs.Code.{data_from, data_words, degree, encode}
 use Rattle.code.proofs.Distance.{add-lt}
 use Rattle.code.proofs.Encode.{Sized, data-encode, data-fits, encode-add, encode-length, encode-lt}
 use Rattle.code.specs.Layout.{Fits, IsPage, block_bits, block_sizes, blocks_clear, blocks_of, page_clear-eq}
-use Rattle.code.specs.Layout.{data_bits, data_bytes, data_of, page_bytes, page_clear, page_of, stored_of, word_sizes, words_of}
+use Rattle.code.specs.Layout.{data_bits, data_bytes, data_of, page_bytes, page_of, stored_of, word_sizes, words_of}
 use Rattle.code.specs.Lists.{each, fits_in, join, range, split, sum}
 use Rattle.code.specs.Parameters.{stored, sub_word_bytes}
 use Rattle.code.specs.Pages.{IsWords}

@@ -2,18 +2,19 @@
 --   Width L               L is 1 to 64
 --   PageBuffer p old      a page buffer of exact length; BlocksBuffer p old a blocks buffer
 --   Judgeable p x         what judge and read out do not refuse: bytes of a page's length, with clear spare bits or blank
-use Rattle.std.specs.Prelude.{◌≡◌, ◌⊎◌, Bool, true, false, not, ◌||◌, cond, List, ℕ, zero, suc, ◌≤◌, ◌<◌, T, eqb, ltb, length}
+use Rattle.std.specs.Prelude.{◌≡◌, ◌⊎◌, Bool, true, false, not, ◌||◌, cond, Ok, Err, List, ℕ, zero, suc, ◌≤◌, ◌<◌, T, eqb, ltb, length}
 use Rattle.std.proofs.Math.Path.{refl}
 use Rattle.std.proofs.Common.{sym, ap, ◌∙◌, inl, inr, arith, eqb→eq, ltb→lt, nltb→le, lit≤, lit<, lt-ltb, le-ltb}
 use Rattle.std.proofs.Math.Nat as Nat
 use Rattle.std.proofs.Math.Dec.{leb, not_T}
 use Rattle.code.specs.declared.Parameters.{Parameters}
-use Rattle.code.specs.declared.Outcome.{Outcome}
+use Rattle.code.specs.declared.Refusal.{Refusal}
 use Rattle.code.specs.declared.Verdict.{Verdict}
+use Rattle.code.specs.Answers.{Judgement, unless_refused}
 use Rattle.code.proofs.Accepted.{from-4}
 use Rattle.code.proofs.Chains.{either, exact_none, exact-of, given, left, neither, nonzero, first_of, or-none, last}
 use Rattle.code.proofs.Chains.{off, off', on, or_assoc, or-le, or-none, or-second, or-zero, past, right, unless, when-le}
-use Rattle.code.specs.Calls.{judge_answer, page_verdict, read_leaves, unless_refused, write_answer, write_leaves}
+use Rattle.code.specs.Calls.{judge_answer, page_verdict, read_leaves, write_answer, write_leaves}
 use Rattle.code.specs.Code.{failing, failing_nested, verdict}
 use Rattle.code.specs.Layout.{Bytes, Fits, IsPage, blank, blocks_clear, data_bytes, data_of, page_bytes, page_clear, page_of, words_of}
 use Rattle.code.specs.Lists.{◌or_else◌, ◌when◌, last_refusal}
@@ -255,27 +256,20 @@ module _ (p : Parameters) where
       (failing_nested p (words_of p x)) e
 
   -- ---- an answer that is no refusal is the page's verdict
-  unrefused : (r : ℕ) (v w : Verdict) → ((k : ℕ) → w ≡ Verdict.Refused k → ⊥) → unless_refused r v ≡ w → (r ≡ 0) × (v ≡ w)
-  unrefused zero v w n e = (refl, e)
-  unrefused (suc r) v w n e = absurd (n (suc r) (sym e))
-
-  member-refused : (k : ℕ) → Verdict.Member ≡ Verdict.Refused k → ⊥
-  member-refused k e = let z : ◌≡◌ {A = ℕ} 0 1 = cc in never z
-
-  blank-refused : (k : ℕ) → Verdict.Blank ≡ Verdict.Refused k → ⊥
-  blank-refused k e = let z : ◌≡◌ {A = ℕ} 0 1 = cc in never z
+  unrefused : (r : ℕ) (v w : Verdict) → ◌≡◌ {A = Judgement} (unless_refused r v) (Ok w) → (r ≡ 0) × (v ≡ w)
+  unrefused zero v w e = (refl, cc)
+  unrefused (suc r) v w e = let z : ◌≡◌ {A = ℕ} 0 1 = cc in never z
 
   judge-eq : (x : List ℕ) → judge_answer p x ≡ unless_refused (judge_refusal p x) (page_verdict p x)
   unfolding judge_answer
   judge-eq x = refl
 
-  answer-else : (x : List ℕ) (v : Verdict) → ((k : ℕ) → v ≡ Verdict.Refused k → ⊥) → judge_answer p x ≡ v
-      → (judge_refusal p x ≡ 0) × (page_verdict p x ≡ v)
-  answer-else x v n e = unrefused (judge_refusal p x) (page_verdict p x) v n (sym (judge-eq x) ∙ e)
+  answer-else : (x : List ℕ) (v : Verdict) → judge_answer p x ≡ Ok v → (judge_refusal p x ≡ 0) × (page_verdict p x ≡ v)
+  answer-else x v e = unrefused (judge_refusal p x) (page_verdict p x) v (sym (judge-eq x) ∙ e)
 
   -- what judge calls blank is blank
-  pub judged-blank : (x : List ℕ) → judge_answer p x ≡ Verdict.Blank → T (blank p x)
-  judged-blank x e = verdict-of-blank x (answer-else x Verdict.Blank blank-refused e).1
+  pub judged-blank : (x : List ℕ) → judge_answer p x ≡ Ok Verdict.Blank → T (blank p x)
+  judged-blank x e = verdict-of-blank x (answer-else x Verdict.Blank e).1
 
   -- what judge calls a member is a page of accepted parameters, and not blank
   clear_of : (b c : Bool) → T (b || c) → T (not c) → T b
@@ -283,9 +277,9 @@ module _ (p : Parameters) where
   clear_of false true t n = absurd n
   clear_of false false t n = absurd t
 
-  module _ (x : List ℕ) (e : judge_answer p x ≡ Verdict.Member) where
+  module _ (x : List ℕ) (e : judge_answer p x ≡ Ok Verdict.Member) where
     member-said : (judge_refusal p x ≡ 0) × (page_verdict p x ≡ Verdict.Member)
-    member-said = answer-else x Verdict.Member member-refused e
+    member-said = answer-else x Verdict.Member e
 
     pub judged-else : T (not (blank p x))
     judged-else = else-said (blank p x) (verdict p (words_of p x)) (sym (verdict-eq x) ∙ member-said.1)
@@ -305,7 +299,7 @@ module _ (p : Parameters) where
   unclear true c t u = absurd t
   unclear false c t u = u
 
-  pub judge-stray : Accepted p → (x : List ℕ) → PageBuffer p x → T (not (page_clear p x)) → T (not (blank p x)) → judge_answer p x ≡ Verdict.Refused 8
+  pub judge-stray : Accepted p → (x : List ℕ) → PageBuffer p x → T (not (page_clear p x)) → T (not (blank p x)) → judge_answer p x ≡ Err Refusal.Stray
   judge-stray A x e t u =
       let r : judge_refusal p x ≡ 8 = judge-links x ∙ or-second (sheet_refusal p) (page-7 (length x) or_else stray-8 x) A
       ∙ or-second (page-7 (length x)) (stray-8 x) (exact_none 7 (length x) (page_bytes p) e)
@@ -314,24 +308,24 @@ module _ (p : Parameters) where
 
   -- ---- the answers where nothing is refused
   module _ (A : Accepted p) where
-    pub judge-is : (x : List ℕ) → Judgeable p x → judge_answer p x ≡ page_verdict p x
+    pub judge-is : (x : List ℕ) → Judgeable p x → judge_answer p x ≡ Ok (page_verdict p x)
     judge-is x h = judge-eq x ∙ rw (judge-none A x h) refl
 
-    pub unblanked : (x : List ℕ) → IsPage p x → T (not (blank p x)) → judge_answer p x ≡ verdict p (words_of p x)
-    unblanked x h t = judge-is x (page-judgeable p x h) ∙ verdict-else x t
+    pub unblanked : (x : List ℕ) → IsPage p x → T (not (blank p x)) → judge_answer p x ≡ Ok (verdict p (words_of p x))
+    unblanked x h t = judge-is x (page-judgeable p x h) ∙ ap Ok (verdict-else x t)
 
     pub read-leaves : (x old : List ℕ) → Judgeable p x → BlocksBuffer p old → read_leaves p x old ≡ data_of p x
     unfolding read_leaves
     read-leaves x old h e = rw (read_none A x old h e) refl
 
     module _ (L : ℕ) (a old : List ℕ) (w : Width L) (h : Fits p a) (e : PageBuffer p old) where
-      pub write_done : T (not (blank p (page_of p a))) → write_answer p L a old ≡ Outcome.Done
+      pub write_done : T (not (blank p (page_of p a))) → write_answer p L a old ≡ Ok tt
       write_done n = rw (write-none A L a old w h e n) refl
 
       pub write-leaves : T (not (blank p (page_of p a))) → write_leaves p L a old ≡ page_of p a
       write-leaves n = rw (write-none A L a old w h e n) refl
 
-      pub write-refused : T (blank p (page_of p a)) → write_answer p L a old ≡ Outcome.Refused 13
+      pub write-refused : T (blank p (page_of p a)) → write_answer p L a old ≡ Err Refusal.Blank
       write-refused n = rw (write-made A L a old w h e n) refl
 
       pub write_keeps : T (blank p (page_of p a)) → write_leaves p L a old ≡ old

@@ -4,7 +4,7 @@
 --   feedings p r parts        the register after the parts are fed in turn
 --   AllDone p r parts         no feeding of them is refused
 --   holding a k f             the register of level a with count k and the remainder f
-use Rattle.std.specs.Prelude.{◌≡◌, Bool, not, ◌||◌, List, [], ◌∷◌, ℕ, ◌+◌, ◌*◌, ◌/◌, ◌%◌, ◌^◌, ◌≤◌, ◌<◌}
+use Rattle.std.specs.Prelude.{◌≡◌, Bool, not, ◌||◌, List, [], ◌∷◌, ℕ, ◌+◌, ◌*◌, ◌/◌, ◌%◌, ◌^◌, ◌≤◌, ◌<◌, Ok}
 use Rattle.std.proofs.Math.Path.{refl, ap}
 use Rattle.std.proofs.Common.{sym, ◌∙◌, arith, leb→le, ltb→lt, pow_pos, pow_mono, shr-shr}
 use Rattle.std.proofs.Math.Bool.{true, false}
@@ -18,13 +18,12 @@ use Rattle.polynomial.specs.Division.{Deg, rem, rem-clmul-r, rem_lt, rem-xor, re
 use Rattle.polynomial.specs.Sums.{All}
 use Rattle.polynomial.specs.Xor.{xor, xor_is}
 use Rattle.code.specs.declared.Parameters.{Parameters}
-use Rattle.code.specs.declared.Outcome.{Outcome}
 use Rattle.code.proofs.Chains.{off', or-zero}
 use Rattle.code.specs.Register.{Register, Fed}
 use Rattle.code.specs.Accepted.{Rules}
 use Rattle.code.proofs.Accepted.{accepted, degree-high, lawful}
-use Rattle.code.specs.Calls.{advanced, empty, fed, opened, outcome}
-use Rattle.code.specs.Code.{degree, gen, level, remainder}
+use Rattle.code.specs.Calls.{advanced, empty, fed, opened}
+use Rattle.code.specs.Code.{degree, gen, remainder}
 use Rattle.code.specs.Lists.{◌or_else◌, ◌when◌, sum}
 use Rattle.code.specs.Parameters.{Accepted, full, sheet_refusal}
 use Rattle.code.specs.Refusals.{bad_width, feed_refusal, open_refusal}
@@ -109,12 +108,12 @@ module _ (p : Parameters) (A : Accepted p) (a : ℕ) (low : a ≤ p.v) where
 
   fed-one : (L u k f : ℕ) → Width L → u < 2 ^ L → k + L ≤ full p
       → fed p L (holding a k (remainder p a f)) u ≡ record {
-        outcome = Outcome.Done;
+        outcome = Ok tt;
         register = holding a (k + L) (remainder p a (f * 2 ^ L + u));
       }
   unfolding fed
   fed-one L u k f w h b =
-      rw (feed-none L u k f w h b) (ap (λ (r : Register). record { outcome = Outcome.Done; register = r }) (advance L u k f h))
+      rw (feed-none L u k f w h b) (ap (λ (r : Register). record { outcome = Ok tt; register = r }) (advance L u k f h))
 
   module _ (c : ℕ) where
     -- the register before the parts Ls
@@ -122,11 +121,11 @@ module _ (p : Parameters) (A : Accepted p) (a : ℕ) (low : a ≤ p.v) where
     at k Ls = holding a k (remainder p a (c / 2 ^ sum Ls))
 
     step : (L k : ℕ) (Ls : List ℕ) → Width L → k + sum (L ∷ Ls) ≤ full p
-        → fed p L (at k (L ∷ Ls)) (c / 2 ^ sum Ls % 2 ^ L) ≡ record { outcome = Outcome.Done; register = at (k + L) Ls }
+        → fed p L (at k (L ∷ Ls)) (c / 2 ^ sum Ls % 2 ^ L) ≡ record { outcome = Ok tt; register = at (k + L) Ls }
     step L k Ls w h =
         fed-one L (c / 2 ^ sum Ls % 2 ^ L) k (c / 2 ^ sum (L ∷ Ls)) w (Nat.mod-lt (c / 2 ^ sum Ls) (pow_pos L))
         (omega (arith, sum-cons L Ls))
-        ∙ ap (λ (f : ℕ). record { outcome = Outcome.Done; register = holding a (k + L) (remainder p a f) })
+        ∙ ap (λ (f : ℕ). record { outcome = Ok tt; register = holding a (k + L) (remainder p a f) })
         (ap (λ (s : ℕ). c / 2 ^ s * 2 ^ L + c / 2 ^ sum Ls % 2 ^ L) (sum-cons L Ls) ∙ part c L (sum Ls))
 
     room-left : (L k : ℕ) (Ls : List ℕ) → k + sum (L ∷ Ls) ≤ full p → k + L + sum Ls ≤ full p
@@ -159,7 +158,7 @@ module _ (p : Parameters) (A : Accepted p) (a : ℕ) (low : a ≤ p.v) where
         rw begin
         (after-from c 0 Ls w (rw (Nat.zero-add (sum Ls)) h) ∙ ap (λ (s : ℕ). holding a s (remainder p a c)) (Nat.zero-add (sum Ls)))
 
-  pub opened-empty : opened p a ≡ record { outcome = Outcome.Done; register = empty a }
+  pub opened-empty : opened p a ≡ record { outcome = Ok tt; register = empty a }
   unfolding opened open_refusal
   opened-empty =
       rw (or-zero (sheet_refusal p) (9 when ltb p.v a) A

@@ -28,7 +28,7 @@ use Rattle.code.proofs.Accepted.{accepted, any_none, lawful}
 use Rattle.code.proofs.Alter.{by_eqb, by-neqb}
 use Rattle.code.specs.Code.{gen, nested}
 use Rattle.code.proofs.Degrees.{of_some}
-use Rattle.code.proofs.Distance.{Passing, eval-nested-root, nested-add, pow-differ, root-apart, root≢zero}
+use Rattle.code.proofs.Distance.{Passing, eval-nested-root, nested-add}
 use Rattle.code.proofs.Judge.{multiple-iff}
 use Rattle.code.specs.Lists.{any, range}
 use Rattle.code.proofs.Nodes as Nodes

@@ -3,7 +3,7 @@
 -- through its nested words.
 use Rattle.std.proofs.Math.Path.{◌≡◌, refl}
 use Rattle.std.proofs.Common.{sym, ap, ap₂, ◌∙◌, inl, inr, arith, T_not, pow_pos}
-use Rattle.std.specs.Prelude.{◌≢◌, ◌↔◌, ◌⊎◌, Bool, List, [], ◌∷◌, eqb, length, get_or, replicate}
+use Rattle.std.specs.Prelude.{◌≢◌, ◌↔◌, ◌⊎◌, Bool, List, [], ◌∷◌, eqb, length, get_or, replicate, Ok, Err}
 use Rattle.std.proofs.Math.Bool.{true, false, not, cond}
 use Rattle.std.proofs.Math.Option.{Option, none, some}
 use Prim.Native.Nat.{ℕ, zero, suc, ◌+◌, ◌-◌, ◌*◌, ◌^◌, ◌≤◌, ◌<◌, zero-le, suc-le-suc}
@@ -18,16 +18,17 @@ use Rattle.polynomial.specs.Multiple.{Multiple, multiple-same, rem-differ}
 use Rattle.polynomial.specs.Xor.{xor, xor-cancel, xor_self}
 use Rattle.field.specs.Bch.{weight, weight-zero}
 use Rattle.field.specs.Elements.{power-full, power-order, syndrome, syndrome-iff, syndrome-lt, syndrome-sum, square}
-use Rattle.field.specs.Fields.{BinaryField, field_of, irreducible, polynomial-degree, polynomial-irreducible}
+use Rattle.field.specs.Fields.{BinaryField, field_of, polynomial-degree, polynomial-irreducible}
 use Rattle.field.specs.Flips.{flips, flips-ones, length-ones, ones, ones-rising}
-use Rattle.generator.specs.Distinct.{member}
 use Rattle.code.specs.declared.Parameters.{Parameters}
-use Rattle.code.specs.declared.Outcome.{Outcome}
+use Rattle.code.specs.Answers.{Outcome}
+use Rattle.code.specs.declared.Refusal.{Refusal}
 use Rattle.code.specs.declared.Verdict.{Verdict}
+use Rattle.code.specs.Answers.{Judgement, answer_number}
 use Rattle.code.specs.Register.{Register}
 use Rattle.generator.proofs.Generator as G
 use Rattle.generator.specs.Generator as Gen
-use Rattle.code.proofs.Answers.{judged, leaves-refused, read-as-judge, refused-pos}
+use Rattle.code.proofs.Answers.{judged, leaves-refused, ok-iff, read-as-judge, refused-pos}
 use Rattle.code.specs.Accepted.{Rules}
 use Rattle.code.proofs.Accepted.{accepted, degree-le, degree-low, degree-of, lawful, stored-le, stored-room, stored-whole, width-below}
 use Rattle.code.specs.Alter.{Alterable, altered_blocks}
@@ -41,7 +42,7 @@ use Rattle.code.proofs.Buffers.{nested-back, remainder-back, row_back, short_bac
 use Rattle.code.proofs.Bursts.{another, apart-pages, apart-places, burst-same, bytes-burst, cyclic, moved-divides, moved-lt, others_same}
 use Rattle.code.proofs.Bursts.{single-has, single-is, single-passing, single-unblank, single_page}
 use Rattle.code.specs.Calls.{Altered, Judged, Mended, PageMended, QuoteMade, ReadOut, Written, WrittenMany, empty, judge_answer, leaves, AllMade}
-use Rattle.code.specs.Calls.{list_of, nested_of, nested_syndrome_list, outcome, outcome_number, pages_by, places_of, quote, statuses, sub_word_of, syndrome_list}
+use Rattle.code.specs.Calls.{list_of, nested_of, nested_syndrome_list, outcome, pages_by, places_of, quote, statuses, sub_word_of, syndrome_list}
 use Rattle.code.proofs.Chains.{off', on}
 use Rattle.code.specs.Code.{Flips, IsMember, Near, check_bits, degree, distance, gen, least, nested, newton, remainder, syndromes, verdict, odd_syndromes, all_syndromes}
 use Rattle.code.proofs.Degrees.{degree-exact}
@@ -56,7 +57,7 @@ use Rattle.code.specs.Layout.{altered, block_bit, flipped, flips_in, mended_page
 use Rattle.code.specs.Layout.{Bytes, Fits, IsBlank, IsPage, blank, blocks_of, coefficient_of, data_bits, data_bytes, data_of, differences}
 use Rattle.code.specs.Layout.{page_bytes, page_clear, page_of, stored_of, word_sizes, words_of}
 use Rattle.code.specs.Lists.{◌when◌, add_below, count_below, join, part, sum}
-use Rattle.code.proofs.Many.{each-written, length-by, length-statuses, many-alike, many-lent, many-none, part_length, runs-are}
+use Rattle.code.proofs.Many.{each-written, length-by, length-statuses, many-alike, many-lent, many-none, part_length, runs-are, status-single}
 use Rattle.code.proofs.Many.{status-at, status-left, statuses-alike}
 use Rattle.code.proofs.Mend.{Mendable, flipped-here, flipped-is, flipped-none, flipped-page, flipped-stay, flips-near, flips-once, mend-15, mend-left}
 use Rattle.code.proofs.Mend.{mend-none, mending-eq, near-once, nearest-clean, nearest-iff, nearest-none, nearest-word, places-eq}
@@ -111,7 +112,7 @@ smallest p d = (
     few (suc b) i l = rw (above p.v b l) (least-few p p.v b l)
 
 -- ---- promises
-refused-not-done : (r : ℕ) (x old old' : List ℕ) → outcome r ≡ Outcome.Done → leaves r x old ≡ leaves r x old'
+refused-not-done : (r : ℕ) (x old old' : List ℕ) → outcome r ≡ Ok tt → leaves r x old ≡ leaves r x old'
 refused-not-done zero x old old' e = refl
 refused-not-done (suc r) x old old' e = let z : ◌≡◌ {A = ℕ} 0 1 = cc in absurd (Nat.not-suc-le-zero {n = 0} (omega arith))
 
@@ -189,7 +190,7 @@ module _ (p : Parameters) (A : Accepted p) where
 
   -- the odd syndromes of a word c of level a, as a call gives them, and all from them
   all_from : (a c : ℕ) → a ≤ p.v → (odd old after : List ℕ) (o : Outcome) → odd ≡ odd_syndromes p (strength p a) c → length old ≡ 2 * strength p a
-      → AllMade p a odd old after o → (o ≡ Outcome.Done) × (after ≡ syndromes p (2 * strength p a) c)
+      → AllMade p a odd old after o → (o ≡ Ok tt) × (after ≡ syndromes p (2 * strength p a) c)
   all_from a c h odd old after o e l M =
       let t = strength p a in
       let z : all_refusal 1 p a (length odd) (length old) ≡ 0 = all_none 1 p a (length odd) (length old) (sym (open_none p a A h))
@@ -241,13 +242,13 @@ module _ (p : Parameters) (A : Accepted p) where
   unblank : (x : List ℕ) → Bytes x → (¬ IsBlank p x) → T (not (blank p x))
   unblank x b n = not_T (blank p x) (λ t. n ((blank-iff p R x b).0 t))
 
-  blank-judged : (x : List ℕ) → Bytes x → PageBuffer p x → (judge_answer p x ≡ Verdict.Blank) ↔ IsBlank p x
+  blank-judged : (x : List ℕ) → Bytes x → PageBuffer p x → (judge_answer p x ≡ Ok Verdict.Blank) ↔ IsBlank p x
   blank-judged x b e = (
     (λ j. (blank-iff p R x b).0 (judged-blank p x j)),
-    (λ h. (let t : T (blank p x) = (blank-iff p R x b).1 h in judge-is p A x (blank-judgeable p x e t) ∙ verdict-blank p x t)),
+    (λ h. (let t : T (blank p x) = (blank-iff p R x b).1 h in judge-is p A x (blank-judgeable p x e t) ∙ ap Ok (verdict-blank p x t))),
   )
 
-  blanks-read : (x old out : List ℕ) (r : Verdict) → Bytes x → PageBuffer p x → BlocksBuffer p old → ReadOut p x old out r
+  blanks-read : (x old out : List ℕ) (r : Judgement) → Bytes x → PageBuffer p x → BlocksBuffer p old → ReadOut p x old out r
       → BlankReadLaws p x out r
   blanks-read x old out r b e f O = record {
     answers = rw (O.answers ∙ read-as-judge p x old f) (blank-judged x b e);
@@ -271,20 +272,21 @@ module _ (p : Parameters) (A : Accepted p) where
       ((page-ones p R a h).0 ((blank-iff p R (page_of p a) (page-is p R a h).bytes).0 t.2)).0
 
   -- ---- members
-  judged-laws : (x : List ℕ) (r : Verdict) → IsPage p x → (¬ IsBlank p x) → Judged p x r → JudgeLaws p x r
+  judged-laws : (x : List ℕ) (r : Judgement) → IsPage p x → (¬ IsBlank p x) → Judged p x r → JudgeLaws p x r
   judged-laws x r h n J =
-      let e : r ≡ verdict p (words_of p x) = J.answers ∙ unblanked p A x h (unblank x h.bytes n) in
+      let v : Verdict = verdict p (words_of p x) in
+      let e : r ≡ Ok v = J.answers ∙ unblanked p A x h (unblank x h.bytes n) in
       record {
-        member = rw e (verdict-member p R (words_of p x));
-        sub_word = λ i. rw e (verdict-sub p R (words_of p x) i);
-        nested-word = λ l. rw e (verdict-nested p R (words_of p x) l);
+        member = ok-iff r v Verdict.Member e (verdict-member p R (words_of p x));
+        sub_word = λ i. ok-iff r v (Verdict.SubWord i) e (verdict-sub p R (words_of p x) i);
+        nested-word = λ l. ok-iff r v (Verdict.NestedWord l) e (verdict-nested p R (words_of p x) l);
       }
 
-  judged-passing : (x : List ℕ) → IsPage p x → judge_answer p x ≡ Verdict.Member → Passing p (words_of p x)
+  judged-passing : (x : List ℕ) → IsPage p x → judge_answer p x ≡ Ok Verdict.Member → Passing p (words_of p x)
   judged-passing x h e =
       member-passing p R (words_of p x) (judged-member p A x h e) (page-words p R x h).many
 
-  passing-judged : (x : List ℕ) → IsPage p x → T (not (blank p x)) → Passing p (words_of p x) → judge_answer p x ≡ Verdict.Member
+  passing-judged : (x : List ℕ) → IsPage p x → T (not (blank p x)) → Passing p (words_of p x) → judge_answer p x ≡ Ok Verdict.Member
   passing-judged x h n M =
       member-judged p A x h n (passing-member p R (words_of p x) M (page-words p R x h).many)
 
@@ -302,26 +304,26 @@ module _ (p : Parameters) (A : Accepted p) where
   page-unblank : (a : List ℕ) → Fits p a → (¬ IsBlank p (page_of p a)) → T (not (blank p (page_of p a)))
   page-unblank a h = unblank (page_of p a) (page-is p R a h).bytes
 
-  refused-done : (r : Outcome) (k : ℕ) → r ≡ Outcome.Refused k → r ≡ Outcome.Done → ⊥
-  refused-done r k e d = let z : ◌≡◌ {A = ℕ} 0 1 = cc in Nat.suc-ne-zero 0 (sym z)
+  refused-done : (r : Outcome) (e : Refusal) → r ≡ Err e → r ≡ Ok tt → ⊥
+  refused-done r e f d = let z : ◌≡◌ {A = ℕ} 0 1 = cc in Nat.suc-ne-zero 0 (sym z)
 
   module _ (L : ℕ) (a old after : List ℕ) (r : Outcome) (w : Width L) (h : Fits p a) (e : PageBuffer p old) (W : Written p L a old after r) where
-    after_is : T (not (blank p (page_of p a))) → (r ≡ Outcome.Done) × (after ≡ page_of p a)
+    after_is : T (not (blank p (page_of p a))) → (r ≡ Ok tt) × (after ≡ page_of p a)
     after_is n = (W.answers ∙ write_done p A L a old w h e n, W.buffer ∙ write-leaves p A L a old w h e n)
 
-    after-blank : T (blank p (page_of p a)) → (r ≡ Outcome.Refused 13) × (after ≡ old)
+    after-blank : T (blank p (page_of p a)) → (r ≡ Err Refusal.Blank) × (after ≡ old)
     after-blank t = (W.answers ∙ write-refused p A L a old w h e t, W.buffer ∙ write_keeps p A L a old w h e t)
 
     -- a write that is done has made a page other than blank
-    done-unblank : r ≡ Outcome.Done → T (not (blank p (page_of p a)))
-    done-unblank d = not_T (blank p (page_of p a)) (λ t. refused-done r 13 (after-blank t).0 d)
+    done-unblank : r ≡ Ok tt → T (not (blank p (page_of p a)))
+    done-unblank d = not_T (blank p (page_of p a)) (λ t. refused-done r Refusal.Blank (after-blank t).0 d)
 
     blanks-written : BlankWriteLaws p a old after r
     blanks-written =
         let i = blank-iff p R (page_of p a) (page-is p R a h).bytes in
         record {
           refused = (
-            (λ k. i.0 (by-test (blank p (page_of p a)) (λ n. refused-done r 13 k (after_is n).0))),
+            (λ k. i.0 (by-test (blank p (page_of p a)) (λ n. refused-done r Refusal.Blank k (after_is n).0))),
             (λ b. (after-blank (i.1 b)).0),
           );
           kept = λ b. (after-blank (i.1 b)).1;
@@ -336,7 +338,7 @@ module _ (p : Parameters) (A : Accepted p) where
     written-laws m =
         let x : IsPage p (page_of p a) = page-is p R a h in
         let n : T (not (blank p (page_of p a))) = page-unblank a h m in
-        let j : judge_answer p (page_of p a) ≡ Verdict.Member = passing-judged (page_of p a) x n (page-passing a h) in
+        let j : judge_answer p (page_of p a) ≡ Ok Verdict.Member = passing-judged (page_of p a) x n (page-passing a h) in
         let s : after ≡ page_of p a = (after_is n).1 in
         record {
           done = (after_is n).0;
@@ -365,7 +367,7 @@ module _ (p : Parameters) (A : Accepted p) where
   }
 
   quoted : (list after : List ℕ) (k : Outcome) → length list ≡ 12 → QuoteMade p list after k
-      → (k ≡ Outcome.Done) × (length after ≡ 12) × QuoteLaws p (λ j. get_or after j 0)
+      → (k ≡ Ok tt) × (length after ≡ 12) × QuoteLaws p (λ j. get_or after j 0)
   quoted list after k e Q =
       let z : quote_refusal 1 p (length list) ≡ 0 = quote-none 1 p (length list) A e in
       let s : after ≡ quote p = Q.buffer ∙ ap (λ (r : ℕ). leaves r (quote p) list) z in
@@ -485,27 +487,27 @@ module _ (p : Parameters) (A : Accepted p) where
 
   -- a page is a member exactly when the writing of its blocks is done and makes it
   rewritten : (L : ℕ) (x old after : List ℕ) (w : Outcome) → Width L → IsPage p x → PageBuffer p old → Written p L (data_of p x) old after w
-      → (judge_answer p x ≡ Verdict.Member) ↔ ((w ≡ Outcome.Done) × (after ≡ x))
+      → (judge_answer p x ≡ Ok Verdict.Member) ↔ ((w ≡ Ok tt) × (after ≡ x))
   rewritten L x old after w l h e W = (to, back)
     where
-      to : judge_answer p x ≡ Verdict.Member → (w ≡ Outcome.Done) × (after ≡ x)
+      to : judge_answer p x ≡ Ok Verdict.Member → (w ≡ Ok tt) × (after ≡ x)
       to m =
           let s : page_of p (data_of p x) ≡ x = (again-iff x h).0 (judged-passing x h m) in
           let d = after_is L (data_of p x) old after w l (data-fit p R x) e W (rw s (judged-else p x m)) in
           (d.0, d.1 ∙ s)
 
-      back : (w ≡ Outcome.Done) × (after ≡ x) → judge_answer p x ≡ Verdict.Member
+      back : (w ≡ Ok tt) × (after ≡ x) → judge_answer p x ≡ Ok Verdict.Member
       back d =
           let n = done-unblank L (data_of p x) old after w l (data-fit p R x) e W d.0 in
           let s : page_of p (data_of p x) ≡ x = sym (after_is L (data_of p x) old after w l (data-fit p R x) e W n).1 ∙ d.1 in
           passing-judged x h (rw s at n) ((again-iff x h).1 s)
 
-  rewrites : (L : ℕ) (x old-blocks blocks old-page after : List ℕ) (j r : Verdict) (w : Outcome) → Width L → IsPage p x
+  rewrites : (L : ℕ) (x old-blocks blocks old-page after : List ℕ) (j r : Judgement) (w : Outcome) → Width L → IsPage p x
       → BlocksBuffer p old-blocks → PageBuffer p old-page
       → Judged p x j → ReadOut p x old-blocks blocks r → Written p L blocks old-page after w → Rewrites p x blocks after j r w
   rewrites L x ob blocks op after j r o w h eb ep J O W =
       let b : blocks ≡ data_of p x = O.buffer ∙ read-leaves p A x ob (page-judgeable p x h) eb in
-      let i : (judge_answer p x ≡ Verdict.Member) ↔ ((o ≡ Outcome.Done) × (after ≡ x)) = rewritten L x op after o w h ep (rw b at W) in
+      let i : (judge_answer p x ≡ Ok Verdict.Member) ↔ ((o ≡ Ok tt) × (after ≡ x)) = rewritten L x op after o w h ep (rw b at W) in
       let v : r ≡ judge_answer p x = O.answers ∙ read-as-judge p x ob eb in
       record { fits = rw b (data-fit p R x); by-judge = rw J.answers i; by-read-out = rw v i }
 
@@ -516,11 +518,11 @@ module _ (p : Parameters) (A : Accepted p) where
   differences-are x y h l =
       add_below-ext p.m (flips_in p x y) (differing (stored p) (words_of p x) (words_of p y)) (flips-are p A x y h l)
 
-  apart : (x y : List ℕ) → Bytes x → Bytes y → Judged p x Verdict.Member → Judged p y Verdict.Member → x ≢ y
+  apart : (x y : List ℕ) → Bytes x → Bytes y → Judged p x (Ok Verdict.Member) → Judged p y (Ok Verdict.Member) → x ≢ y
       → distance p ≤ differences p x y
   apart x y b c J K n =
-      let e : judge_answer p x ≡ Verdict.Member = sym J.answers in
-      let f : judge_answer p y ≡ Verdict.Member = sym K.answers in
+      let e : judge_answer p x ≡ Ok Verdict.Member = sym J.answers in
+      let f : judge_answer p y ≡ Ok Verdict.Member = sym K.answers in
       let h : IsPage p x = judged-page p x e b in
       let k : IsPage p y = judged-page p y f c in
       let u : IsWords p (words_of p x) = page-words p R x h in
@@ -533,23 +535,23 @@ module _ (p : Parameters) (A : Accepted p) where
   demand3 = record { alike = alike; sums = sums; rewrites = rewrites; apart = apart; smallest = smallest p }
 
   -- ---- bursts
-  first_passes : (x : List ℕ) → IsPage p x → judge_answer p x ≡ Verdict.Member → Divides p p.v (nested p 0 (words_of p x))
+  first_passes : (x : List ℕ) → IsPage p x → judge_answer p x ≡ Ok Verdict.Member → Divides p p.v (nested p 0 (words_of p x))
   first_passes x h e = rw (Nat.sub-zero p.v) at ((judged-passing x h e).nesteds 0 R.v_low)
 
-  never : (x y : List ℕ) (i a : ℕ) (r : Verdict) → Bytes x → Bytes y → i < p.m → a < stored p
-      → Judged p x Verdict.Member → Burst p x y i a → x ≢ y → Judged p y r → r ≢ Verdict.Member
+  never : (x y : List ℕ) (i a : ℕ) (r : Judgement) → Bytes x → Bytes y → i < p.m → a < stored p
+      → Judged p x (Ok Verdict.Member) → Burst p x y i a → x ≢ y → Judged p y r → r ≢ Ok Verdict.Member
   never x y i a r bx by l b J S n K m =
-      let e : judge_answer p x ≡ Verdict.Member = sym J.answers in
-      let f : judge_answer p y ≡ Verdict.Member = sym K.answers ∙ m in
+      let e : judge_answer p x ≡ Ok Verdict.Member = sym J.answers in
+      let f : judge_answer p y ≡ Ok Verdict.Member = sym K.answers ∙ m in
       let h : IsPage p x = judged-page p x e bx in
       let k : IsPage p y = judged-page p y f by in
       n (burst-same p R x y h k i a l b S (first_passes x h e) (first_passes y k f))
 
-  named : (x y : List ℕ) (i a : ℕ) (r : Verdict) → Bytes x → IsPage p y → (¬ IsBlank p y) → i < p.m → a < stored p
-      → Judged p x Verdict.Member → Burst p x y i a → x ≢ y → Judged p y r → (r ≡ Verdict.SubWord i) ⊎ (r ≡ Verdict.NestedWord 0)
+  named : (x y : List ℕ) (i a : ℕ) (r : Judgement) → Bytes x → IsPage p y → (¬ IsBlank p y) → i < p.m → a < stored p
+      → Judged p x (Ok Verdict.Member) → Burst p x y i a → x ≢ y → Judged p y r → (r ≡ Ok (Verdict.SubWord i)) ⊎ (r ≡ Ok (Verdict.NestedWord 0))
   named x y i a r bx k o l b J S n K = go (ℕ_discrete (remainder p 0 (sub_word_of p y i)) 0)
     where
-      e : judge_answer p x ≡ Verdict.Member
+      e : judge_answer p x ≡ Ok Verdict.Member
       e = sym J.answers
 
       h : IsPage p x
@@ -572,7 +574,7 @@ module _ (p : Parameters) (A : Accepted p) where
       every M j c (yes s) = rw s M
       every M j c (no s) = other j c s
 
-      go : Dec (remainder p 0 (sub_word_of p y i) ≡ 0) → (r ≡ Verdict.SubWord i) ⊎ (r ≡ Verdict.NestedWord 0)
+      go : Dec (remainder p 0 (sub_word_of p y i) ≡ 0) → (r ≡ Ok (Verdict.SubWord i)) ⊎ (r ≡ Ok (Verdict.NestedWord 0))
       go (yes z) =
           let M : Multiple (gen p 0) (sub_word_of p y i) = (multiple-iff p R 0 zero-le (sub_word_of p y i)).0 z in
           inr ((laws.nested-word 0).1 (R.v_low, (λ j c. every M j c (ℕ_discrete j i)), fails, (λ j c. absurd (Nat.not-suc-le-zero c))))
@@ -583,8 +585,8 @@ module _ (p : Parameters) (A : Accepted p) where
             (λ j c. other j (omega arith) (λ s. Nat.lt_irrefl j (omega arith))),
           ))
 
-  stray-judged : (y : List ℕ) (j k : ℕ) (r : Verdict) → Bytes y → PageBuffer p y → (¬ IsBlank p y) → j < p.m → stored p ≤ k
-      → k < 8 * sub_word_bytes p → coefficient_of p y j k ≡ 1 → Judged p y r → r ≡ Verdict.Refused 8
+  stray-judged : (y : List ℕ) (j k : ℕ) (r : Judgement) → Bytes y → PageBuffer p y → (¬ IsBlank p y) → j < p.m → stored p ≤ k
+      → k < 8 * sub_word_bytes p → coefficient_of p y j k ≡ 1 → Judged p y r → r ≡ Err Refusal.Stray
   stray-judged y j k r b e o l h c s K = K.answers ∙ judge-stray p A y e (not_T (page_clear p y) unclear) (unblank y b o)
     where
       unclear : T (page_clear p y) → ⊥
@@ -592,7 +594,7 @@ module _ (p : Parameters) (A : Accepted p) where
           let w : sub_word_of p y j < 2 ^ stored p = word_lt p R y (record { bytes = b; exact = e; clear = t }) j l in
           Nat.suc-ne-zero 0 (sym s ∙ sym (place-bit p R y b j k l c) ∙ beyond (sub_word_of p y j) (stored p) k w h)
 
-  single-judged : (i c : ℕ) → i < p.m → c < 2 ^ stored p → Divides p p.v c → judge_answer p (single_page p i c) ≡ Verdict.Member
+  single-judged : (i c : ℕ) → i < p.m → c < 2 ^ stored p → Divides p p.v c → judge_answer p (single_page p i c) ≡ Ok Verdict.Member
   single-judged i c l b d =
       passing-judged (single_page p i c) (single-is p R i c l b) (unblank (single_page p i c) (single-is p R i c l b).bytes (single-unblank p R i c l b))
       (rw (single-has p R i c l b) (single-passing p R i c l d))
@@ -621,18 +623,18 @@ module _ (p : Parameters) (A : Accepted p) where
   abbrev refused_by : ℕ → ℕ → List ℕ → List ℕ → List ℕ → ℕ
   refused_by L count blocks pages list = many_refusal p L count (length blocks) (length pages) (length list)
 
-  many-zero : (L count : ℕ) (blocks pages after list listed : List ℕ) → WrittenMany p L count blocks pages after list listed Outcome.Done
+  many-zero : (L count : ℕ) (blocks pages after list listed : List ℕ) → WrittenMany p L count blocks pages after list listed (Ok tt)
       → refused_by L count blocks pages list ≡ 0
   many-zero L count blocks pages after list listed W = sym W.0.number
 
   -- what a call that is done leaves
-  many-made : (L count : ℕ) (blocks pages after list listed : List ℕ) → WrittenMany p L count blocks pages after list listed Outcome.Done
+  many-made : (L count : ℕ) (blocks pages after list listed : List ℕ) → WrittenMany p L count blocks pages after list listed (Ok tt)
       → (after ≡ pages_by p (statuses p L count blocks) blocks pages) × (listed ≡ statuses p L count blocks)
   many-made L count blocks pages after list listed W =
       let z = many-zero L count blocks pages after list listed W in
       (rw z at W.0.buffer, rw z at W.1.buffer)
 
-  many-each : (L count : ℕ) (blocks pages after list listed : List ℕ) → WrittenMany p L count blocks pages after list listed Outcome.Done
+  many-each : (L count : ℕ) (blocks pages after list listed : List ℕ) → WrittenMany p L count blocks pages after list listed (Ok tt)
       → (k : ℕ) → k < count
       → Written p L (part (data_bytes p) k blocks) (part (page_bytes p) k pages) (part (page_bytes p) k after) (outcome (get_or listed k 0))
   many-each L count blocks pages after list listed W k h =
@@ -640,10 +642,18 @@ module _ (p : Parameters) (A : Accepted p) where
       let s = many-lent p L count (length blocks) (length pages) (length list) (many-zero L count blocks pages after list listed W) in
       rw (m.0, m.1) (each-written p L count blocks pages s.pages-exact k h)
 
+  pub many-status : (L count : ℕ) (blocks pages after list listed : List ℕ) → WrittenMany p L count blocks pages after list listed (Ok tt)
+      → (k : ℕ) → k < count
+      → get_or listed k 0 ≡ write_refusal p L (part (data_bytes p) k blocks) (length (part (page_bytes p) k pages))
+  many-status L count blocks pages after list listed W k h =
+      let m = many-made L count blocks pages after list listed W in
+      let s = many-lent p L count (length blocks) (length pages) (length list) (many-zero L count blocks pages after list listed W) in
+      rw m.1 (status-single p L count blocks pages s.pages-exact k h)
+
   pub many : ManyLaws p
   many = record {
     done = λ L count blocks pages after list listed r W. (
-      (λ e. many-lent p L count (length blocks) (length pages) (length list) (sym W.0.number ∙ ap outcome_number e)),
+      (λ e. many-lent p L count (length blocks) (length pages) (length list) (sym W.0.number ∙ ap answer_number e)),
       (λ s. W.0.answers ∙ ap outcome (many-none p L count (length blocks) (length pages) (length list) A s)),
     );
     kept = λ L count n blocks pages after list listed W.
@@ -678,15 +688,15 @@ module _ (p : Parameters) (A : Accepted p) where
           many-alike p L M count (length blocks) (length pages) (length list) w w'
           ∙ ap₂ (many_refusal p M count (length blocks)) e f in
           let a : r ≡ r' = W.0.answers ∙ ap outcome s ∙ sym W'.0.answers in
-          let l : r ≡ Outcome.Done → listed ≡ listed' = λ d.
+          let l : r ≡ Ok tt → listed ≡ listed' = λ d.
           (many-made L count blocks pages after list listed (rw d at W)).1 ∙ statuses-alike p L M count blocks w w'
           ∙ sym (many-made M count blocks pages' after' list' listed' (rw (sym a ∙ d) at W')).1 in
           record {
             answers = a;
             lists = l;
             pages = λ d k h z.
-                (let X : WrittenMany p L count blocks pages after list listed Outcome.Done = rw d at W in
-                let X' : WrittenMany p M count blocks pages' after' list' listed' Outcome.Done = rw (sym a ∙ d) at W' in
+                (let X : WrittenMany p L count blocks pages after list listed (Ok tt) = rw d at W in
+                let X' : WrittenMany p M count blocks pages' after' list' listed' (Ok tt) = rw (sym a ∙ d) at W' in
                 let c = many-lent p L count (length blocks) (length pages) (length list) (many-zero L count blocks pages after list listed X) in
                 let i : k < count = rw (ap length (many-made L count blocks pages after list listed X).1 ∙ length-statuses p L count blocks) at h in
                 (alike L M (part (data_bytes p) k blocks) (part (page_bytes p) k pages) (part (page_bytes p) k pages') (part (page_bytes p) k after)
@@ -705,7 +715,7 @@ module _ (p : Parameters) (A : Accepted p) where
       (record { bytes = y; exact = s.exact; clear = s.clear }, record { block = s.block; bit = s.bit; value = s.value })
 
   -- what a call that is done shows, and leaves
-  alter-done : (x after : List ℕ) (i r b : ℕ) → Bytes x → Altered p x i r b after Outcome.Done
+  alter-done : (x after : List ℕ) (i r b : ℕ) → Bytes x → Altered p x i r b after (Ok tt)
       → IsPage p x × NamesBit p i r b × (after ≡ altered p x i r b)
   alter-done x after i r b y M =
       let z : alter_refusal p x i r b ≡ 0 = sym M.number in
@@ -725,15 +735,15 @@ module _ (p : Parameters) (A : Accepted p) where
   left_alone zero x old e = e
   left_alone (suc k) x old e = refl
 
-  alter-kept : (x after : List ℕ) (i r b n : ℕ) → Altered p x i r b after (Outcome.Refused n) → after ≡ x
+  alter-kept : (x after : List ℕ) (i r b : ℕ) (e : Refusal) → Altered p x i r b after (Err e) → after ≡ x
   alter-kept x after i r b n M = M.buffer ∙ leaves-refused (alter_refusal p x i r b) _ x (refused-pos n (alter_refusal p x i r b) M.answers)
 
   -- whatever the answer is, the page afterwards is the altered one or the old one
   alter-either : (x after : List ℕ) (i r b : ℕ) (o : Outcome) → Altered p x i r b after o
-      → ((o ≡ Outcome.Done) × (after ≡ altered p x i r b)) ⊎ (after ≡ x)
+      → ((o ≡ Ok tt) × (after ≡ altered p x i r b)) ⊎ (after ≡ x)
   alter-either x after i r b o M = go (alter_refusal p x i r b) M.answers M.buffer
     where
-      go : (k : ℕ) → o ≡ outcome k → after ≡ leaves k (altered p x i r b) x → ((o ≡ Outcome.Done) × (after ≡ altered p x i r b)) ⊎ (after ≡ x)
+      go : (k : ℕ) → o ≡ outcome k → after ≡ leaves k (altered p x i r b) x → ((o ≡ Ok tt) × (after ≡ altered p x i r b)) ⊎ (after ≡ x)
       go zero e f = inl (e, f)
       go (suc k) e f = inr f
 
@@ -741,7 +751,7 @@ module _ (p : Parameters) (A : Accepted p) where
       → (i < j) ⊎ (p.v ≤ j) → part (sub_word_bytes p) j after ≡ part (sub_word_bytes p) j x
   elsewhere-kept x after i r b j o y M l n m = go (alter-either x after i r b o M)
     where
-      go : ((o ≡ Outcome.Done) × (after ≡ altered p x i r b)) ⊎ (after ≡ x) → part (sub_word_bytes p) j after ≡ part (sub_word_bytes p) j x
+      go : ((o ≡ Ok tt) × (after ≡ altered p x i r b)) ⊎ (after ≡ x) → part (sub_word_bytes p) j after ≡ part (sub_word_bytes p) j x
       go (inr e) = ap (part (sub_word_bytes p) j) e
       go (inl d) = pick (ℕ_discrete (coefficient_of p x i (check_bits p i + r)) b)
         where
@@ -760,7 +770,7 @@ module _ (p : Parameters) (A : Accepted p) where
   changed x i r h l m =
       differences-are x (add x (page_of p (one_bit p i r))) h (after-page p R i r l m x h) ∙ changed-weight p R i r l m x h
 
-  alter-least : (x after : List ℕ) (i r b : ℕ) → Bytes x → Altered p x i r b after Outcome.Done
+  alter-least : (x after : List ℕ) (i r b : ℕ) → Bytes x → Altered p x i r b after (Ok tt)
       → coefficient_of p x i (check_bits p i + r) ≢ b → distance p ≤ differences p x after
   alter-least x after i r b y M n =
       let s = alter-done x after i r b y M in
@@ -778,7 +788,7 @@ module _ (p : Parameters) (A : Accepted p) where
       go true t = refl
       go false t = absurd t
 
-  alter-most : (x after : List ℕ) (i r b : ℕ) → Bytes x → Altered p x i r b after Outcome.Done
+  alter-most : (x after : List ℕ) (i r b : ℕ) → Bytes x → Altered p x i r b after (Ok tt)
       → differences p x after ≤ add_below p.m (λ j. cond (concerned p i j) (check_bits p j) 0) + 1
   alter-most x after i r b y M = go (ℕ_discrete (coefficient_of p x i (check_bits p i + r)) b)
     where
@@ -800,9 +810,9 @@ module _ (p : Parameters) (A : Accepted p) where
           ∙ o j (check_bits p j + 0) h (data-room p R j 0 d) in
           Nat.suc-ne-zero 0 (sym z)
 
-  alter-added : (L : ℕ) (x after c old unit : List ℕ) (i r b : ℕ) (w : Outcome) → Bytes x → Altered p x i r b after Outcome.Done
+  alter-added : (L : ℕ) (x after c old unit : List ℕ) (i r b : ℕ) (w : Outcome) → Bytes x → Altered p x i r b after (Ok tt)
       → coefficient_of p x i (check_bits p i + r) ≢ b → SetTo p c i r 1 (λ j k. 0) → Width L → PageBuffer p old → Written p L c old unit w
-      → (w ≡ Outcome.Done) × (after ≡ add x unit)
+      → (w ≡ Ok tt) × (after ≡ add x unit)
   alter-added L x after c old unit i r b w y M n S L' e W =
       let s = alter-done x after i r b y M in
       let k : c ≡ one_bit p i r = bit-alone p R i r s.1.block s.1.bit c S.fits S.here S.others in
@@ -810,8 +820,8 @@ module _ (p : Parameters) (A : Accepted p) where
       (u.0, s.2 ∙ other-altered x i r b n ∙ ap (add x) (sym (u.1 ∙ ap (page_of p) k)))
 
   -- a member altered is the page of the altered blocks
-  alter-member : (L : ℕ) (x after ob a c old page : List ℕ) (i r b : ℕ) (v : Verdict) (o w : Outcome) → Width L → Bytes x
-      → Judged p x Verdict.Member → NamesBit p i r b → BlocksBuffer p ob → PageBuffer p old → Altered p x i r b after o
+  alter-member : (L : ℕ) (x after ob a c old page : List ℕ) (i r b : ℕ) (v : Judgement) (o w : Outcome) → Width L → Bytes x
+      → Judged p x (Ok Verdict.Member) → NamesBit p i r b → BlocksBuffer p ob → PageBuffer p old → Altered p x i r b after o
       → ReadOut p x ob a v → SetTo p c i r b (block_bit p a) → Written p L c old page w → AlteredMember p after page o w
   alter-member L x after ob a c old page i r b v o w L' y J n eb ep M O S W = record {
     answers = same_answer;
@@ -820,7 +830,7 @@ module _ (p : Parameters) (A : Accepted p) where
     shortened = λ z. M.answers ∙ ap outcome (left-13 ∙ off' 13 (blank p (altered p x i r b)) (not_T (blank p (altered p x i r b)) (λ t. short z t)));
   }
     where
-      member : judge_answer p x ≡ Verdict.Member
+      member : judge_answer p x ≡ Ok Verdict.Member
       member = sym J.answers
 
       h : IsPage p x
@@ -850,13 +860,13 @@ module _ (p : Parameters) (A : Accepted p) where
       same_answer : o ≡ w
       same_answer = M.answers ∙ ap outcome same-refusal ∙ sym W.answers
 
-      none : o ≡ Outcome.Done → alter_refusal p x i r b ≡ 0
-      none d = sym M.number ∙ ap outcome_number d
+      none : o ≡ Ok tt → alter_refusal p x i r b ≡ 0
+      none d = sym M.number ∙ ap answer_number d
 
-      unblanked-c : o ≡ Outcome.Done → T (not (blank p (page_of p c)))
+      unblanked-c : o ≡ Ok tt → T (not (blank p (page_of p c)))
       unblanked-c d = rw page-is-c at (alter-none p x i r b (none d)).1
 
-      passing-judged-as : (z y : List ℕ) → z ≡ y → IsPage p y → T (not (blank p y)) → Passing p (words_of p y) → judge_answer p z ≡ Verdict.Member
+      passing-judged-as : (z y : List ℕ) → z ≡ y → IsPage p y → T (not (blank p y)) → Passing p (words_of p y) → judge_answer p z ≡ Ok Verdict.Member
       passing-judged-as z y e h t P = ap (judge_answer p) e ∙ passing-judged y h t P
 
       short : 0 < p.s → T (blank p (altered p x i r b)) → ⊥
@@ -867,14 +877,14 @@ module _ (p : Parameters) (A : Accepted p) where
   pub alters : AlterLaws p
   alters = record {
     done = λ x after i r b o y M. (
-      (λ e. (let s = alter-none p x i r b (sym M.number ∙ ap outcome_number e) in
+      (λ e. (let s = alter-none p x i r b (sym M.number ∙ ap answer_number e) in
           let n = named-page x i r b y s.0 in
           (n.0, n.1, (λ k. T_not (blank p (altered p x i r b)) s.1 ((blank_of x i r b n.0 n.1).1 k))))),
       (λ s. M.answers ∙ ap outcome (alter-left p x i r b A (alterable x i r b s.0 s.1)
           ∙ off' 13 (blank p (altered p x i r b)) (not_T (blank p (altered p x i r b)) (λ t. s.2 ((blank_of x i r b s.0 s.1).0 t))))),
     );
     blank = λ x after i r b o y M. (
-      (λ e. (let s = alter-13 p x i r b A (sym M.number ∙ ap outcome_number e) in
+      (λ e. (let s = alter-13 p x i r b A (sym M.number ∙ ap answer_number e) in
           let n = named-page x i r b y s.0 in
           (n.0, n.1, (blank_of x i r b n.0 n.1).0 s.1))),
       (λ s. M.answers ∙ ap outcome (alter-left p x i r b A (alterable x i r b s.0 s.1)
@@ -1041,7 +1051,7 @@ module _ (p : Parameters) (A : Accepted p) where
           ap length t ∙ length-ones (stored p) (xor (sub_word_of p x i) c) b ∙ sym (damage z x i h li u same),
         )
 
-  pub member-multiple : (z : List ℕ) → IsPage p z → judge_answer p z ≡ Verdict.Member → (i : ℕ) → i < p.m → Multiple (gen p 0) (sub_word_of p z i)
+  pub member-multiple : (z : List ℕ) → IsPage p z → judge_answer p z ≡ Ok Verdict.Member → (i : ℕ) → i < p.m → Multiple (gen p 0) (sub_word_of p z i)
   member-multiple z u e i li =
       (multiple-iff p R 0 zero-le (sub_word_of p z i)).0
       (all-at (λ c. Divides p 0 c) (words_of p z) (judged-passing z u e).words i (rw (words-many p z) li))
@@ -1051,11 +1061,11 @@ module _ (p : Parameters) (A : Accepted p) where
     once = λ a y c d h. near-once p R a h y c d;
     one_list = λ a y Q S h l. flips-once p R a h y l Q S;
     done = λ x after i l listed n counted o y M. (
-      (λ e. (mend-zero-iff 1 x i (length l) y).0 (sym M.0.number ∙ ap outcome_number e)),
+      (λ e. (mend-zero-iff 1 x i (length l) y).0 (sym M.0.number ∙ ap answer_number e)),
       (λ s. M.0.answers ∙ ap outcome ((mend-zero-iff 1 x i (length l) y).1 s)),
     );
     nowhere = λ x after i l listed n counted o y M. (
-      (λ e. (mend-15-iff 1 x i (length l) y).0 (sym M.0.number ∙ ap outcome_number e)),
+      (λ e. (mend-15-iff 1 x i (length l) y).0 (sym M.0.number ∙ ap answer_number e)),
       (λ s. M.0.answers ∙ ap outcome ((mend-15-iff 1 x i (length l) y).1 s)),
     );
     kept = λ x after i l listed n counted k M.
@@ -1075,7 +1085,7 @@ module _ (p : Parameters) (A : Accepted p) where
           number_of counted 0 (rw s.0 at M.2.buffer ∙ ap (λ (Q : List ℕ). length Q ∷ []) s.1),
         ));
     back = λ z x after i l listed n counted o bz y J D g M.
-        (let e : judge_answer p z ≡ Verdict.Member = sym J.answers in
+        (let e : judge_answer p z ≡ Ok Verdict.Member = sym J.answers in
         let u = judged-page p z e bz in
         let s = undamaged z x i g.page g.sub_word u D (member-multiple z u e i g.sub_word) 1 (length l) g in (
           M.0.answers ∙ ap outcome s.0,
@@ -1084,7 +1094,7 @@ module _ (p : Parameters) (A : Accepted p) where
         ));
   }
     where
-      all_of : (x after : List ℕ) (i : ℕ) (l listed : List ℕ) (n counted : ℕ) → Bytes x → Mended p x after i l listed n counted Outcome.Done
+      all_of : (x after : List ℕ) (i : ℕ) (l listed : List ℕ) (n counted : ℕ) → Bytes x → Mended p x after i l listed n counted (Ok tt)
           → IsPage p after × Near p 0 (sub_word_of p x i) (sub_word_of p after i) × ((Q : List ℕ) × Mends p x after i listed counted Q)
       all_of x after i l listed n counted y M =
           let z : mend_refusal 1 p x i (length l) ≡ 0 = sym M.0.number in
@@ -1097,20 +1107,20 @@ module _ (p : Parameters) (A : Accepted p) where
     pass = λ x h. mend-pass p A x h;
     each-round = λ x k h. mend-round p A x k h;
     done = λ x after o b M. (
-      (λ e. (mend-page-zero p A x b).0 (sym M.number ∙ ap outcome_number e)),
+      (λ e. (mend-page-zero p A x b).0 (sym M.number ∙ ap answer_number e)),
       (λ s. M.answers ∙ ap outcome ((mend-page-zero p A x b).1 s)),
     );
     nowhere = λ x after o b M. (
-      (λ e. (mend-page-17 p A x b).0 (sym M.number ∙ ap outcome_number e)),
+      (λ e. (mend-page-17 p A x b).0 (sym M.number ∙ ap answer_number e)),
       (λ s. M.answers ∙ ap outcome ((mend-page-17 p A x b).1 s)),
     );
     succeeds = λ x after o b M.
-        (let d = mend-page-succeeds p A x (λ y. Judged p y Verdict.Member) member_is b in
-        ((λ e. d.0 (sym M.number ∙ ap outcome_number e)), (λ s. M.answers ∙ ap outcome (d.1 s))));
+        (let d = mend-page-succeeds p A x (λ y. Judged p y (Ok Verdict.Member)) member_is b in
+        ((λ e. d.0 (sym M.number ∙ ap answer_number e)), (λ s. M.answers ∙ ap outcome (d.1 s))));
     page = λ x after k b M e. (let z : mend_page_refusal p x ≡ 0 = sym M.number in rw z at M.buffer ∙ mend-page-page p A x k b z e);
     fails = λ x after o b M.
-        (let d = mend-page-fails p A x (λ y. Judged p y Verdict.Member) member_is b in
-        ((λ e. d.0 (sym M.number ∙ ap outcome_number e)), (λ s. M.answers ∙ ap outcome (d.1 s))));
+        (let d = mend-page-fails p A x (λ y. Judged p y (Ok Verdict.Member)) member_is b in
+        ((λ e. d.0 (sym M.number ∙ ap answer_number e)), (λ s. M.answers ∙ ap outcome (d.1 s))));
     kept = λ x after k M. M.buffer ∙ leaves-refused (mend_page_refusal p x) _ x (refused-pos k (mend_page_refusal p x) M.answers);
     otherwise = λ x after o h M. either x after o M (mend-page-else p A x h);
     clean = λ x after o b J M. comes x after x o M (mend-page-clean p A x b (sym J.answers));
@@ -1121,17 +1131,17 @@ module _ (p : Parameters) (A : Accepted p) where
     enough = λ d x. v-enough p A d (words_of p x);
   }
     where
-      member_is : (y : List ℕ) → Judged p y Verdict.Member ↔ (judge_answer p y ≡ Verdict.Member)
-      member_is y = ((λ J. sym J.answers), (λ e. judged p y Verdict.Member (sym e)))
+      member_is : (y : List ℕ) → Judged p y (Ok Verdict.Member) ↔ (judge_answer p y ≡ Ok Verdict.Member)
+      member_is y = ((λ J. sym J.answers), (λ e. judged p y (Ok Verdict.Member) (sym e)))
 
       comes : (x after z : List ℕ) (o : Outcome) → PageMended p x after o → (mend_page_refusal p x ≡ 0) × (list_of (mended_page p x) ≡ z)
-          → (o ≡ Outcome.Done) × (after ≡ z)
+          → (o ≡ Ok tt) × (after ≡ z)
       comes x after z o M s = (M.answers ∙ ap outcome s.0, rw s.0 at M.buffer ∙ s.1)
 
       either : (x after : List ℕ) (o : Outcome) → PageMended p x after o
-          → ((mend_page_refusal p x ≡ 0) × IsPage p (list_of (mended_page p x)) × (judge_answer p (list_of (mended_page p x)) ≡ Verdict.Member))
+          → ((mend_page_refusal p x ≡ 0) × IsPage p (list_of (mended_page p x)) × (judge_answer p (list_of (mended_page p x)) ≡ Ok Verdict.Member))
           ⊎ (mend_page_refusal p x ≡ 17)
-          → ((o ≡ Outcome.Done) × IsPage p after × ((r : Verdict) → Judged p after r → r ≡ Verdict.Member)) ⊎ ((o ≡ Outcome.Refused 17) × (after ≡ x))
+          → ((o ≡ Ok tt) × IsPage p after × ((r : Judgement) → Judged p after r → r ≡ Ok Verdict.Member)) ⊎ ((o ≡ Err Refusal.UnmendedPage) × (after ≡ x))
       either x after o M (inl s) =
           let c = comes x after (list_of (mended_page p x)) o M (s.0, refl) in
           inl (c.0, rw c.1 s.1, (λ r J. J.answers ∙ ap (judge_answer p) c.1 ∙ s.2))

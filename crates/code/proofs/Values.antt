@@ -1,7 +1,7 @@
 -- The values of nested words at powers of α, and what the theorems on pages rest on.
 --   weigh F x f i cs    Σ f(k) × c_k(x), the list's first word being c_i
 --   Lawful F α C        α has order n in F, the generators are known by their roots, and there is no clash
-use Rattle.std.specs.Prelude.{◌≡◌, ◌≢◌, ◌↔◌, List, [], ◌∷◌, ℕ, zero, suc, ◌+◌, ◌*◌, ◌^◌, ◌≤◌, ◌<◌}
+use Rattle.std.specs.Prelude.{◌≡◌, ◌≢◌, ◌↔◌, List, [], ◌∷◌, ℕ, suc, ◌+◌, ◌*◌, ◌^◌, ◌≤◌, ◌<◌}
 use Rattle.std.proofs.Math.Path.{refl}
 use Rattle.std.proofs.Common.{◌∙◌}
 use Rattle.polynomial.specs.Division.{Deg, unity-deg}

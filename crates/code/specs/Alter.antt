@@ -3,11 +3,10 @@
 --   alone p i d, units p i r   the words of the page of block i alone, d; of its bit r
 --   Alterable p x i r b        what is lent and named can be altered
 use Rattle.std.specs.Prelude.{◌≡◌, cond, List, ℕ, ◌^◌, ◌≤◌, ◌<◌, T, eqb, length}
-use Rattle.polynomial.specs.Digits.{value}
 use Rattle.polynomial.specs.Sums.{add}
 use Rattle.code.specs.declared.Parameters.{Parameters}
 use Rattle.code.specs.Code.{encode}
-use Rattle.code.specs.Layout.{altered, block_bit}
+use Rattle.code.specs.Layout.{block_bit}
 use Rattle.code.specs.Layout.{data_bits, one_bit, one_block, page_bytes, page_clear, single}
 
 -- the blocks with that bit altered

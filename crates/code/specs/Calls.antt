@@ -1,7 +1,7 @@
 -- What each call answers, and what each lent buffer holds afterwards: the old bytes after a refusal.
---   outcome_number, verdict_number, nesting_number    the requirement's number of an answer, which C calls return
---   outcome_values, verdict_values, nesting_values    its values
---   outcome r, unless_refused r v, leaves r x old   the answer and the buffer by the refusal r, 0 for none
+--   verdict_number, judgement_number    the requirement's number of an answer, which C calls return
+--   outcome_values, verdict_values, judgement_values, nesting_values    its values
+--   outcome r, leaves r x old          the answer and the buffer by the refusal r, 0 for none
 --   page_verdict, page_number, page_values            what is said of a page that is not refused, with number and values apart from the
 --                                                  enum: blank or, else, the first word that fails
 --   judge_number, judge_values, read_number, read_values    the same behind the refusals of judge and of read out
@@ -11,15 +11,15 @@
 --   size_unless r x                                 the size x or, under the refusal r, 0
 --   Made, Named, Judged, ReadOut, ..               what a call promises, of its answer and of the buffer after it;
 --                                                  the ..C ones are the C calls'
-use Rattle.std.specs.Prelude.{◌≡◌, cond, ◌≢◌, ◌↔◌, List, [], ◌∷◌, ◌++◌, map, ℕ, zero, suc, ◌+◌, ◌-◌, ◌*◌, ◌/◌, ◌^◌, ◌≤◌, leb, ltb, length, get_or, replicate, take, drop}
+use Rattle.std.specs.Prelude.{◌≡◌, Result, Ok, Err, cond, ◌≢◌, ◌↔◌, List, [], ◌∷◌, ◌++◌, map, ℕ, zero, suc, ◌+◌, ◌-◌, ◌*◌, ◌/◌, ◌^◌, ◌≤◌, leb, ltb, length, get_or, replicate, take, drop}
 use Rattle.std.proofs.Math.Option.{Option, none, some}
 use Rattle.polynomial.specs.Digits.{value, digits}
 use Rattle.polynomial.specs.Division.{rem}
 use Rattle.polynomial.specs.Xor.{xor}
 use Rattle.code.specs.declared.Parameters.{Parameters}
-use Rattle.code.specs.declared.Outcome.{Outcome}
+use Rattle.code.specs.declared.Refusal.{Refusal}
 use Rattle.code.specs.declared.Verdict.{Verdict}
-use Rattle.code.specs.declared.Nesting.{Nesting}
+use Rattle.code.specs.Answers.{Judgement, Outcome, answer_number, refusal_number, unless_refused}
 use Rattle.code.specs.Register.{Register, Fed}
 use Rattle.code.specs.Lists.{range, part, runs, ◌or_else◌, values_by, last_refusal}
 use Rattle.code.specs.Parameters.{nested_bytes, strength, sheet_refusal}
@@ -29,44 +29,37 @@ use Rattle.code.specs.Refusals.{write_refusal, many_refusal, alter_refusal, mend
 use Rattle.code.specs.Refusals.{syndromes_refusal, nested_syndromes_refusal, all_refusal, open_refusal, feed_refusal, quote_refusal, nesting_refusal}
 
 -- ---- numbers and values of the answers
-abbrev pub outcome_number : Outcome → ℕ
-outcome_number Outcome.Done = 0
-outcome_number (Outcome.Refused k) = k
-
 abbrev pub outcome_values : Outcome → List ℕ
-outcome_values Outcome.Done = []
-outcome_values (Outcome.Refused k) = []
+outcome_values (Ok x) = []
+outcome_values (Err e) = []
 
 abbrev pub verdict_number : Verdict → ℕ
 verdict_number Verdict.Member = 0
 verdict_number Verdict.Blank = 96
 verdict_number (Verdict.SubWord i) = 32 + i
 verdict_number (Verdict.NestedWord l) = 64 + l
-verdict_number (Verdict.Refused k) = k
 
 abbrev pub verdict_values : Verdict → List ℕ
 verdict_values Verdict.Member = []
 verdict_values Verdict.Blank = []
 verdict_values (Verdict.SubWord i) = i ∷ []
 verdict_values (Verdict.NestedWord l) = l ∷ []
-verdict_values (Verdict.Refused k) = []
 
-abbrev pub nesting_number : Nesting → ℕ
-nesting_number (Nesting.Coefficient c) = 0
-nesting_number (Nesting.Refused k) = k
+abbrev pub judgement_number : Judgement → ℕ
+judgement_number (Ok v) = verdict_number v
+judgement_number (Err e) = refusal_number e
 
-abbrev pub nesting_values : Nesting → List ℕ
-nesting_values (Nesting.Coefficient c) = c ∷ []
-nesting_values (Nesting.Refused k) = []
+abbrev pub judgement_values : Judgement → List ℕ
+judgement_values (Ok v) = verdict_values v
+judgement_values (Err e) = []
+
+abbrev pub nesting_values : Result ℕ Refusal → List ℕ
+nesting_values (Ok c) = c ∷ []
+nesting_values (Err e) = []
 
 -- ---- by the refusal's number, 0 for none
 abbrev pub outcome : ℕ → Outcome
-outcome zero = Outcome.Done
-outcome (suc k) = Outcome.Refused (suc k)
-
-abbrev pub unless_refused : ℕ → Verdict → Verdict
-unless_refused zero v = v
-unless_refused (suc k) v = Verdict.Refused (suc k)
+outcome k = unless_refused k tt
 
 abbrev pub leaves : ℕ → List ℕ → List ℕ → List ℕ
 leaves zero result old = result
@@ -75,7 +68,7 @@ leaves (suc k) result old = old
 -- a call's answer, with a lent buffer before and after it
 pub record Made (refusal : ℕ) (result old after : List ℕ) (answer : Outcome) : Type 0 where
   pub answers : answer ≡ outcome refusal
-  pub number : outcome_number answer ≡ refusal
+  pub number : answer_number answer ≡ refusal
   pub values : outcome_values answer ≡ []
   pub small : refusal ≤ last_refusal
   pub buffer : after ≡ leaves refusal result old
@@ -136,7 +129,7 @@ unfoldable pub page_values : Parameters → List ℕ → List ℕ
 unfolding blank failing_values words_of
 page_values p page = cond (blank p page) [] (failing_values p (words_of p page))
 
-unfoldable pub judge_answer : Parameters → List ℕ → Verdict
+unfoldable pub judge_answer : Parameters → List ℕ → Judgement
 unfolding judge_refusal page_verdict
 judge_answer p page = unless_refused (judge_refusal p page) (page_verdict p page)
 
@@ -148,13 +141,13 @@ unfoldable pub judge_values : Parameters → List ℕ → List ℕ
 unfolding judge_refusal page_values
 judge_values p page = values_by (judge_refusal p page) (page_values p page)
 
-pub record Judged (p : Parameters) (page : List ℕ) (r : Verdict) : Type 0 where
+pub record Judged (p : Parameters) (page : List ℕ) (r : Judgement) : Type 0 where
   pub answers : r ≡ judge_answer p page
-  pub number : verdict_number r ≡ judge_number p page
-  pub values : verdict_values r ≡ judge_values p page
+  pub number : judgement_number r ≡ judge_number p page
+  pub values : judgement_values r ≡ judge_values p page
   pub small : judge_refusal p page ≤ last_refusal
 
-unfoldable pub read_answer : Parameters → List ℕ → List ℕ → Verdict
+unfoldable pub read_answer : Parameters → List ℕ → List ℕ → Judgement
 unfolding read_refusal page_verdict
 read_answer p page blocks = unless_refused (read_refusal p page (length blocks)) (page_verdict p page)
 
@@ -170,10 +163,10 @@ unfoldable pub read_leaves : Parameters → List ℕ → List ℕ → List ℕ
 unfolding read_refusal data_of
 read_leaves p page blocks = leaves (read_refusal p page (length blocks)) (data_of p page) blocks
 
-pub record ReadOut (p : Parameters) (page blocks after : List ℕ) (r : Verdict) : Type 0 where
+pub record ReadOut (p : Parameters) (page blocks after : List ℕ) (r : Judgement) : Type 0 where
   pub answers : r ≡ read_answer p page blocks
-  pub number : verdict_number r ≡ read_number p page blocks
-  pub values : verdict_values r ≡ read_values p page blocks
+  pub number : judgement_number r ≡ read_number p page blocks
+  pub values : judgement_values r ≡ read_values p page blocks
   pub small : read_refusal p page (length blocks) ≤ last_refusal
   pub buffer : after ≡ read_leaves p page blocks
 
@@ -313,8 +306,8 @@ advanced p L r u = record {
 }
 
 abbrev pub fed_by : ℕ → Register → Register → Fed
-fed_by zero next old = record { outcome = Outcome.Done; register = next }
-fed_by (suc k) next old = record { outcome = Outcome.Refused (suc k); register = old }
+fed_by zero next old = record { outcome = outcome 0; register = next }
+fed_by (suc k) next old = record { outcome = outcome (suc k); register = old }
 
 -- a refused opening hands back the empty register of level 0, a refused feeding the register as it came
 unfoldable pub opened : Parameters → ℕ → Fed
@@ -364,16 +357,12 @@ pub record SizeC (p : Parameters) (size answer : ℕ) : Type 0 where
   pub refused : (answer ≡ 0) ↔ (sheet_refusal p ≢ 0)
 
 -- ---- the nesting coefficient's call
-abbrev pub nesting_by : ℕ → ℕ → Nesting
-nesting_by zero c = Nesting.Coefficient c
-nesting_by (suc k) c = Nesting.Refused (suc k)
-
-unfoldable pub nesting : ℕ → ℕ → Nesting
+unfoldable pub nesting : ℕ → ℕ → Result ℕ Refusal
 unfolding N
-nesting i l = nesting_by (nesting_refusal i l) (N i l)
+nesting i l = unless_refused (nesting_refusal i l) (N i l)
 
-pub record NestingMade (i l : ℕ) (r : Nesting) : Type 0 where
+pub record NestingMade (i l : ℕ) (r : Result ℕ Refusal) : Type 0 where
   pub answers : r ≡ nesting i l
-  pub number : nesting_number r ≡ nesting_refusal i l
+  pub number : answer_number r ≡ nesting_refusal i l
   pub values : nesting_values r ≡ values_by (nesting_refusal i l) (N i l ∷ [])
   pub small : nesting_refusal i l ≤ last_refusal

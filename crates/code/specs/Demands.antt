@@ -33,7 +33,7 @@
 --   MendC p              one sub-word mended, in C: the list is bytes
 --   OddC p               all syndromes from the odd ones, in C
 --   PageC p              a page mended through its nested words, in C
-use Rattle.std.specs.Prelude.{◌≡◌, ◌≢◌, ◌↔◌, ◌⊎◌, ◌&&◌, ◌||◌, cond, List, [], ◌++◌, map, ℕ, suc, ◌+◌, ◌-◌, ◌*◌, ◌/◌, ◌%◌, ◌^◌, ◌≤◌, ◌<◌, eqb, ltb, length, get_or, replicate, drop}
+use Rattle.std.specs.Prelude.{◌≡◌, ◌≢◌, ◌↔◌, ◌⊎◌, ◌&&◌, ◌||◌, cond, List, [], ◌++◌, map, ℕ, suc, ◌+◌, ◌-◌, ◌*◌, ◌/◌, ◌%◌, ◌^◌, ◌≤◌, ◌<◌, eqb, ltb, length, get_or, replicate, drop, Ok, Err}
 use Rattle.std.proofs.Math.Option.{none, some}
 use Rattle.polynomial.specs.Bits.{coefficient}
 use Rattle.polynomial.specs.Clmul.{clmul}
@@ -47,8 +47,10 @@ use Rattle.field.specs.Fields.{field_polynomial}
 use Rattle.field.specs.Flips as F
 use Rattle.field.specs.Irreducible.{NoFactor}
 use Rattle.code.specs.declared.Parameters.{Parameters}
-use Rattle.code.specs.declared.Outcome.{Outcome}
+use Rattle.code.specs.Answers.{Outcome}
+use Rattle.code.specs.declared.Refusal.{Refusal}
 use Rattle.code.specs.declared.Verdict.{Verdict}
+use Rattle.code.specs.Answers.{Judgement}
 use Rattle.code.specs.Calls.{Altered, AlteredC, Judged, JudgedC, Mended, MendedC, PageMended, PageMendedC, QuoteMade, QuoteMadeC, ReadOut, ReadOutC, Written, WrittenC, WrittenMany, WrittenManyC, as_bytes}
 use Rattle.code.specs.Calls.{AllMade, AllMadeC, NestedSyndromesMade, NestedSyndromesMadeC, SyndromesMade, SyndromesMadeC}
 use Rattle.code.specs.Calls.{empty, generators, nested_of, nested_syndrome_list, nested_word_bytes, number_at}
@@ -116,7 +118,7 @@ pub record SyndromeLaws (p : Parameters) (c j : ℕ) : Type 0 where
 
 -- a polynomial c fed from the empty register, highest power first, in parts of the widths Ls
 pub record RegisterLaws (p : Parameters) (a c : ℕ) (Ls : List ℕ) : Type 0 where
-  pub opens : opened p a ≡ record { outcome = Outcome.Done; register = empty a }
+  pub opens : opened p a ≡ record { outcome = Ok tt; register = empty a }
   pub done : AllDone p (empty a) (cut c Ls)
   pub level : (feedings p (empty a) (cut c Ls)).level ≡ a
   pub count : (feedings p (empty a) (cut c Ls)).count ≡ sum Ls
@@ -138,11 +140,11 @@ pub record BufferLaws (p : Parameters) (x : List ℕ) : Type 0 where
 -- all syndromes from the odd ones: of every word, and of what the calls give
 pub record OddLaws (p : Parameters) : Type 0 where
   pub whole : (c t : ℕ) → all_syndromes p (odd_syndromes p t c) ≡ syndromes p (2 * t) c
-  pub sub_word : (x list odd old after : List ℕ) (i : ℕ) (o : Outcome) → SyndromesMade p x i list odd Outcome.Done → length old ≡ 2 * strength p 0
-      → AllMade p 0 odd old after o → (o ≡ Outcome.Done) × (after ≡ syndromes p (2 * strength p 0) (sub_word_of p x i))
-  pub nested-word : (x list odd old after : List ℕ) (l : ℕ) (o : Outcome) → NestedSyndromesMade p x l list odd Outcome.Done
+  pub sub_word : (x list odd old after : List ℕ) (i : ℕ) (o : Outcome) → SyndromesMade p x i list odd (Ok tt) → length old ≡ 2 * strength p 0
+      → AllMade p 0 odd old after o → (o ≡ Ok tt) × (after ≡ syndromes p (2 * strength p 0) (sub_word_of p x i))
+  pub nested-word : (x list odd old after : List ℕ) (l : ℕ) (o : Outcome) → NestedSyndromesMade p x l list odd (Ok tt)
       → length old ≡ 2 * strength p (p.v - l) → AllMade p (p.v - l) odd old after o
-      → (o ≡ Outcome.Done) × (after ≡ syndromes p (2 * strength p (p.v - l)) (nested_of p x l))
+      → (o ≡ Ok tt) × (after ≡ syndromes p (2 * strength p (p.v - l)) (nested_of p x l))
 
 -- ---- demand 2: placement, membership, written pages
 pub record PlacementLaws (p : Parameters) : Type 0 where
@@ -214,33 +216,33 @@ pub record QuotedPage (p : Parameters) (number : ℕ → ℕ) (blocks page : Lis
 
 -- read out's answer r and the blocks that it gives of bytes x of a page's length: blank exactly when every coefficient is 1, whatever the
 -- spare bits; the blocks of a blank page are given too: every data bit is 1, and no unused bit
-pub record BlankReadLaws (p : Parameters) (x out : List ℕ) (r : Verdict) : Type 0 where
-  pub answers : (r ≡ Verdict.Blank) ↔ IsBlank p x
+pub record BlankReadLaws (p : Parameters) (x out : List ℕ) (r : Judgement) : Type 0 where
+  pub answers : (r ≡ Ok Verdict.Blank) ↔ IsBlank p x
   pub fits : IsBlank p x → Fits p out
   pub ones : IsBlank p x → (i k : ℕ) → i < p.m → k < stored p - degree p (p.v - i) → block_bit p out i k ≡ 1
 
 -- judge's answer r for a page x other than blank: member exactly when the words are; a failing word is named exactly when it is the lowest, sub-words first
-pub record JudgeLaws (p : Parameters) (x : List ℕ) (r : Verdict) : Type 0 where
-  pub member : (r ≡ Verdict.Member) ↔ IsMember p (words_of p x)
-  pub sub_word : (i : ℕ) → (r ≡ Verdict.SubWord i)
+pub record JudgeLaws (p : Parameters) (x : List ℕ) (r : Judgement) : Type 0 where
+  pub member : (r ≡ Ok Verdict.Member) ↔ IsMember p (words_of p x)
+  pub sub_word : (i : ℕ) → (r ≡ Ok (Verdict.SubWord i))
       ↔ ((i < p.m) × (¬ Multiple (gen p 0) (sub_word_of p x i)) × ((k : ℕ) → k < i → Multiple (gen p 0) (sub_word_of p x k)))
-  pub nested-word : (l : ℕ) → (r ≡ Verdict.NestedWord l)
+  pub nested-word : (l : ℕ) → (r ≡ Ok (Verdict.NestedWord l))
       ↔ ((l < p.v) × ((i : ℕ) → i < p.m → Multiple (gen p 0) (sub_word_of p x i))
       × (¬ Multiple (gen p (p.v - l)) (nested_of p x l))
       × ((k : ℕ) → k < l → Multiple (gen p (p.v - k)) (nested_of p x k)))
 
 -- write's answer r and page for blocks that fit, whose page is not blank: a member, whose blocks read back as given
 pub record WriteLaws (p : Parameters) (blocks after : List ℕ) (r : Outcome) : Type 0 where
-  pub done : r ≡ Outcome.Done
+  pub done : r ≡ Ok tt
   pub page : IsPage p after
   pub member : IsMember p (words_of p after)
-  pub judged : (j : Verdict) → Judged p after j → j ≡ Verdict.Member
-  pub read : (old out : List ℕ) (j : Verdict) → BlocksBuffer p old → ReadOut p after old out j → (j ≡ Verdict.Member) × (out ≡ blocks)
+  pub judged : (j : Judgement) → Judged p after j → j ≡ Ok Verdict.Member
+  pub read : (old out : List ℕ) (j : Judgement) → BlocksBuffer p old → ReadOut p after old out j → (j ≡ Ok Verdict.Member) × (out ≡ blocks)
 
 -- write's answer r for blocks that fit: 13 exactly when their page would be blank, and then the lent page is as it was;
 -- that is so exactly when s is 0 and every data bit is 1
 pub record BlankWriteLaws (p : Parameters) (blocks old after : List ℕ) (r : Outcome) : Type 0 where
-  pub refused : (r ≡ Outcome.Refused 13) ↔ IsBlank p (page_of p blocks)
+  pub refused : (r ≡ Err Refusal.Blank) ↔ IsBlank p (page_of p blocks)
   pub kept : IsBlank p (page_of p blocks) → after ≡ old
   pub ones : IsBlank p (page_of p blocks)
       ↔ ((p.s ≡ 0) × ((i k : ℕ) → i < p.m → k < stored p - degree p (p.v - i) → block_bit p blocks i k ≡ 1))
@@ -272,45 +274,45 @@ pub record Demand2 (p : Parameters) : Type 0 where
       → ((i r : ℕ) → i < p.m → stored p - degree p (p.v - i) ≤ r → r < len p - degree p (p.v - i) → block_bit (unshortened p) f i r ≡ 0)
       → (b : List ℕ) × Fits p b × (lengthened p b ≡ f)
   -- bytes of a page's length are judged blank exactly when every coefficient is 1, whatever the spare bits
-  pub blank-laws : (x : List ℕ) (r : Verdict) → Bytes x → PageBuffer p x → Judged p x r → (r ≡ Verdict.Blank) ↔ IsBlank p x
-  pub blank-read-laws : (x old out : List ℕ) (r : Verdict) → Bytes x → PageBuffer p x → BlocksBuffer p old → ReadOut p x old out r
+  pub blank-laws : (x : List ℕ) (r : Judgement) → Bytes x → PageBuffer p x → Judged p x r → (r ≡ Ok Verdict.Blank) ↔ IsBlank p x
+  pub blank-read-laws : (x old out : List ℕ) (r : Judgement) → Bytes x → PageBuffer p x → BlocksBuffer p old → ReadOut p x old out r
       → BlankReadLaws p x out r
   -- at s > 0 the words of a blank page are no member's, and whatever bytes are lent, write gives 13 at s = 0 only
   pub blank-no-member : (x : List ℕ) → Bytes x → IsBlank p x → 0 < p.s → ¬ IsMember p (stored_of p x)
-  pub blank-whole : (L : ℕ) (blocks old after : List ℕ) → Bytes blocks → Written p L blocks old after (Outcome.Refused 13) → p.s ≡ 0
+  pub blank-whole : (L : ℕ) (blocks old after : List ℕ) → Bytes blocks → Written p L blocks old after (Err Refusal.Blank) → p.s ≡ 0
   pub blank-write-laws : (L : ℕ) (blocks old after : List ℕ) (r : Outcome) → Width L → Fits p blocks → PageBuffer p old
       → Written p L blocks old after r → BlankWriteLaws p blocks old after r
-  pub judge-laws : (x : List ℕ) (r : Verdict) → IsPage p x → (¬ IsBlank p x) → Judged p x r → JudgeLaws p x r
+  pub judge-laws : (x : List ℕ) (r : Judgement) → IsPage p x → (¬ IsBlank p x) → Judged p x r → JudgeLaws p x r
   pub write-laws : (L : ℕ) (blocks old after : List ℕ) (r : Outcome) → Width L → Fits p blocks → PageBuffer p old
       → (¬ IsBlank p (page_of p blocks)) → Written p L blocks old after r → WriteLaws p blocks after r
   -- the quote is done in a list of 12 numbers, and every page that write makes of blocks that fit has the bits quoted
   pub quote-laws : (list after : List ℕ) (k : Outcome) → length list ≡ 12 → QuoteMade p list after k
-      → (k ≡ Outcome.Done) × (length after ≡ 12) × QuoteLaws p (λ j. get_or after j 0)
+      → (k ≡ Ok tt) × (length after ≡ 12) × QuoteLaws p (λ j. get_or after j 0)
   pub quoted-pages : (number : ℕ → ℕ) (L : ℕ) (blocks old after : List ℕ) (r : Outcome) → QuoteLaws p number → Width L → Fits p blocks
       → PageBuffer p old → (¬ IsBlank p (page_of p blocks)) → Written p L blocks old after r → QuotedPage p number blocks after
   -- read out's answer is judge's, on every page that is lent with a buffer of the blocks' exact length
-  pub read-laws : (x old out : List ℕ) (j r : Verdict) → BlocksBuffer p old → Judged p x j → ReadOut p x old out r → r ≡ j
+  pub read-laws : (x old out : List ℕ) (j r : Judgement) → BlocksBuffer p old → Judged p x j → ReadOut p x old out r → r ≡ j
   pub equal-form-laws : EqualFormLaws p
 
 -- ---- demand 3
 -- the same answer and, when that is done, the same page
 pub record Alike (after after' : List ℕ) (r r' : Outcome) : Type 0 where
   pub answers : r ≡ r'
-  pub pages : r ≡ Outcome.Done → after ≡ after'
+  pub pages : r ≡ Ok tt → after ≡ after'
 
 -- the page of the sum is the sum of the pages, where none of the three is blank
 pub record Sums (p : Parameters) (a b page-a page-b page-sum : List ℕ) (r-a r-b r-sum : Outcome) : Type 0 where
   pub fits : Fits p (add a b)
-  pub done-a : r-a ≡ Outcome.Done
-  pub done-b : r-b ≡ Outcome.Done
-  pub done : r-sum ≡ Outcome.Done
+  pub done-a : r-a ≡ Ok tt
+  pub done-b : r-b ≡ Ok tt
+  pub done : r-sum ≡ Ok tt
   pub page : page-sum ≡ add page-a page-b
 
 -- a page x, blank or not, judged j, read out with the answer r, and its blocks, which fit, written again with the answer w
-pub record Rewrites (p : Parameters) (x blocks after : List ℕ) (j r : Verdict) (w : Outcome) : Type 0 where
+pub record Rewrites (p : Parameters) (x blocks after : List ℕ) (j r : Judgement) (w : Outcome) : Type 0 where
   pub fits : Fits p blocks
-  pub by-judge : (j ≡ Verdict.Member) ↔ ((w ≡ Outcome.Done) × (after ≡ x))
-  pub by-read-out : (r ≡ Verdict.Member) ↔ ((w ≡ Outcome.Done) × (after ≡ x))
+  pub by-judge : (j ≡ Ok Verdict.Member) ↔ ((w ≡ Ok tt) × (after ≡ x))
+  pub by-read-out : (r ≡ Ok Verdict.Member) ↔ ((w ≡ Ok tt) × (after ≡ x))
 
 -- the distance is the smallest of (v + 1)(2 t_0 + 1) and b (2 t_(v-b+1) + 1), b from 1 to v
 abbrev pub Smallest : Parameters → Type 0
@@ -326,10 +328,10 @@ pub record Demand3 (p : Parameters) : Type 0 where
       → (¬ IsBlank p (page_of p a)) → (¬ IsBlank p (page_of p b)) → (¬ IsBlank p (page_of p (add a b)))
       → Written p K a old-a page-a r-a → Written p L b old-b page-b r-b → Written p M (add a b) old-sum page-sum r-sum
       → Sums p a b page-a page-b page-sum r-a r-b r-sum
-  pub rewrites : (L : ℕ) (x old-blocks blocks old-page after : List ℕ) (j r : Verdict) (w : Outcome) → Width L → IsPage p x
+  pub rewrites : (L : ℕ) (x old-blocks blocks old-page after : List ℕ) (j r : Judgement) (w : Outcome) → Width L → IsPage p x
       → BlocksBuffer p old-blocks → PageBuffer p old-page
       → Judged p x j → ReadOut p x old-blocks blocks r → Written p L blocks old-page after w → Rewrites p x blocks after j r w
-  pub apart : (x y : List ℕ) → Bytes x → Bytes y → Judged p x Verdict.Member → Judged p y Verdict.Member → x ≢ y
+  pub apart : (x y : List ℕ) → Bytes x → Bytes y → Judged p x (Ok Verdict.Member) → Judged p y (Ok Verdict.Member) → x ≢ y
       → distance p ≤ differences p x y
   pub smallest : Smallest p
 
@@ -345,28 +347,28 @@ Burst p x y i a = (j k : ℕ) → j < p.m → k < stored p → coefficient_of p 
 
 -- members x and y that differ in sub-word i alone, within w_v + 1 neighbouring places
 pub record LongerBurst (p : Parameters) (i a : ℕ) (x y : List ℕ) : Type 0 where
-  pub member-x : (r : Verdict) → Judged p x r → r ≡ Verdict.Member
-  pub member-y : (r : Verdict) → Judged p y r → r ≡ Verdict.Member
+  pub member-x : (r : Judgement) → Judged p x r → r ≡ Ok Verdict.Member
+  pub member-y : (r : Judgement) → Judged p y r → r ≡ Ok Verdict.Member
   pub other : x ≢ y
   pub places : (j k : ℕ) → j < p.m → k < stored p → coefficient_of p x j k ≢ coefficient_of p y j k
       → (j ≡ i) × (a ≤ k) × (k < a + (degree p p.v + 1))
 
 pub record BurstLaws (p : Parameters) : Type 0 where
   -- a member x and other bytes y, of any length, that differ from it in one burst: whatever judge says of y, it is not member
-  pub never : (x y : List ℕ) (i a : ℕ) (r : Verdict) → Bytes x → Bytes y → i < p.m → a < stored p
-      → Judged p x Verdict.Member → Burst p x y i a → x ≢ y → Judged p y r → r ≢ Verdict.Member
+  pub never : (x y : List ℕ) (i a : ℕ) (r : Judgement) → Bytes x → Bytes y → i < p.m → a < stored p
+      → Judged p x (Ok Verdict.Member) → Burst p x y i a → x ≢ y → Judged p y r → r ≢ Ok Verdict.Member
   -- of a page other than blank, that sub-word is named or, if it passes, nested word 0
-  pub named : (x y : List ℕ) (i a : ℕ) (r : Verdict) → Bytes x → IsPage p y → (¬ IsBlank p y) → i < p.m → a < stored p
-      → Judged p x Verdict.Member → Burst p x y i a → x ≢ y → Judged p y r → (r ≡ Verdict.SubWord i) ⊎ (r ≡ Verdict.NestedWord 0)
+  pub named : (x y : List ℕ) (i a : ℕ) (r : Judgement) → Bytes x → IsPage p y → (¬ IsBlank p y) → i < p.m → a < stored p
+      → Judged p x (Ok Verdict.Member) → Burst p x y i a → x ≢ y → Judged p y r → (r ≡ Ok (Verdict.SubWord i)) ⊎ (r ≡ Ok (Verdict.NestedWord 0))
   -- in bytes: whatever is done to l neighbouring bytes of a sub-word, 8 l up to w_v; and 8 is, so one byte always may be
-  pub bytes : (x y : List ℕ) (i o l : ℕ) (r : Verdict) → Bytes x → Bytes y → i < p.m → 1 ≤ l → o + l ≤ sub_word_bytes p
+  pub bytes : (x y : List ℕ) (i o l : ℕ) (r : Judgement) → Bytes x → Bytes y → i < p.m → 1 ≤ l → o + l ≤ sub_word_bytes p
       → 8 * l ≤ degree p p.v
       → ((k : ℕ) → (k < i * sub_word_bytes p + o) ⊎ (i * sub_word_bytes p + o + l ≤ k) → get_or x k 0 ≡ get_or y k 0)
-      → Judged p x Verdict.Member → x ≢ y → Judged p y r → r ≢ Verdict.Member
+      → Judged p x (Ok Verdict.Member) → x ≢ y → Judged p y r → r ≢ Ok Verdict.Member
   pub one_byte : 8 ≤ degree p p.v
   -- a spare bit that is 1 makes bytes of a page's length 8, unless every coefficient is 1: then they are blank
-  pub stray : (y : List ℕ) (j k : ℕ) (r : Verdict) → Bytes y → PageBuffer p y → (¬ IsBlank p y) → j < p.m → stored p ≤ k
-      → k < 8 * sub_word_bytes p → coefficient_of p y j k ≡ 1 → Judged p y r → r ≡ Verdict.Refused 8
+  pub stray : (y : List ℕ) (j k : ℕ) (r : Judgement) → Bytes y → PageBuffer p y → (¬ IsBlank p y) → j < p.m → stored p ≤ k
+      → k < 8 * sub_word_bytes p → coefficient_of p y j k ≡ 1 → Judged p y r → r ≡ Err Refusal.Stray
   -- and w_v is the most: one place more, and two members differ, in whatever sub-word and from whatever place on
   pub longer : (i a : ℕ) → i < p.m → a + degree p p.v < stored p → (x : List ℕ) × (y : List ℕ) × LongerBurst p i a x y
 
@@ -374,25 +376,25 @@ pub record BurstLaws (p : Parameters) : Type 0 where
 -- the same answer and, when that is done, the same list, and the same pages where the list has 0
 pub record AlikeMany (p : Parameters) (after after' listed listed' : List ℕ) (r r' : Outcome) : Type 0 where
   pub answers : r ≡ r'
-  pub lists : r ≡ Outcome.Done → listed ≡ listed'
-  pub pages : r ≡ Outcome.Done → (k : ℕ) → k < length listed → get_or listed k 0 ≡ 0
+  pub lists : r ≡ Ok tt → listed ≡ listed'
+  pub pages : r ≡ Ok tt → (k : ℕ) → k < length listed → get_or listed k 0 ≡ 0
       → part (page_bytes p) k after ≡ part (page_bytes p) k after'
 
 pub record ManyLaws (p : Parameters) : Type 0 where
   -- done exactly when a width, 1 to 16 pages and exact lengths are lent, whatever bytes
   pub done : (L count : ℕ) (blocks pages after list listed : List ℕ) (r : Outcome) → WrittenMany p L count blocks pages after list listed r
-      → (r ≡ Outcome.Done) ↔ Lent p L count (length blocks) (length pages) (length list)
+      → (r ≡ Ok tt) ↔ Lent p L count (length blocks) (length pages) (length list)
   -- a refusal of the call alters no byte
-  pub kept : (L count n : ℕ) (blocks pages after list listed : List ℕ)
-      → WrittenMany p L count blocks pages after list listed (Outcome.Refused n) → (after ≡ pages) × (listed ≡ list)
+  pub kept : (L count : ℕ) (e : Refusal) (blocks pages after list listed : List ℕ)
+      → WrittenMany p L count blocks pages after list listed (Err e) → (after ≡ pages) × (listed ≡ list)
   -- done, page k and the k-th byte listed are what write gives of the k-th blocks; and the pages are all that there is
-  pub each : (L count : ℕ) (blocks pages after list listed : List ℕ) → WrittenMany p L count blocks pages after list listed Outcome.Done
+  pub each : (L count : ℕ) (blocks pages after list listed : List ℕ) → WrittenMany p L count blocks pages after list listed (Ok tt)
       → (k : ℕ) → k < count
       → Written p L (part (data_bytes p) k blocks) (part (page_bytes p) k pages) (part (page_bytes p) k after) (outcome (get_or listed k 0))
-  pub whole : (L count : ℕ) (blocks pages after list listed : List ℕ) → WrittenMany p L count blocks pages after list listed Outcome.Done
+  pub whole : (L count : ℕ) (blocks pages after list listed : List ℕ) → WrittenMany p L count blocks pages after list listed (Ok tt)
       → (after ≡ runs (λ k. part (page_bytes p) k after) 0 count) × (length after ≡ length pages) × (length listed ≡ count)
   -- a listed byte is 0, 8 or 13
-  pub says : (L count : ℕ) (blocks pages after list listed : List ℕ) → WrittenMany p L count blocks pages after list listed Outcome.Done
+  pub says : (L count : ℕ) (blocks pages after list listed : List ℕ) → WrittenMany p L count blocks pages after list listed (Ok tt)
       → (k : ℕ) → k < count → (get_or listed k 0 ≡ 0) ⊎ ((get_or listed k 0 ≡ 8) ⊎ (get_or listed k 0 ≡ 13))
   -- demand 3: alike at every two widths, whatever bytes are lent
   pub alike : (L M count : ℕ) (blocks pages pages' after after' list list' listed listed' : List ℕ) (r r' : Outcome) → Width L → Width M
@@ -416,34 +418,34 @@ pub record SetTo (p : Parameters) (c : List ℕ) (i r b : ℕ) (old : ℕ → �
 -- member; of a shortened sheet it is always done
 pub record AlteredMember (p : Parameters) (after page : List ℕ) (o w : Outcome) : Type 0 where
   pub answers : o ≡ w
-  pub pages : o ≡ Outcome.Done → after ≡ page
-  pub judged : o ≡ Outcome.Done → (v : Verdict) → Judged p after v → v ≡ Verdict.Member
-  pub shortened : 0 < p.s → o ≡ Outcome.Done
+  pub pages : o ≡ Ok tt → after ≡ page
+  pub judged : o ≡ Ok tt → (v : Judgement) → Judged p after v → v ≡ Ok Verdict.Member
+  pub shortened : 0 < p.s → o ≡ Ok tt
 
 pub record AlterLaws (p : Parameters) : Type 0 where
   -- done exactly when a page with clear spare bits is lent and a bit and its value are named, unless the page would be blank: then 13,
   -- whether or not the value is another
   pub done : (x after : List ℕ) (i r b : ℕ) (o : Outcome) → Bytes x → Altered p x i r b after o
-      → (o ≡ Outcome.Done) ↔ (IsPage p x × NamesBit p i r b × (¬ IsBlank p (altered p x i r b)))
+      → (o ≡ Ok tt) ↔ (IsPage p x × NamesBit p i r b × (¬ IsBlank p (altered p x i r b)))
   pub blank : (x after : List ℕ) (i r b : ℕ) (o : Outcome) → Bytes x → Altered p x i r b after o
-      → (o ≡ Outcome.Refused 13) ↔ (IsPage p x × NamesBit p i r b × IsBlank p (altered p x i r b))
+      → (o ≡ Err Refusal.Blank) ↔ (IsPage p x × NamesBit p i r b × IsBlank p (altered p x i r b))
   -- a refusal alters no byte, and an equal value none
-  pub kept : (x after : List ℕ) (i r b n : ℕ) → Altered p x i r b after (Outcome.Refused n) → after ≡ x
+  pub kept : (x after : List ℕ) (i r b : ℕ) (e : Refusal) → Altered p x i r b after (Err e) → after ≡ x
   pub same : (x after : List ℕ) (i r b : ℕ) (o : Outcome) → coefficient_of p x i (degree p (p.v - i) + r) ≡ b → Altered p x i r b after o
       → after ≡ x
   -- another value adds the page that write makes of blocks that are 0 but for this bit, whatever page is lent
-  pub added : (L : ℕ) (x after c old unit : List ℕ) (i r b : ℕ) (w : Outcome) → Bytes x → Altered p x i r b after Outcome.Done
+  pub added : (L : ℕ) (x after c old unit : List ℕ) (i r b : ℕ) (w : Outcome) → Bytes x → Altered p x i r b after (Ok tt)
       → coefficient_of p x i (degree p (p.v - i) + r) ≢ b → SetTo p c i r 1 (λ j k. 0) → Width L → PageBuffer p old → Written p L c old unit w
-      → (w ≡ Outcome.Done) × (after ≡ add x unit)
+      → (w ≡ Ok tt) × (after ≡ add x unit)
   -- afterwards the bit is b, and every other data bit is as it was
-  pub made : (x after : List ℕ) (i r b : ℕ) → Bytes x → Altered p x i r b after Outcome.Done
+  pub made : (x after : List ℕ) (i r b : ℕ) → Bytes x → Altered p x i r b after (Ok tt)
       → coefficient_of p after i (degree p (p.v - i) + r) ≡ b
-  pub others : (x after : List ℕ) (i r b j k : ℕ) → Bytes x → Altered p x i r b after Outcome.Done → j < p.m
+  pub others : (x after : List ℕ) (i r b j k : ℕ) → Bytes x → Altered p x i r b after (Ok tt) → j < p.m
       → k < stored p - degree p (p.v - j) → (j ≢ i) ⊎ (k ≢ r)
       → coefficient_of p after j (degree p (p.v - j) + k) ≡ coefficient_of p x j (degree p (p.v - j) + k)
   -- a member, read out, its blocks altered in this bit and written again: the very same
-  pub member : (L : ℕ) (x after old-blocks a c old page : List ℕ) (i r b : ℕ) (v : Verdict) (o w : Outcome) → Width L → Bytes x
-      → Judged p x Verdict.Member → NamesBit p i r b → BlocksBuffer p old-blocks → PageBuffer p old → Altered p x i r b after o
+  pub member : (L : ℕ) (x after old-blocks a c old page : List ℕ) (i r b : ℕ) (v : Judgement) (o w : Outcome) → Width L → Bytes x
+      → Judged p x (Ok Verdict.Member) → NamesBit p i r b → BlocksBuffer p old-blocks → PageBuffer p old → Altered p x i r b after o
       → ReadOut p x old-blocks a v → SetTo p c i r b (block_bit p a) → Written p L c old page w → AlteredMember p after page o w
   -- and there are such blocks
   pub settable : (a : List ℕ) (i r b : ℕ) → Fits p a → NamesBit p i r b → (c : List ℕ) × SetTo p c i r b (block_bit p a)
@@ -451,9 +453,9 @@ pub record AlterLaws (p : Parameters) : Type 0 where
   pub elsewhere : (x after : List ℕ) (i r b j : ℕ) (o : Outcome) → Bytes x → Altered p x i r b after o → j < p.m → j ≢ i
       → (i < j) ⊎ (p.v ≤ j) → part (sub_word_bytes p) j after ≡ part (sub_word_bytes p) j x
   -- at least the distance is changed, and at most one more than the check bits of the sub-words concerned
-  pub least : (x after : List ℕ) (i r b : ℕ) → Bytes x → Altered p x i r b after Outcome.Done
+  pub least : (x after : List ℕ) (i r b : ℕ) → Bytes x → Altered p x i r b after (Ok tt)
       → coefficient_of p x i (degree p (p.v - i) + r) ≢ b → distance p ≤ differences p x after
-  pub most : (x after : List ℕ) (i r b : ℕ) → Bytes x → Altered p x i r b after Outcome.Done
+  pub most : (x after : List ℕ) (i r b : ℕ) → Bytes x → Altered p x i r b after (Ok tt)
       → differences p x after ≤ add_below p.m (λ j. cond (eqb j i || (ltb j i && ltb j p.v)) (degree p (p.v - j)) 0) + 1
 
 -- ---- one sub-word mended
@@ -481,16 +483,16 @@ pub record MendLaws (p : Parameters) : Type 0 where
   pub one_list : (a y : ℕ) (R Q : List ℕ) → a ≤ p.v → y < 2 ^ stored p → Flips p a y R → Flips p a y Q → R ≡ Q
   -- done exactly when what is to be lent is, and there is such a multiple of g_0; 15 exactly when it is and there is none
   pub done : (x after : List ℕ) (i : ℕ) (l listed : List ℕ) (n counted : ℕ) (o : Outcome) → Bytes x → Mended p x after i l listed n counted o
-      → (o ≡ Outcome.Done) ↔ (MendLent 1 p x i (length l) × ((c : ℕ) × Near p 0 (sub_word_of p x i) c))
+      → (o ≡ Ok tt) ↔ (MendLent 1 p x i (length l) × ((c : ℕ) × Near p 0 (sub_word_of p x i) c))
   pub nowhere : (x after : List ℕ) (i : ℕ) (l listed : List ℕ) (n counted : ℕ) (o : Outcome) → Bytes x → Mended p x after i l listed n counted o
-      → (o ≡ Outcome.Refused 15) ↔ (MendLent 1 p x i (length l) × ((c : ℕ) → ¬ Near p 0 (sub_word_of p x i) c))
+      → (o ≡ Err Refusal.Unmended) ↔ (MendLent 1 p x i (length l) × ((c : ℕ) → ¬ Near p 0 (sub_word_of p x i) c))
   -- a refusal changes nothing: page, list, number
-  pub kept : (x after : List ℕ) (i : ℕ) (l listed : List ℕ) (n counted k : ℕ) → Mended p x after i l listed n counted (Outcome.Refused k)
+  pub kept : (x after : List ℕ) (i : ℕ) (l listed : List ℕ) (n counted : ℕ) (e : Refusal) → Mended p x after i l listed n counted (Err e)
       → (after ≡ x) × (listed ≡ l) × (counted ≡ n)
   -- done, sub-word i is that multiple; it came by the flips that are listed, and as many bits differ
-  pub mended : (x after : List ℕ) (i : ℕ) (l listed : List ℕ) (n counted : ℕ) → Bytes x → Mended p x after i l listed n counted Outcome.Done
+  pub mended : (x after : List ℕ) (i : ℕ) (l listed : List ℕ) (n counted : ℕ) → Bytes x → Mended p x after i l listed n counted (Ok tt)
       → IsPage p after × Near p 0 (sub_word_of p x i) (sub_word_of p after i)
-  pub places : (x after : List ℕ) (i : ℕ) (l listed : List ℕ) (n counted : ℕ) → Bytes x → Mended p x after i l listed n counted Outcome.Done
+  pub places : (x after : List ℕ) (i : ℕ) (l listed : List ℕ) (n counted : ℕ) → Bytes x → Mended p x after i l listed n counted (Ok tt)
       → (R : List ℕ) × Mends p x after i listed counted R
   -- whatever is answered, every byte of the other sub-words stays
   pub elsewhere : (x after : List ℕ) (i : ℕ) (l listed : List ℕ) (n counted : ℕ) (o : Outcome) (j : ℕ) → Bytes x
@@ -498,11 +500,11 @@ pub record MendLaws (p : Parameters) : Type 0 where
   -- a fault-free sub-word has no flips
   pub clean : (x after : List ℕ) (i : ℕ) (l listed : List ℕ) (n counted : ℕ) (o : Outcome) → Bytes x → Mended p x after i l listed n counted o
       → MendLent 1 p x i (length l) → Multiple (gen p 0) (sub_word_of p x i)
-      → (o ≡ Outcome.Done) × (after ≡ x) × (listed ≡ replicate (strength p 0) 65535) × (counted ≡ 0)
+      → (o ≡ Ok tt) × (after ≡ x) × (listed ≡ replicate (strength p 0) 65535) × (counted ≡ 0)
   -- a member with at most t_0 stored bits of one sub-word flipped comes back
-  pub back : (z x after : List ℕ) (i : ℕ) (l listed : List ℕ) (n counted : ℕ) (o : Outcome) → Bytes z → Bytes x → Judged p z Verdict.Member
+  pub back : (z x after : List ℕ) (i : ℕ) (l listed : List ℕ) (n counted : ℕ) (o : Outcome) → Bytes z → Bytes x → Judged p z (Ok Verdict.Member)
       → Damaged p z x i → MendLent 1 p x i (length l) → Mended p x after i l listed n counted o
-      → (o ≡ Outcome.Done) × (after ≡ z) × (counted ≡ differences p x z)
+      → (o ≡ Ok tt) × (after ≡ z) × (counted ≡ differences p x z)
 
 -- ---- a page mended through its nested words
 -- the page in work after the first pass and k rounds: b_k, and its bytes
@@ -532,7 +534,7 @@ pub record RoundLaws (p : Parameters) (W W' : Work) : Type 0 where
   pub sums : (j l : ℕ) → 0 < j → j ≤ 2 * strength p p.v → l < length W.broken
       → syndrome p.q (nested p l W.words) j ≡ add_over (λ i. times p.q (error_sums p W i j) (power p.q (j * i * l))) W.broken
   -- so of a page that came from a member by errors in broken sub-words, at most v, they are those of the errors, to S_(2 t_a)
-  pub errors : (z : List ℕ) → Bytes z → Judged p z Verdict.Member → ((i : ℕ) → i < p.m → ¬ Mem i W.broken → get_or W.words i 0 ≡ sub_word_of p z i)
+  pub errors : (z : List ℕ) → Bytes z → Judged p z (Ok Verdict.Member) → ((i : ℕ) → i < p.m → ¬ Mem i W.broken → get_or W.words i 0 ≡ sub_word_of p z i)
       → length W.broken ≤ p.v → (i j : ℕ) → Mem i W.broken → 0 < j → j ≤ 2 * strength p (p.v - length W.broken + 1)
       → error_sums p W i j ≡ syndrome p.q (xor (get_or W.words i 0) (sub_word_of p z i)) j
 
@@ -581,35 +583,35 @@ pub record PageLaws (p : Parameters) : Type 0 where
   pub each-round : (x : List ℕ) (k : ℕ) → IsPage p x → RoundLaws p (after p (words_of p x) k) (after p (words_of p x) (suc k))
   -- done exactly when a page with clear spare bits is lent and a member comes of it; 17 exactly when it is and none does
   pub done : (x after : List ℕ) (o : Outcome) → Bytes x → PageMended p x after o
-      → (o ≡ Outcome.Done) ↔ (IsPage p x × ((cs : List ℕ) × (mend_page p (words_of p x) ≡ some cs)))
+      → (o ≡ Ok tt) ↔ (IsPage p x × ((cs : List ℕ) × (mend_page p (words_of p x) ≡ some cs)))
   pub nowhere : (x after : List ℕ) (o : Outcome) → Bytes x → PageMended p x after o
-      → (o ≡ Outcome.Refused 17) ↔ (IsPage p x × (mend_page p (words_of p x) ≡ none))
+      → (o ≡ Err Refusal.UnmendedPage) ↔ (IsPage p x × (mend_page p (words_of p x) ≡ none))
   -- done, literally: such a page is lent, at most v sub-words are broken, and after some rounds none, and a member is there:
   -- that is the page afterwards
   pub succeeds : (x after : List ℕ) (o : Outcome) → Bytes x → PageMended p x after o
-      → (o ≡ Outcome.Done) ↔ (IsPage p x × Succeeds p x (λ y. Judged p y Verdict.Member))
-  pub page : (x after : List ℕ) (k : ℕ) → Bytes x → PageMended p x after Outcome.Done → left p x k ≡ 0 → after ≡ page_after p x k
+      → (o ≡ Ok tt) ↔ (IsPage p x × Succeeds p x (λ y. Judged p y (Ok Verdict.Member)))
+  pub page : (x after : List ℕ) (k : ℕ) → Bytes x → PageMended p x after (Ok tt) → left p x k ≡ 0 → after ≡ page_after p x k
   -- 17, literally: such a page is lent and more than v are broken, a round leaves as many, or the end page is no member
   pub fails : (x after : List ℕ) (o : Outcome) → Bytes x → PageMended p x after o
-      → (o ≡ Outcome.Refused 17) ↔ (IsPage p x × Fails p x (λ y. Judged p y Verdict.Member))
+      → (o ≡ Err Refusal.UnmendedPage) ↔ (IsPage p x × Fails p x (λ y. Judged p y (Ok Verdict.Member)))
   -- a refusal changes no byte
-  pub kept : (x after : List ℕ) (k : ℕ) → PageMended p x after (Outcome.Refused k) → after ≡ x
+  pub kept : (x after : List ℕ) (e : Refusal) → PageMended p x after (Err e) → after ≡ x
   -- whatever page with clear spare bits: a member, judge says so, or 17 and the old bytes
   pub otherwise : (x after : List ℕ) (o : Outcome) → IsPage p x → PageMended p x after o
-      → ((o ≡ Outcome.Done) × IsPage p after × ((r : Verdict) → Judged p after r → r ≡ Verdict.Member)) ⊎ ((o ≡ Outcome.Refused 17) × (after ≡ x))
+      → ((o ≡ Ok tt) × IsPage p after × ((r : Judgement) → Judged p after r → r ≡ Ok Verdict.Member)) ⊎ ((o ≡ Err Refusal.UnmendedPage) × (after ≡ x))
   -- a member stays as it is
-  pub clean : (x after : List ℕ) (o : Outcome) → Bytes x → Judged p x Verdict.Member → PageMended p x after o → (o ≡ Outcome.Done) × (after ≡ x)
+  pub clean : (x after : List ℕ) (o : Outcome) → Bytes x → Judged p x (Ok Verdict.Member) → PageMended p x after o → (o ≡ Ok tt) × (after ≡ x)
   -- the member comes back
-  pub back : (z x after : List ℕ) (o : Outcome) → Bytes z → IsPage p x → Judged p z Verdict.Member → Recoverable p z x → PageMended p x after o
-      → (o ≡ Outcome.Done) × (after ≡ z)
+  pub back : (z x after : List ℕ) (o : Outcome) → Bytes z → IsPage p x → Judged p z (Ok Verdict.Member) → Recoverable p z x → PageMended p x after o
+      → (o ≡ Ok tt) × (after ≡ z)
   -- always, where no sub-word has more than t_0 flips
-  pub always : (z x after : List ℕ) (o : Outcome) → Bytes z → IsPage p x → Judged p z Verdict.Member
-      → ((i : ℕ) → i < p.m → flips_in p x z i ≤ strength p 0) → PageMended p x after o → (o ≡ Outcome.Done) × (after ≡ z)
+  pub always : (z x after : List ℕ) (o : Outcome) → Bytes z → IsPage p x → Judged p z (Ok Verdict.Member)
+      → ((i : ℕ) → i < p.m → flips_in p x z i ≤ strength p 0) → PageMended p x after o → (o ≡ Ok tt) × (after ≡ z)
   -- within reach, in as many rounds as it takes, and in one
-  pub reached : (z x after : List ℕ) (o : Outcome) → Bytes z → IsPage p x → Judged p z Verdict.Member → Reached p z x → PageMended p x after o
-      → (o ≡ Outcome.Done) × (after ≡ z)
-  pub one-round : (z x after : List ℕ) (o : Outcome) → Bytes z → IsPage p x → Judged p z Verdict.Member → OneRound p z x → PageMended p x after o
-      → (o ≡ Outcome.Done) × (after ≡ z)
+  pub reached : (z x after : List ℕ) (o : Outcome) → Bytes z → IsPage p x → Judged p z (Ok Verdict.Member) → Reached p z x → PageMended p x after o
+      → (o ≡ Ok tt) × (after ≡ z)
+  pub one-round : (z x after : List ℕ) (o : Outcome) → Bytes z → IsPage p x → Judged p z (Ok Verdict.Member) → OneRound p z x → PageMended p x after o
+      → (o ≡ Ok tt) × (after ≡ z)
   -- at most v rounds: any number more gives the same
   pub enough : (d : ℕ) (x : List ℕ) → rounds p (p.v + d) (start p (words_of p x)) ≡ mend_page p (words_of p x)
 

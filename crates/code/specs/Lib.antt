@@ -18,4 +18,5 @@ pub mod Registers
 pub mod Many
 pub mod Demands
 pub mod Alter
+pub mod Answers
 pub mod Rounds

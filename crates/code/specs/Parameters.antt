@@ -10,11 +10,12 @@
 --   sheet_refusal p    the refusal of the parameters, 1 to 4 or 14; 0: they are accepted
 --   Accepted p        the parameters meet every rule
 --   tested p          what testing them answers; sheet_values p the values of the answer; Tests p r is the test's promise
-use Rattle.std.specs.Prelude.{◌≡◌, Bool, not, ◌&&◌, ◌||◌, cond, List, [], ◌∷◌, ℕ, zero, suc, ◌+◌, ◌-◌, ◌*◌, ◌/◌, ◌%◌, ◌^◌, ◌≤◌, eqb, leb, ltb, get_or}
+use Rattle.std.specs.Prelude.{◌≡◌, Bool, not, ◌&&◌, ◌||◌, cond, Result, Ok, Err, List, [], ◌∷◌, ℕ, ◌+◌, ◌-◌, ◌*◌, ◌/◌, ◌%◌, ◌^◌, ◌≤◌, eqb, leb, ltb, get_or}
 use Rattle.field.specs.Fields.{field_of}
 use Rattle.generator.specs.Generator.{width}
 use Rattle.code.specs.declared.Parameters.{Parameters}
-use Rattle.code.specs.declared.Tested.{Tested}
+use Rattle.code.specs.declared.Refusal.{Refusal}
+use Rattle.code.specs.Answers.{answer_number, unless_refused}
 use Rattle.code.specs.Lists.{range, any, ◌when◌, ◌or_else◌, values_by, last_refusal}
 
 abbrev pub sheet : ℕ → ℕ → ℕ → ℕ → ℕ → ℕ → ℕ → ℕ → Parameters
@@ -88,30 +89,22 @@ abbrev pub Accepted : Parameters → Type 0
 Accepted p = sheet_refusal p ≡ 0
 
 -- ---- the answer of testing parameters, and its number and values
-abbrev pub tested_of : Parameters → ℕ → Tested
-tested_of p zero = Tested.Accepted p.q p.m p.v p.t0 p.t1 p.t2 p.t3 p.s
-tested_of p (suc k) = Tested.Refused (suc k)
-
-unfoldable pub tested : Parameters → Tested
+unfoldable pub tested : Parameters → Result Parameters Refusal
 unfolding sheet_refusal
-tested p = tested_of p (sheet_refusal p)
+tested p = unless_refused (sheet_refusal p) p
 
-abbrev pub tested_number : Tested → ℕ
-tested_number (Tested.Accepted q m v t0 t1 t2 t3 s) = 0
-tested_number (Tested.Refused k) = k
+abbrev pub tested_values : Result Parameters Refusal → List ℕ
+tested_values (Ok p) = p.q ∷ p.m ∷ p.v ∷ p.t0 ∷ p.t1 ∷ p.t2 ∷ p.t3 ∷ p.s ∷ []
+tested_values (Err e) = []
 
-abbrev pub tested_values : Tested → List ℕ
-tested_values (Tested.Accepted q m v t0 t1 t2 t3 s) = q ∷ m ∷ v ∷ t0 ∷ t1 ∷ t2 ∷ t3 ∷ s ∷ []
-tested_values (Tested.Refused k) = []
-
--- apart from the enum: the eight numbers, where they are accepted
+-- apart from the answer: the eight numbers, where they are accepted
 unfoldable pub sheet_values : Parameters → List ℕ
 unfolding sheet_refusal
 sheet_values p = values_by (sheet_refusal p) (p.q ∷ p.m ∷ p.v ∷ p.t0 ∷ p.t1 ∷ p.t2 ∷ p.t3 ∷ p.s ∷ [])
 
 -- what the test promises
-pub record Tests (p : Parameters) (r : Tested) : Type 0 where
+pub record Tests (p : Parameters) (r : Result Parameters Refusal) : Type 0 where
   pub answers : r ≡ tested p
-  pub number : tested_number r ≡ sheet_refusal p
+  pub number : answer_number r ≡ sheet_refusal p
   pub values : tested_values r ≡ sheet_values p
   pub small : sheet_refusal p ≤ last_refusal

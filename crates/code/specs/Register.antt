@@ -2,7 +2,7 @@
 --   Register    the value that each feeding takes and hands back
 --   Fed         what opening and feeding hand back: the outcome beside the register
 use Rattle.std.specs.Prelude.{List, ℕ}
-use Rattle.code.specs.declared.Outcome.{Outcome}
+use Rattle.code.specs.Answers.{Outcome}
 
 pub record Register : Type 0 where
   pub level : ℕ
