@@ -43,6 +43,9 @@ refusal-pos Refusal.Unmended = lit< tt
 refusal-pos Refusal.Reserved = lit< tt
 refusal-pos Refusal.UnmendedPage = lit< tt
 
+pub refusal-ne : (e : Refusal) → refusal_number e ≡ 0 → ⊥
+refusal-ne e z = Nat.lt_irrefl 0 (rw z at (refusal-pos e))
+
 -- the refusal of a refusal's number is that refusal
 pub err-is : {A : Type 0} (x : A) (e : Refusal) → unless_refused (refusal_number e) x ≡ Err e
 err-is x Refusal.Field = refl

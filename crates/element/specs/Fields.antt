@@ -2,18 +2,19 @@
 --   known q           q is 4, 8 or 12
 --   field_at q         the table's entry: field polynomial, size 2^q and order 2^q - 1
 --   field_refusal q    the requirement's refusal of q: 1 where no field has it, else 0
---   made q            what making the field of q answers; made_number and made_values are the number and the values of an answer
+--   error_number e     the requirement's number of an error; answer_number r: of an answer, 0 where there is none
+--   made q            what making the field of q answers; made_values are the values of an answer
 --   MadeOf q r        what making promises of its answer r
 --   is_field f         the numbers of f are those of a field of the table
 --   Sized f           so they are, as facts
-use Rattle.std.specs.Prelude.{◌≡◌, refl, Bool, true, false, ◌&&◌, ◌||◌, cond, List, [], ◌∷◌, ℕ, zero, suc, ◌-◌, ◌^◌, ◌≤◌, eqb}
+use Rattle.std.specs.Prelude.{◌≡◌, refl, Bool, true, false, ◌&&◌, ◌||◌, cond, Result, Ok, Err, List, [], ◌∷◌, ℕ, ◌-◌, ◌^◌, ◌≤◌, eqb}
 use Rattle.std.proofs.Common.{sym, ◌∙◌, inl, inr, lit≤, pow_mono, ne_eqb, eqb-true}
 use Rattle.std.proofs.Math.Path.{ap}
 use Rattle.std.proofs.lemmas.Bool.{false≢true}
 use Rattle.std.proofs.Math.Nat as Nat
 use Rattle.field.specs.Fields.{Known, field_polynomial, by-known}
 use Rattle.element.specs.declared.Field.{Field}
-use Rattle.element.specs.declared.Made.{Made}
+use Rattle.element.specs.declared.FieldError.{FieldError}
 
 abbrev pub known : ℕ → Bool
 known q = eqb q 4 || eqb q 8 || eqb q 12
@@ -24,29 +25,33 @@ field_at q = record { q = q; polynomial = field_polynomial q; size = 2 ^ q; orde
 abbrev pub field_refusal : ℕ → ℕ
 field_refusal q = cond (known q) 0 1
 
-abbrev pub made_by : ℕ → Field → Made
-made_by zero f = Made.Field f
-made_by (suc k) f = Made.Refused (suc k)
+abbrev pub error_number : FieldError → ℕ
+error_number FieldError.NoField = 1
+error_number FieldError.NoElement = 8
 
-unfoldable pub made : ℕ → Made
+abbrev pub answer_number : {A : Type 0} → Result A FieldError → ℕ
+answer_number (Ok x) = 0
+answer_number (Err e) = error_number e
+
+abbrev pub made_by : Bool → Field → Result Field FieldError
+made_by true f = Ok f
+made_by false f = Err FieldError.NoField
+
+unfoldable pub made : ℕ → Result Field FieldError
 unfolding field_polynomial
-made q = made_by (field_refusal q) (field_at q)
+made q = made_by (known q) (field_at q)
 
-abbrev pub made_number : Made → ℕ
-made_number (Made.Field f) = 0
-made_number (Made.Refused k) = k
+abbrev pub made_values : Result Field FieldError → List ℕ
+made_values (Ok f) = f.q ∷ f.polynomial ∷ f.size ∷ f.order ∷ []
+made_values (Err e) = []
 
-abbrev pub made_values : Made → List ℕ
-made_values (Made.Field f) = f.q ∷ f.polynomial ∷ f.size ∷ f.order ∷ []
-made_values (Made.Refused k) = []
-
-pub record MadeOf (q : ℕ) (r : Made) : Type 0 where
+pub record MadeOf (q : ℕ) (r : Result Field FieldError) : Type 0 where
   pub answers : r ≡ made q
-  pub number : made_number r ≡ field_refusal q
+  pub number : answer_number r ≡ field_refusal q
   pub values : made_values r ≡ cond (known q) (q ∷ field_polynomial q ∷ (2 ^ q) ∷ (2 ^ q - 1) ∷ []) []
 
 -- ---- by the tests of q
-pub made_by_lem : (q k : ℕ) (b : Bool) → q ≡ k → known k ≡ b → MadeOf q (made_by (cond b 0 1) (field_at k))
+pub made_by_lem : (q k : ℕ) (b : Bool) → q ≡ k → known k ≡ b → MadeOf q (made_by b (field_at k))
 unfolding made
 made_by_lem q k true e t = rw e (record { answers = rw t refl; number = rw t refl; values = rw t refl })
 made_by_lem q k false e t = rw e (record { answers = rw t refl; number = rw t refl; values = rw t refl })
@@ -59,23 +64,23 @@ pub known-last : (q : ℕ) → Known q → (q ≡ 4 → ⊥) → (q ≡ 8 → �
 known-last = by-known (λ q. (q ≡ 4 → ⊥) → (q ≡ 8 → ⊥) → q ≡ 12) (λ a b. absurd (a refl)) (λ a b. absurd (b refl)) (λ a b. refl)
 
 -- ---- from the answer
-module _ (q : ℕ) (r : Made) (h : MadeOf q r) where
-  answer : (b : Bool) → known q ≡ b → r ≡ made_by (cond b 0 1) (field_at q)
+module _ (q : ℕ) (r : Result Field FieldError) (h : MadeOf q r) where
+  answer : (b : Bool) → known q ≡ b → r ≡ made_by b (field_at q)
   unfolding made
-  answer b t = h.answers ∙ ap (λ (b : Bool). made_by (cond b 0 1) (field_at q)) t
+  answer b t = h.answers ∙ ap (λ (b : Bool). made_by b (field_at q)) t
 
-  pub made-known : (f : Field) → r ≡ Made.Field f → known q ≡ true
+  pub made-known : (f : Field) → r ≡ Ok f → known q ≡ true
   made-known f w = go (known q) refl
     where
       go : (b : Bool) → known q ≡ b → b ≡ true
       go true t = refl
       go false t = let a = answer false t in let z : ◌≡◌ {A = ℕ} 0 1 = cc in absurd (Nat.suc-ne-zero 0 (sym z))
 
-  pub made-field : (f : Field) → r ≡ Made.Field f → f ≡ field_at q
+  pub made-field : (f : Field) → r ≡ Ok f → f ≡ field_at q
   made-field f w = let a = answer true (made-known f w) in cc
 
-  pub made_none : (k : ℕ) → r ≡ Made.Refused k → known q ≡ false
-  made_none k w = go (known q) refl
+  pub made_none : (e : FieldError) → r ≡ Err e → known q ≡ false
+  made_none e w = go (known q) refl
     where
       go : (b : Bool) → known q ≡ b → b ≡ false
       go true t = let a = answer true t in let z : ◌≡◌ {A = ℕ} 0 1 = cc in absurd (Nat.suc-ne-zero 0 (sym z))

@@ -2,15 +2,16 @@
 --   zero_of q, one_of q, alpha_of q    zero, one and α of the field of q, as numbers
 --   refusal f a b                   the refusal on the operands a and b: 1 where f is no field, 8 where one has a bit at or above q, else 0
 --   computed r x                    the answer by the refusal r: the element x where there is none
---   computed_number, computed_values    the requirement's number of an answer, and its values
+--   computed_values                 the values of an answer
 --   Gives refusal x r               what the calls promise of their answer r
-use Rattle.std.specs.Prelude.{◌≡◌, refl, Bool, true, false, ◌&&◌, cond, List, [], ◌∷◌, ℕ, zero, suc, ◌^◌, ◌<◌, ltb}
+use Rattle.std.specs.Prelude.{◌≡◌, refl, Bool, true, false, ◌&&◌, cond, Result, Ok, Err, List, [], ◌∷◌, ℕ, zero, suc, ◌^◌, ◌<◌, ltb}
 use Rattle.std.proofs.Common.{sym, ◌∙◌, ltb-true, lt-ltb}
 use Rattle.std.proofs.Math.Nat as Nat
 use Rattle.field.specs.Fields.{field_of}
-use Rattle.element.specs.declared.Computed.{Computed}
+use Rattle.element.specs.declared.Element.{Element}
 use Rattle.element.specs.declared.Field.{Field}
-use Rattle.element.specs.Fields.{Sized, is_field, field-sized, size-least}
+use Rattle.element.specs.declared.FieldError.{FieldError}
+use Rattle.element.specs.Fields.{Sized, answer_number, error_number, is_field, field-sized, size-least}
 
 -- ---- the field's zero, one and α
 abbrev pub zero_of : ℕ → ℕ
@@ -58,30 +59,27 @@ refusal-small f a b ha hb = go (is_field f) refl
     go false e = refusal-by f a b false (ltb a (2 ^ f.q)) (ltb b (2 ^ f.q)) e refl refl
 
 -- ---- answers
-abbrev pub computed : ℕ → ℕ → Computed
-computed zero x = Computed.Element (record { 0 = x })
-computed (suc k) x = Computed.Refused (suc k)
+abbrev pub computed : ℕ → ℕ → Result Element FieldError
+computed zero x = Ok (record { 0 = x })
+computed (suc zero) x = Err FieldError.NoField
+computed (suc (suc k)) x = Err FieldError.NoElement
 
-abbrev pub computed_number : Computed → ℕ
-computed_number (Computed.Element e) = 0
-computed_number (Computed.Refused k) = k
-
-abbrev pub computed_values : Computed → List ℕ
-computed_values (Computed.Element e) = e.0 ∷ []
-computed_values (Computed.Refused k) = []
+abbrev pub computed_values : Result Element FieldError → List ℕ
+computed_values (Ok e) = e.0 ∷ []
+computed_values (Err e) = []
 
 abbrev pub values_by : ℕ → ℕ → List ℕ
 values_by zero x = x ∷ []
 values_by (suc k) x = []
 
-pub record Gives (refusal x : ℕ) (r : Computed) : Type 0 where
+pub record Gives (refusal x : ℕ) (r : Result Element FieldError) : Type 0 where
   pub answers : r ≡ computed refusal x
-  pub number : computed_number r ≡ refusal
+  pub number : answer_number r ≡ refusal
   pub values : computed_values r ≡ values_by refusal x
 
-pub gives-refused : (r x k : ℕ) → k ≡ r → (k ≡ 0 → ⊥) → Gives r x (Computed.Refused k)
-gives-refused r x zero e h = absurd (h refl)
-gives-refused r x (suc k) e h = rw (← e) (record { answers = refl; number = refl; values = refl })
+pub gives-refused : (r x : ℕ) (e : FieldError) → error_number e ≡ r → Gives r x (Err e)
+gives-refused r x FieldError.NoField h = rw (← h) (record { answers = refl; number = refl; values = refl })
+gives-refused r x FieldError.NoElement h = rw (← h) (record { answers = refl; number = refl; values = refl })
 
-pub gives-element : (r x y : ℕ) → r ≡ 0 → y ≡ x → Gives r x (Computed.Element (record { 0 = y }))
+pub gives-element : (r x y : ℕ) → r ≡ 0 → y ≡ x → Gives r x (Ok (record { 0 = y }))
 gives-element r x y e w = rw (e, w) (record { answers = refl; number = refl; values = refl })

@@ -6,14 +6,14 @@ ghost use Rattle.field.specs.Elements.{times, power};
 ghost use Rattle.field.specs.Fields.{Known};
 ghost use Rattle.polynomial.specs.Xor.{xor};
 ghost use Rattle.element.specs.Exponents.{raise};
-ghost use Rattle.element.specs.Fields.{MadeOf, Sized, field_at, is_field};
+ghost use Rattle.element.specs.Fields.{MadeOf, Sized, answer_number, error_number, field_at, is_field};
 ghost use Rattle.element.specs.Lent.{RootIn, LogIn, Tables};
 ghost use Rattle.element.specs.Operations.{zero_of, one_of, alpha_of, refusal, Gives};
 
 use tables::{logs4, logs8, logs12, powers4, powers8, powers12};
 
 // An element of a field: a number below 2^q, whose bit k is the coefficient of x^k.
-#[derive(Clone, Copy)]
+#[derive(Clone, Copy, Debug, PartialEq, Eq)]
 pub struct Element(pub u16);
 
 impl Element {
@@ -25,7 +25,7 @@ impl Element {
 }
 
 // A field GF(2^q): its field polynomial (bit k is the coefficient of x^k), its size 2^q, and the order 2^q - 1 of alpha.
-#[derive(Clone, Copy)]
+#[derive(Clone, Copy, Debug, PartialEq, Eq)]
 pub struct Field {
     pub q: u32,
     pub polynomial: u32,
@@ -55,17 +55,19 @@ pub const FIELDS: [Field; 3] = [
     },
 ];
 
-#[derive(Clone, Copy)]
-pub enum Made {
-    Field(Field),
-    Refused(u8),
+// Why there is no field or no element, by the requirement's numbers.
+#[derive(Clone, Copy, Debug, PartialEq, Eq)]
+pub enum FieldError {
+    NoField = 1, // q is not 4, 8 or 12, or the numbers are not its field's
+    NoElement = 8, // an operand has a bit at q or above
 }
 
-// The answer of an operation: an element, or the number of the refusal.
-#[derive(Clone, Copy)]
-pub enum Computed {
-    Element(Element),
-    Refused(u8),
+impl FieldError {
+    pub fn number(self) -> u8
+        ensures { result ≡ error_number self }
+    {
+        self as u8
+    }
 }
 
 // On lent tables: those of the field, with any entries after them, of which nothing is read.
@@ -181,22 +183,22 @@ fn raise_in(f: Field, a: u32, k: u32) -> u32
 
 impl Field {
     // The field of q, for any number.
-    pub fn make(q: u32) -> Made
+    pub fn make(q: u32) -> Result<Field, FieldError>
         ensures { MadeOf q result }
     {
         let a = FIELDS[0];
         if q == a.q {
-            return Made::Field(a);
+            return Ok(a);
         }
         let b = FIELDS[1];
         if q == b.q {
-            return Made::Field(b);
+            return Ok(b);
         }
         let c = FIELDS[2];
         if q == c.q {
-            return Made::Field(c);
+            return Ok(c);
         }
-        Made::Refused(1)
+        Err(FieldError::NoField)
     }
 
     // The field of a q that has one.
@@ -219,16 +221,10 @@ impl Field {
     pub fn known(self) -> bool
         ensures { result ≡ is_field self }
     {
-        let Made::Field(e) = Field::make(self.q) else {
+        let Ok(e) = Field::make(self.q) else {
             return false;
         };
-        if self.polynomial != e.polynomial {
-            return false;
-        }
-        if self.size != e.size {
-            return false;
-        }
-        self.order == e.order
+        self == e
     }
 
     pub fn zero(self) -> Element
@@ -249,56 +245,48 @@ impl Field {
         Element::ALPHA
     }
 
-    // The refusal of an operation on a and b; 0 for none.
-    fn refused(self, a: Element, b: Element) -> u8
-        ensures { result ≡ refusal self a.0 b.0 }
+    // Are these a field and two of its elements?
+    fn test(self, a: Element, b: Element) -> Result<(), FieldError>
+        ensures { answer_number result ≡ refusal self a.0 b.0 }
     {
-        if self.known() {
-            if (a.0 as u32) < self.size {
-                if (b.0 as u32) < self.size {
-                    return 0;
-                }
-            }
-            return 8;
+        if !self.known() {
+            return Err(FieldError::NoField);
         }
-        1
+        if self.size <= a.0 as u32 {
+            return Err(FieldError::NoElement);
+        }
+        if self.size <= b.0 as u32 {
+            return Err(FieldError::NoElement);
+        }
+        Ok(())
     }
 
-    pub fn sum(self, a: Element, b: Element) -> Computed
+    pub fn sum(self, a: Element, b: Element) -> Result<Element, FieldError>
         ensures { Gives (refusal self a.0 b.0) (xor a.0 b.0) result }
     {
-        let k = self.refused(a, b);
-        if k != 0 {
-            return Computed::Refused(k);
-        }
-        Computed::Element(Element(a.0 ^ b.0))
+        self.test(a, b)?;
+        Ok(Element(a.0 ^ b.0))
     }
 
-    pub fn product(self, a: Element, b: Element) -> Computed
+    pub fn product(self, a: Element, b: Element) -> Result<Element, FieldError>
         ensures { Gives (refusal self a.0 b.0) (times self.q a.0 b.0) result }
     {
-        let k = self.refused(a, b);
-        if k != 0 {
-            return Computed::Refused(k);
-        }
+        self.test(a, b)?;
         let r = times_in(self, a.0 as u32, b.0 as u32);
-        Computed::Element(Element(r as u16))
+        Ok(Element(r as u16))
     }
 
     // a^k
-    pub fn power(self, a: Element, k: u32) -> Computed
+    pub fn power(self, a: Element, k: u32) -> Result<Element, FieldError>
         ensures { Gives (refusal self a.0 0) (raise self.q a.0 k) result }
     {
-        let s = self.refused(a, Element::ZERO);
-        if s != 0 {
-            return Computed::Refused(s);
-        }
+        self.test(a, Element::ZERO)?;
         let r = raise_in(self, a.0 as u32, k);
-        Computed::Element(Element(r as u16))
+        Ok(Element(r as u16))
     }
 
     // alpha^k
-    pub fn alpha_power(self, k: u32) -> Computed
+    pub fn alpha_power(self, k: u32) -> Result<Element, FieldError>
         ensures { Gives (refusal self 0 0) (power self.q k) result }
     {
         self.power(Element::ALPHA, k)

@@ -1,5 +1,5 @@
 -- The rows of a sheet's generators, level by level.
-use Rattle.std.specs.Prelude.{◌≡◌, refl, List, [], ◌∷◌, map, ℕ, zero, suc, ◌≤◌, ◌<◌, length, get_or, replicate}
+use Rattle.std.specs.Prelude.{Result, Ok, Err, ◌≡◌, refl, List, [], ◌∷◌, map, ℕ, zero, suc, ◌≤◌, ◌<◌, length, get_or, replicate}
 use Rattle.std.proofs.Common.{sym, ap, ◌∙◌, arith, le-leb}
 use Rattle.std.proofs.Math.Nat as Nat
 use Rattle.std.proofs.lemmas.List.{get_or-replicate}
@@ -10,11 +10,12 @@ use Rattle.generator.specs.Generator.{generator}
 use Rattle.code.proofs.Answers.{tested_eq}
 use Rattle.code.proofs.Buffers.{range-four, rows_eq}
 use Rattle.code.specs.declared.Parameters.{Parameters}
-use Rattle.code.specs.declared.Tested.{Tested}
+use Rattle.code.specs.declared.Refusal.{Refusal}
+use Rattle.code.specs.Answers.{unless_refused}
 use Rattle.code.proofs.Accepted.{accepted}
 use Rattle.code.specs.Calls.{generator_row, generators, rows_by}
 use Rattle.code.specs.Lists.{range}
-use Rattle.code.specs.Parameters.{Accepted, strength, sheet_refusal, tested_of, Tests}
+use Rattle.code.specs.Parameters.{Accepted, strength, sheet_refusal, Tests}
 use Rattle.code.proofs.Steps.{gen-eq}
 use Rattle.element.specs.declared.Field.{Field}
 use Rattle.element.specs.Fields.{field_at}
@@ -39,10 +40,10 @@ module _ (p : Parameters) (A : Accepted p) where
   rows_are r0 r1 r2 r3 e0 e1 e2 e3 = rw (e0, e1, e2, e3) (sym (rows_eq p ∙ rw (A, range-four) refl))
 
 -- ---- any parameters, by what their test answers
-pub rows-refused : (p : Parameters) (k : ℕ) → Tests p (Tested.Refused k) → replicate 4 (replicate 13 0) ≡ generators p
+pub rows-refused : (p : Parameters) (e : Refusal) → Tests p (Err e) → replicate 4 (replicate 13 0) ≡ generators p
 rows-refused p k t = sym (rows_eq p ∙ go (sheet_refusal p) (t.answers ∙ tested_eq p))
   where
-    go : (r : ℕ) → Tested.Refused k ≡ tested_of p r → rows_by r (map (generator_row p) (range 0 4)) ≡ replicate 4 (replicate 13 0)
+    go : (r : ℕ) → ◌≡◌ {A = Result Parameters Refusal} (Err k) (unless_refused r p) → rows_by r (map (generator_row p) (range 0 4)) ≡ replicate 4 (replicate 13 0)
     go zero e = let z : ◌≡◌ {A = ℕ} 0 1 = cc in absurd (omega arith)
     go (suc r) e = refl
 

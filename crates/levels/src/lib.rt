@@ -9,7 +9,7 @@ ghost use Rattle.polynomial.specs.Digits.{value};
 ghost use Rattle.layout.specs.Sizes.{Degrees};
 ghost use Rattle.levels.specs.Ready.{Prepared};
 
-use code::{Parameters, Tested};
+use code::Parameters;
 use element::Field;
 
 // The rows of an accepted sheet's generators, by level; rows past v are 0.
@@ -36,10 +36,10 @@ pub fn rows(p: Parameters) -> [[u64; 13]; 4]
 pub fn generators_of(p: Parameters) -> [[u64; 13]; 4]
     ensures { result ≡ generators p }
 {
-    let Tested::Refused(_) = sheet::test(p) else {
-        return rows(p);
-    };
-    [[0u64; 13]; 4]
+    match sheet::test(p) {
+        Ok(_) => rows(p),
+        Err(_) => [[0u64; 13]; 4],
+    }
 }
 
 // ---- degrees, and tables for remainders

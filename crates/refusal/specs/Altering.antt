@@ -1,14 +1,14 @@
 -- The chain of alter: what its tests show, link by link, and what its end shows.
 --   bit_refusal p x i r b    the chain as far as it looks at what is lent: 13 is of the page afterwards
-use Rattle.std.specs.Prelude.{◌≡◌, refl, true, false, not, List, ℕ, ◌≤◌, ◌<◌, leb, length}
+use Rattle.std.specs.Prelude.{Ok, Err, ◌≡◌, refl, true, false, not, List, ℕ, ◌≤◌, ◌<◌, leb, length}
 use Rattle.std.proofs.Common.{sym, ap, ◌∙◌, le-leb, leb-true, le-ltb, ltb-false}
-use Rattle.std.proofs.Math.Nat as Nat
 use Rattle.std.proofs.lemmas.Bool.{lt-leb, not-true, not-false}
-use Rattle.code.specs.declared.Outcome.{Outcome}
+use Rattle.code.specs.declared.Refusal.{Refusal}
+use Rattle.code.specs.Answers.{refusal_number}
 use Rattle.code.specs.declared.Parameters.{Parameters}
 use Rattle.code.specs.Alter.{Alterable}
 use Rattle.code.proofs.Alter.{alter-le, alter-left, alter-links, bit_is}
-use Rattle.code.proofs.Answers.{made-done, made-refused}
+use Rattle.code.proofs.Answers.{made-done, made-refused, refusal-ne}
 use Rattle.code.specs.Calls.{Altered}
 use Rattle.code.proofs.Chains.{first_of, last, off', on, or_assoc, or-none, or-second}
 use Rattle.code.specs.Layout.{altered, blank, data_bits, page_bytes, page_clear}
@@ -65,15 +65,17 @@ module _ (p : Parameters) (x : List ℕ) (i r b : ℕ) where
       clear-8 : ℕ
       clear-8 = 8 when not (page_clear p x)
 
-  pub alter-refused : (k : ℕ) → k ≡ alter_refusal p x i r b → (k ≡ 0 → ⊥) → Altered p x i r b x (Outcome.Refused k)
-  alter-refused k e h = made-refused (alter_refusal p x i r b) k (altered p x i r b) x (sym e) (Nat.pos_of_ne-zero h) (alter-le p x i r b)
+  pub alter-refused : (e : Refusal) → refusal_number e ≡ alter_refusal p x i r b → Altered p x i r b x (Err e)
+  alter-refused e h = made-refused (alter_refusal p x i r b) e (altered p x i r b) x h (alter-le p x i r b)
 
-  pub bit-refused : (k : ℕ) → k ≡ bit_refusal p x i r b → (k ≡ 0 → ⊥) → Altered p x i r b x (Outcome.Refused k)
-  bit-refused k e h =
-      alter-refused k (first_of k (bit_refusal p x i r b) (13 when blank p (altered p x i r b)) e h ∙ sym alter-eq) h
+  pub bit-refused : (e : Refusal) → refusal_number e ≡ bit_refusal p x i r b → Altered p x i r b x (Err e)
+  bit-refused e h =
+      alter-refused e (first_of (refusal_number e) (bit_refusal p x i r b) (13 when blank p (altered p x i r b)) h (refusal-ne e) ∙ sym alter-eq)
 
-  pub sheet-refused : (k : ℕ) → k ≡ sheet_refusal p → (k ≡ 0 → ⊥) → Altered p x i r b x (Outcome.Refused k)
-  sheet-refused k e h = bit-refused k (bit-page k (page-sheet p x k e h) h) h
+  pub sheet-refused : (e : Refusal) → refusal_number e ≡ sheet_refusal p → Altered p x i r b x (Err e)
+  sheet-refused e h =
+      let n = refusal-ne e in
+      bit-refused e (bit-page (refusal_number e) (page-sheet p x (refusal_number e) h n) n)
 
   -- ---- what the end of the chain shows, and the promises met
   pub alterable : bit_refusal p x i r b ≡ 0 → Alterable p x i r b
@@ -84,11 +86,11 @@ module _ (p : Parameters) (x : List ℕ) (i r b : ℕ) where
       record { exact = c.exact; clear = c.clear; block = n.0; bit = n.1; value = n.2 }
 
   module _ (A : Accepted p) (s : Alterable p x i r b) where
-    pub would-blank : true ≡ blank p (altered p x i r b) → Altered p x i r b x (Outcome.Refused 13)
+    pub would-blank : true ≡ blank p (altered p x i r b) → Altered p x i r b x (Err Refusal.Blank)
     would-blank e =
-        alter-refused 13 (sym (alter-left p x i r b A s ∙ on 13 (blank p (altered p x i r b)) (rw (← e) tt))) (Nat.suc-ne-zero 12)
+        alter-refused Refusal.Blank (sym (alter-left p x i r b A s ∙ on 13 (blank p (altered p x i r b)) (rw (← e) tt)))
 
-    pub alter-done : (after : List ℕ) → false ≡ blank p (altered p x i r b) → after ≡ altered p x i r b → Altered p x i r b after Outcome.Done
+    pub alter-done : (after : List ℕ) → false ≡ blank p (altered p x i r b) → after ≡ altered p x i r b → Altered p x i r b after (Ok tt)
     alter-done after e f =
         made-done (alter_refusal p x i r b) (altered p x i r b) x after
         (alter-left p x i r b A s ∙ off' 13 (blank p (altered p x i r b)) (rw (← e) tt)) f

@@ -1,12 +1,13 @@
 -- The chain of the calls on one word, link by link, what its end shows, and the promises met.
 --   Unrefused p x i many out exact    the page x is one of accepted parameters, i is below `many`, the list of `out` has its exact length
-use Rattle.std.specs.Prelude.{◌≡◌, ◌⊎◌, List, ℕ, ◌^◌, ◌≤◌, ◌<◌, leb, get_or}
+use Rattle.std.specs.Prelude.{Ok, Err, ◌≡◌, ◌⊎◌, List, ℕ, ◌^◌, ◌≤◌, ◌<◌, leb, get_or}
 use Rattle.std.proofs.Math.Path.{refl}
 use Rattle.std.proofs.Common.{sym, ap, ◌∙◌, inl, inr, le-leb, leb-false, eq-eqb, ne_eqb}
 use Rattle.std.proofs.Math.Nat as Nat
 use Rattle.std.proofs.lemmas.Bool.{lt-leb}
 use Rattle.polynomial.specs.Sums.{at_all}
-use Rattle.code.specs.declared.Outcome.{Outcome}
+use Rattle.code.specs.declared.Refusal.{Refusal}
+use Rattle.code.specs.Answers.{refusal_number}
 use Rattle.code.specs.declared.Parameters.{Parameters}
 use Rattle.code.proofs.Answers.{made-done, made-refused}
 use Rattle.code.specs.Calls.{Made}
@@ -69,14 +70,13 @@ module _ (p : Parameters) (x : List ℕ) (i many out exact : ℕ) where
       }
 
   -- ---- the promises
-  pub word-refused : (k : ℕ) (result old : List ℕ) → k ≡ word_refusal p x i many out exact → (k ≡ 0 → ⊥)
-      → Made (word_refusal p x i many out exact) result old old (Outcome.Refused k)
-  word-refused k result old e h =
-      made-refused (word_refusal p x i many out exact) k result old (sym e) (Nat.pos_of_ne-zero h) (word-le p x i many out exact)
+  pub word-refused : (e : Refusal) (result old : List ℕ) → refusal_number e ≡ word_refusal p x i many out exact
+      → Made (word_refusal p x i many out exact) result old old (Err e)
+  word-refused e result old h = made-refused (word_refusal p x i many out exact) e result old h (word-le p x i many out exact)
 
-  pub word-done : (k : ℕ) (result old after : List ℕ) → k ≡ word_refusal p x i many out exact → k ≡ 0 → after ≡ result
-      → Made (word_refusal p x i many out exact) result old after Outcome.Done
-  word-done k result old after e z f = made-done (word_refusal p x i many out exact) result old after (sym e ∙ z) f
+  pub word-done : (result old after : List ℕ) → 0 ≡ word_refusal p x i many out exact → after ≡ result
+      → Made (word_refusal p x i many out exact) result old after (Ok tt)
+  word-done result old after e f = made-done (word_refusal p x i many out exact) result old after (sym e) f
 
 -- only accepted parameters have an exact length
 pub word-alike : (p : Parameters) (x : List ℕ) (i many out exact exact' : ℕ) → (Accepted p → exact ≡ exact')

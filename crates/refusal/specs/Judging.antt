@@ -3,14 +3,11 @@
 use Rattle.std.specs.Prelude.{◌≡◌, Bool, true, false, not, ◌||◌, List, ℕ, T, length}
 use Rattle.std.proofs.Math.Path.{refl}
 use Rattle.std.proofs.Common.{sym, ap, ap₂, ◌∙◌, eq-eqb, ne_eqb}
-use Rattle.std.proofs.Math.Nat as Nat
 use Rattle.code.specs.declared.Parameters.{Parameters}
-use Rattle.code.specs.declared.Tested.{Tested}
-use Rattle.code.proofs.Answers.{sheet-pos}
 use Rattle.code.proofs.Chains.{exact_none, exact-of, first_of, none, or-none, or-second, or-zero}
 use Rattle.code.specs.Layout.{blank, page_bytes, page_clear}
 use Rattle.code.specs.Lists.{◌when◌, ◌or_else◌}
-use Rattle.code.specs.Parameters.{Accepted, Tests, sheet_refusal}
+use Rattle.code.specs.Parameters.{Accepted, sheet_refusal}
 use Rattle.code.specs.Refusals.{judge_lengths, judge_refusal, not_exact, page_refusal, stray}
 use Rattle.code.proofs.Refused.{page-links}
 
@@ -18,10 +15,6 @@ pub record Clear (p : Parameters) (x : List ℕ) : Type 0 where
   pub accepted : Accepted p
   pub exact : length x ≡ page_bytes p
   pub clear : T (page_clear p x)
-
--- a refused sheet has a number above 0
-pub sheet-refused : (p : Parameters) (k : ℕ) → Tests p (Tested.Refused k) → k ≡ 0 → ⊥
-sheet-refused p k t z = Nat.not-suc-le-zero (rw z at (sheet-pos p k t))
 
 -- ---- the calls that read a page, but for judge and read out
 module _ (p : Parameters) (x : List ℕ) where

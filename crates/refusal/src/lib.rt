@@ -1,8 +1,9 @@
-// The refusal of every call: the number of the first condition that it meets, 0 for none. Each function tests in the order of its chain.
+// The refusal of every call: the first condition that it meets. Each function tests in the order of its chain.
 #![tactic(auto)]
 
 ghost use Rattle.std.specs.Prelude.{◌≡◌, not, ◌&&◌, ◌+◌, ◌^◌, ◌≤◌, eqb, leb, ltb, length};
 ghost use Rattle.polynomial.specs.Digits.{value};
+ghost use Rattle.code.specs.Answers.{answer_number};
 ghost use Rattle.code.specs.Layout.{blocks_full, data_bytes};
 ghost use Rattle.code.specs.Parameters.{Accepted, sheet_refusal};
 ghost use Rattle.code.specs.Refusals.{bad_count, bad_width, judge_lengths, many_refusal, no_bit, open_refusal, page_refusal, quote_refusal, read_lengths, word_refusal, write_refusal, all_refusal};
@@ -10,64 +11,58 @@ ghost use Rattle.layout.specs.Sizes.{Degrees};
 ghost use Rattle.refusal.specs.Altering.{bit_refusal};
 ghost use Rattle.refusal.specs.Feeding.{numbers_refusal};
 
-use code::{Parameters, Tested};
+use code::{Outcome, Parameters, Refusal};
 
-// For any numbers: 1 to 4, 14, or 0.
-pub fn sheet_refusal(p: Parameters) -> u8
-    ensures { result ≡ sheet_refusal p }
+// For any numbers: 1 to 4, 14.
+pub fn sheet_refusal(p: Parameters) -> Outcome
+    ensures { answer_number result ≡ sheet_refusal p }
 {
-    let tested = sheet::test(p);
-    let Tested::Refused(k) = tested else {
-        return 0;
-    };
-    k
+    sheet::test(p)?;
+    Ok(())
 }
 
 // ---- calls on pages
 
 // For accepted parameters: 7 for the length, 8 for a spare bit.
-pub fn page_refusal(p: Parameters, page: &[u8]) -> u8
+pub fn page_refusal(p: Parameters, page: &[u8]) -> Outcome
     requires { Accepted p }
-    ensures { result ≡ page_refusal p page.now }
+    ensures { answer_number result ≡ page_refusal p page.now }
 {
     let exact = layout::page_bytes(p);
     if page.len() != exact {
-        return 7;
+        return Err(Refusal::Page);
     }
     if layout::page_clear(p, page) {
-        return 0;
+        return Ok(());
     }
-    8
+    Err(Refusal::Stray)
 }
 
 // Judge and read out look for a blank page between 7 and 8, so their chains stop at the lengths.
 
-// For any numbers, and a page of `page` bytes: 1 to 4, 14, 7, or 0.
-pub fn judge_lengths(p: Parameters, page: usize) -> u8
-    ensures { result ≡ judge_lengths p page }
+// For any numbers, and a page of `page` bytes: 1 to 4, 14, 7.
+pub fn judge_lengths(p: Parameters, page: usize) -> Outcome
+    ensures { answer_number result ≡ judge_lengths p page }
 {
-    let k = sheet_refusal(p);
-    if k != 0 {
-        return k;
-    }
+    sheet_refusal(p)?;
     if page == layout::page_bytes(p) {
-        return 0;
+        return Ok(());
     }
-    7
+    Err(Refusal::Page)
 }
 
-// For accepted parameters, whose degrees are w, a page of `page` bytes and a buffer of `blocks`: 6, 7, or 0.
-pub fn read_lengths(p: Parameters, w: &[u32], page: usize, blocks: usize) -> u8
+// For accepted parameters, whose degrees are w, a page of `page` bytes and a buffer of `blocks`: 6, 7.
+pub fn read_lengths(p: Parameters, w: &[u32], page: usize, blocks: usize) -> Outcome
     requires { Accepted p × Degrees p w.now }
-    ensures { result ≡ read_lengths p page blocks }
+    ensures { answer_number result ≡ read_lengths p page blocks }
 {
     if blocks != layout::data_bytes(p, w) {
-        return 6;
+        return Err(Refusal::Blocks);
     }
     if page != layout::page_bytes(p) {
-        return 7;
+        return Err(Refusal::Page);
     }
-    0
+    Ok(())
 }
 
 // The width is 1 to 64.
@@ -93,26 +88,26 @@ fn page_ones(p: Parameters, w: &[u32], blocks: &[u8]) -> bool
 
 // For accepted parameters, whose degrees are w, and a buffer of `page` bytes: 5, 6, 7, 8 for an unused bit, 13 where the page would be blank,
 // or 0.
-pub fn write_refusal(p: Parameters, w: &[u32], width: u32, blocks: &[u8], page: usize) -> u8
+pub fn write_refusal(p: Parameters, w: &[u32], width: u32, blocks: &[u8], page: usize) -> Outcome
     requires { Accepted p × Degrees p w.now }
-    ensures { result ≡ write_refusal p width blocks.now page }
+    ensures { answer_number result ≡ write_refusal p width blocks.now page }
 {
     if !width_good(width) {
-        return 5;
+        return Err(Refusal::Width);
     }
     if blocks.len() != layout::data_bytes(p, w) {
-        return 6;
+        return Err(Refusal::Blocks);
     }
     if page != layout::page_bytes(p) {
-        return 7;
+        return Err(Refusal::Page);
     }
     if !layout::blocks_clear(p, w, blocks) {
-        return 8;
+        return Err(Refusal::Stray);
     }
     if page_ones(p, w, blocks) {
-        return 13;
+        return Err(Refusal::Blank);
     }
-    0
+    Ok(())
 }
 
 // 1 to 16 pages.
@@ -125,7 +120,7 @@ fn count_good(count: u32) -> bool
     count <= 16
 }
 
-// For accepted parameters, whose degrees are w, `count` pages, and lengths of blocks, pages and list: 5, 9 for the count, 6, 7, 10, or 0.
+// For accepted parameters, whose degrees are w, `count` pages, and lengths of blocks, pages and list: 5, 9 for the count, 6, 7, 10.
 pub fn many_refusal(
     p: Parameters,
     w: &[u32],
@@ -134,27 +129,27 @@ pub fn many_refusal(
     blocks: usize,
     pages: usize,
     list: usize,
-) -> u8
+) -> Outcome
     requires { Accepted p × Degrees p w.now }
-    ensures { result ≡ many_refusal p width count blocks pages list }
+    ensures { answer_number result ≡ many_refusal p width count blocks pages list }
 {
     if !width_good(width) {
-        return 5;
+        return Err(Refusal::Width);
     }
     if !count_good(count) {
-        return 9;
+        return Err(Refusal::Index);
     }
     let c = count as usize;
     if blocks != c * layout::data_bytes(p, w) {
-        return 6;
+        return Err(Refusal::Blocks);
     }
     if pages != c * layout::page_bytes(p) {
-        return 7;
+        return Err(Refusal::Page);
     }
     if list == c {
-        return 0;
+        return Ok(());
     }
-    10
+    Err(Refusal::List)
 }
 
 // ---- alter
@@ -175,24 +170,21 @@ fn names_bit(p: Parameters, w: &[u32], i: u32, r: u32, b: u32) -> bool
 }
 
 // For accepted parameters, whose degrees are w: 7, 8, 9 where no bit is named or b is none, or 0. 13 is left: it is of the page afterwards.
-pub fn bit_refusal(p: Parameters, w: &[u32], page: &[u8], i: u32, r: u32, b: u32) -> u8
+pub fn bit_refusal(p: Parameters, w: &[u32], page: &[u8], i: u32, r: u32, b: u32) -> Outcome
     requires { Accepted p × Degrees p w.now }
-    ensures { result ≡ bit_refusal p page.now i r b }
+    ensures { answer_number result ≡ bit_refusal p page.now i r b }
 {
-    let k = page_refusal(p, page);
-    if k != 0 {
-        return k;
-    }
+    page_refusal(p, page)?;
     if names_bit(p, w, i, r, b) {
-        return 0;
+        return Ok(());
     }
-    9
+    Err(Refusal::Index)
 }
 
 // ---- calls on one word
 
 // For accepted parameters: 7, 8, 9 where the word i is none of `many`,
-// 10 where the lent list's length `out` is not exact, or 0.
+// 10 where the lent list's length `out` is not exact.
 pub fn index_refusal(
     p: Parameters,
     page: &[u8],
@@ -200,21 +192,18 @@ pub fn index_refusal(
     many: usize,
     out: usize,
     exact: usize,
-) -> u8
+) -> Outcome
     requires { Accepted p }
-    ensures { result ≡ word_refusal p page.now i many out exact }
+    ensures { answer_number result ≡ word_refusal p page.now i many out exact }
 {
-    let r = page_refusal(p, page);
-    if r != 0 {
-        return r;
-    }
+    page_refusal(p, page)?;
     if many <= i {
-        return 9;
+        return Err(Refusal::Index);
     }
     if out != exact {
-        return 10;
+        return Err(Refusal::List);
     }
-    0
+    Ok(())
 }
 
 // For any numbers: 1 to 4, 14 before these.
@@ -225,65 +214,52 @@ pub fn word_refusal(
     many: usize,
     out: usize,
     exact: usize,
-) -> u8
-    ensures { result ≡ word_refusal p page.now i many out exact }
+) -> Outcome
+    ensures { answer_number result ≡ word_refusal p page.now i many out exact }
 {
-    let k = sheet_refusal(p);
-    if k != 0 {
-        return k;
-    }
+    sheet_refusal(p)?;
     index_refusal(p, page, i, many, out, exact)
 }
 
 // ---- the quote
 
-// For any numbers, and a list of `out`: 1 to 4, 14, 10, or 0.
-pub fn quote_refusal(p: Parameters, out: usize) -> u8
-    ensures { result ≡ quote_refusal 1 p out }
+// For any numbers, and a list of `out`: 1 to 4, 14, 10.
+pub fn quote_refusal(p: Parameters, out: usize) -> Outcome
+    ensures { answer_number result ≡ quote_refusal 1 p out }
 {
-    let k = sheet_refusal(p);
-    if k != 0 {
-        return k;
-    }
+    sheet_refusal(p)?;
     if out == 12 {
-        return 0;
+        return Ok(());
     }
-    10
+    Err(Refusal::List)
 }
 
 // ---- registers
 
-// For any numbers: 1 to 4, 14, 9, or 0.
-pub fn open_refusal(p: Parameters, level: u32) -> u8
-    ensures { result ≡ open_refusal p level }
+// For any numbers: 1 to 4, 14, 9.
+pub fn open_refusal(p: Parameters, level: u32) -> Outcome
+    ensures { answer_number result ≡ open_refusal p level }
 {
-    let k = sheet_refusal(p);
-    if k != 0 {
-        return k;
-    }
+    sheet_refusal(p)?;
     if p.v < level {
-        return 9;
+        return Err(Refusal::Index);
     }
-    0
+    Ok(())
 }
 
-// For a level, a list of `odd` odd syndromes and one of `out` places for all: 1 to 4, 14, 9, 10, or 0.
-pub fn all_refusal(p: Parameters, level: u32, odd: usize, out: usize) -> u8
-    ensures { result ≡ all_refusal 1 p level odd out }
+// For a level, a list of `odd` odd syndromes and one of `out` places for all: 1 to 4, 14, 9, 10.
+pub fn all_refusal(p: Parameters, level: u32, odd: usize, out: usize) -> Outcome
+    ensures { answer_number result ≡ all_refusal 1 p level odd out }
 {
-    let k = open_refusal(p, level);
-    if k != 0 {
-        return k;
-    }
+    open_refusal(p, level)?;
     let t = sheet::strength_at(p, level) as usize;
-    let list: u8 = 10;
     if odd != t {
-        return list;
+        return Err(Refusal::List);
     }
     if out != 2 * t {
-        return list;
+        return Err(Refusal::List);
     }
-    0
+    Ok(())
 }
 
 // u has no bit at `width` or above.
@@ -304,25 +280,25 @@ fn room(count: u64, width: u64, n: u64) -> bool
     width <= n - count
 }
 
-// For accepted parameters, u as `width` coefficients after `count` at a level: 5, 8, 11, 12 for the level, or 0.
-pub fn numbers_refusal(p: Parameters, width: u32, level: u32, count: u64, u: u64) -> u8
+// For accepted parameters, u as `width` coefficients after `count` at a level: 5, 8, 11, 12 for the level.
+pub fn numbers_refusal(p: Parameters, width: u32, level: u32, count: u64, u: u64) -> Outcome
     requires { Accepted p }
-    ensures { result ≡ numbers_refusal p width level count u }
+    ensures { answer_number result ≡ numbers_refusal p width level count u }
 {
     if !width_good(width) {
-        return 5;
+        return Err(Refusal::Width);
     }
     if !number_fits(u, width) {
-        return 8;
+        return Err(Refusal::Stray);
     }
     let n = layout::full_count(p);
     if !room(count, width as u64, n) {
-        return 11;
+        return Err(Refusal::Full);
     }
     if p.v < level {
-        return 12;
+        return Err(Refusal::Register);
     }
-    0
+    Ok(())
 }
 
 // The words have no bit at w or above.

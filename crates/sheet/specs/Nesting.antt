@@ -1,11 +1,11 @@
 -- The nesting coefficients as 64-bit numbers, for i and l up to 7.
-use Rattle.std.specs.Prelude.{◌≡◌, ℕ, zero, suc, ◌+◌, ◌-◌, ◌*◌, ◌%◌, ◌^◌, ◌≤◌, ◌<◌}
+use Rattle.std.specs.Prelude.{◌≡◌, Ok, Err, ℕ, zero, suc, ◌+◌, ◌-◌, ◌*◌, ◌%◌, ◌^◌, ◌≤◌, ◌<◌}
 use Rattle.std.proofs.Common.{sym, ◌∙◌, arith, pow_mono, shl_lt, shl_exact, lt-ltb, le-ltb}
 use Rattle.std.proofs.Math.Nat as Nat
 use Rattle.std.specs.Int.Bits.{bit_xor}
 use Rattle.polynomial.specs.Division.{xor_lt}
 use Rattle.polynomial.specs.Xor.{xor_is}
-use Rattle.code.specs.declared.Nesting.{Nesting}
+use Rattle.code.specs.declared.Refusal.{Refusal}
 use Rattle.code.proofs.Answers.{nesting-eq, nesting-made}
 use Rattle.code.specs.Calls.{NestingMade}
 use Rattle.code.specs.Code.{N}
@@ -36,11 +36,11 @@ N-next (suc i) (suc l) hi hl p h =
     (xor_is (N i l) (N i (suc l) * 2 ^ suc l) ∙ sym (N-step i l))
 
 -- ---- the call
-pub nesting-i : (i l : ℕ) → 7 < i → NestingMade i l (Nesting.Refused 9)
-nesting-i i l h = nesting-made i l (Nesting.Refused 9) (sym (nesting-eq i l ∙ simp (lt-ltb 7 i h)))
+pub nesting-i : (i l : ℕ) → 7 < i → NestingMade i l (Err Refusal.Index)
+nesting-i i l h = nesting-made i l (Err Refusal.Index) (sym (nesting-eq i l ∙ simp (lt-ltb 7 i h)))
 
-pub nesting-l : (i l : ℕ) → i ≤ 7 → 7 < l → NestingMade i l (Nesting.Refused 9)
-nesting-l i l a h = nesting-made i l (Nesting.Refused 9) (sym (nesting-eq i l ∙ simp (le-ltb 7 i a, lt-ltb 7 l h)))
+pub nesting-l : (i l : ℕ) → i ≤ 7 → 7 < l → NestingMade i l (Err Refusal.Index)
+nesting-l i l a h = nesting-made i l (Err Refusal.Index) (sym (nesting-eq i l ∙ simp (le-ltb 7 i a, lt-ltb 7 l h)))
 
-pub nesting-is : (i l c : ℕ) → i ≤ 7 → l ≤ 7 → c ≡ N i l → NestingMade i l (Nesting.Coefficient c)
-nesting-is i l c a b e = nesting-made i l (Nesting.Coefficient c) (rw e (sym (nesting-eq i l ∙ simp (le-ltb 7 i a, le-ltb 7 l b))))
+pub nesting-is : (i l c : ℕ) → i ≤ 7 → l ≤ 7 → c ≡ N i l → NestingMade i l (Ok c)
+nesting-is i l c a b e = nesting-made i l (Ok c) (rw e (sym (nesting-eq i l ∙ simp (le-ltb 7 i a, le-ltb 7 l b))))

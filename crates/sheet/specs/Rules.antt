@@ -1,5 +1,5 @@
 -- The rules on the parameters, test by test: what a program's tests show of each definition.
-use Rattle.std.specs.Prelude.{◌≡◌, Bool, true, false, not, ◌&&◌, ◌||◌, ℕ, zero, suc, ◌-◌, ◌*◌, ◌^◌, ◌≤◌, ◌<◌, T, ltb}
+use Rattle.std.specs.Prelude.{◌≡◌, Bool, true, false, not, ◌&&◌, ◌||◌, Result, Ok, Err, ℕ, zero, suc, ◌-◌, ◌*◌, ◌^◌, ◌≤◌, ◌<◌, T, ltb}
 use Rattle.std.proofs.Math.Path.{refl, sym}
 use Rattle.std.proofs.Common.{ap, ◌∙◌, arith, leb→le, ltb→lt}
 use Rattle.std.proofs.Math.Nat as Nat
@@ -9,16 +9,17 @@ use Rattle.field.specs.Fields.{field_of}
 use Rattle.field.specs.Irreducible.{both}
 use Rattle.generator.specs.Generator.{width}
 use Rattle.code.specs.declared.Parameters.{Parameters}
-use Rattle.code.specs.declared.Tested.{Tested}
+use Rattle.code.specs.declared.Refusal.{Refusal}
+use Rattle.code.specs.Answers.{unless_refused}
 use Rattle.code.specs.Lists.{◌when◌, ◌or_else◌}
 use Rattle.code.proofs.Accepted.{accepted, width-below}
 use Rattle.code.proofs.Answers.{tests}
 use Rattle.code.specs.Code.{degree}
 use Rattle.code.specs.Parameters.{Accepted, len, strength, field_known, shape_fits, place_fits}
-use Rattle.code.specs.Parameters.{strengths_fit, clashes, short_fits, sheet_refusal, tested, tested_of, unshortened, Tests}
+use Rattle.code.specs.Parameters.{strengths_fit, clashes, short_fits, sheet_refusal, tested, unshortened, Tests}
 use Rattle.code.proofs.Shortened.{same-degree, unshortened-refusal}
 use Rattle.element.specs.declared.Field.{Field}
-use Rattle.element.specs.declared.Made.{Made}
+use Rattle.element.specs.declared.FieldError.{FieldError}
 use Rattle.element.specs.Fields.{field_at, known, MadeOf, made-known, made-field, known_is, size-least, size-most}
 use Rattle.generator_rows.specs.Within.{level-degree}
 
@@ -150,7 +151,7 @@ pub record FieldFacts (q : ℕ) (f : Field) : Type 0 where
   pub order-low : 8 < f.order
   pub order-high : f.order < 4096
 
-pub field-facts : (q : ℕ) (r : Made) (f : Field) → MadeOf q r → r ≡ Made.Field f → FieldFacts q f
+pub field-facts : (q : ℕ) (r : Result Field FieldError) (f : Field) → MadeOf q r → r ≡ Ok f → FieldFacts q f
 field-facts q r f h e =
     let k = made-known q r h f e in
     let o : f.order ≡ 2 ^ q - 1 = ap (λ (g : Field). g.order) (made-field q r h f e) in
@@ -161,9 +162,10 @@ field-facts q r f h e =
 -- ---- the whole test: the refusal by its five links
 module _ (p : Parameters) where
   tested_eq : tested p
-      ≡ tested_of p
+      ≡ unless_refused
       (1 when not (field_known p) or_else 2 when not (shape_fits p) or_else 3 when not (strengths_fit p) or_else 4 when clashes p
       or_else 14 when not (short_fits p))
+      p
   unfolding tested sheet_refusal
   tested_eq = refl
 
@@ -171,28 +173,25 @@ module _ (p : Parameters) where
   unfolding field_known
   known-eq = refl
 
-  pub test-field : known p.q ≡ false → Tests p (Tested.Refused 1)
-  test-field h = tests p (Tested.Refused 1) (sym (tested_eq ∙ simp (known-eq, h)))
+  pub test-field : known p.q ≡ false → Tests p (Err Refusal.Field)
+  test-field h = tests p (Err Refusal.Field) (sym (tested_eq ∙ simp (known-eq, h)))
 
-  pub test_shape : known p.q ≡ true → false ≡ shape_fits p → Tests p (Tested.Refused 2)
-  test_shape k h = tests p (Tested.Refused 2) (sym (tested_eq ∙ simp (known-eq, k, ← h)))
+  pub test_shape : known p.q ≡ true → false ≡ shape_fits p → Tests p (Err Refusal.Shape)
+  test_shape k h = tests p (Err Refusal.Shape) (sym (tested_eq ∙ simp (known-eq, k, ← h)))
 
-  pub test-strengths : known p.q ≡ true → true ≡ shape_fits p → false ≡ strengths_fit p → Tests p (Tested.Refused 3)
-  test-strengths k s h = tests p (Tested.Refused 3) (sym (tested_eq ∙ simp (known-eq, k, ← s, ← h)))
+  pub test-strengths : known p.q ≡ true → true ≡ shape_fits p → false ≡ strengths_fit p → Tests p (Err Refusal.Strengths)
+  test-strengths k s h = tests p (Err Refusal.Strengths) (sym (tested_eq ∙ simp (known-eq, k, ← s, ← h)))
 
-  pub test-clash : known p.q ≡ true → true ≡ shape_fits p → true ≡ strengths_fit p → true ≡ clashes p → Tests p (Tested.Refused 4)
-  test-clash k s t h = tests p (Tested.Refused 4) (sym (tested_eq ∙ simp (known-eq, k, ← s, ← t, ← h)))
+  pub test-clash : known p.q ≡ true → true ≡ shape_fits p → true ≡ strengths_fit p → true ≡ clashes p → Tests p (Err Refusal.Clash)
+  test-clash k s t h = tests p (Err Refusal.Clash) (sym (tested_eq ∙ simp (known-eq, k, ← s, ← t, ← h)))
 
   module _ (k : known p.q ≡ true) (s : true ≡ shape_fits p) (t : true ≡ strengths_fit p) (c : false ≡ clashes p) where
     -- but for s the sheet is accepted
     pub full-accepted : Accepted (unshortened p)
     full-accepted = unshortened-refusal p ∙ simp (known-eq, k, ← s, ← t, ← c)
 
-    pub test_short : false ≡ short_fits p → Tests p (Tested.Refused 14)
-    test_short h = tests p (Tested.Refused 14) (sym (tested_eq ∙ simp (known-eq, k, ← s, ← t, ← c, ← h)))
+    pub test_short : false ≡ short_fits p → Tests p (Err Refusal.Shortening)
+    test_short h = tests p (Err Refusal.Shortening) (sym (tested_eq ∙ simp (known-eq, k, ← s, ← t, ← c, ← h)))
 
-    pub test-accepted : true ≡ short_fits p
-        → Tests p (Tested.Accepted p.q p.m p.v p.t0 p.t1 p.t2 p.t3 p.s)
-    test-accepted h =
-        tests p (Tested.Accepted p.q p.m p.v p.t0 p.t1 p.t2 p.t3 p.s)
-        (sym (tested_eq ∙ simp (known-eq, k, ← s, ← t, ← c, ← h)))
+    pub test-accepted : true ≡ short_fits p → Tests p (Ok p)
+    test-accepted h = tests p (Ok p) (sym (tested_eq ∙ simp (known-eq, k, ← s, ← t, ← c, ← h)))

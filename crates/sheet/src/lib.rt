@@ -8,8 +8,8 @@ ghost use Rattle.code.specs.Parameters.{Accepted, unshortened, len, strength, sh
 ghost use Rattle.element.specs.Fields.{field_at};
 ghost use Rattle.sheet.specs.Clashes.{hits, any_from};
 
-use code::{Nesting, Parameters, Tested};
-use element::{Field, Made};
+use code::{Parameters, Refusal};
+use element::Field;
 
 // v is 1 to 3, m is v + 1 to 8.
 fn shape_fits(p: Parameters) -> bool
@@ -133,36 +133,27 @@ fn short_fits(p: Parameters, f: Field) -> bool
     p.s <= f.order - w - 1
 }
 
-// The parameters, or the number of the first rule that they break.
-pub fn test(p: Parameters) -> Tested
+// The parameters, or the first rule that they break.
+pub fn test(p: Parameters) -> Result<Parameters, Refusal>
     ensures { Tests p result }
 {
-    let Made::Field(f) = Field::make(p.q) else {
-        return Tested::Refused(1);
+    let Ok(f) = Field::make(p.q) else {
+        return Err(Refusal::Field);
     };
     if !shape_fits(p) {
-        return Tested::Refused(2);
+        return Err(Refusal::Shape);
     }
     let n = f.order;
     if !strengths_fit(p, n) {
-        return Tested::Refused(3);
+        return Err(Refusal::Strengths);
     }
     if clashes_at(p, n) {
-        return Tested::Refused(4);
+        return Err(Refusal::Clash);
     }
     if !short_fits(p, f) {
-        return Tested::Refused(14);
+        return Err(Refusal::Shortening);
     }
-    Tested::Accepted {
-        q: p.q,
-        m: p.m,
-        v: p.v,
-        t0: p.t0,
-        t1: p.t1,
-        t2: p.t2,
-        t3: p.t3,
-        s: p.s,
-    }
+    Ok(p)
 }
 
 // The nesting coefficient N(i, l), bit k the coefficient of x^k; i falls.
@@ -181,16 +172,16 @@ pub fn nest(i: usize, l: usize) -> u64
     a ^ (b << l)
 }
 
-// N(i, l) for i and l up to 7, the refusal 9 above.
-pub fn nesting_coefficient(i: usize, l: usize) -> Nesting
+// N(i, l) for i and l up to 7, a refusal above.
+pub fn nesting_coefficient(i: usize, l: usize) -> Result<u64, Refusal>
     ensures { NestingMade i l result }
 {
     if 7 < i {
-        return Nesting::Refused(9);
+        return Err(Refusal::Index);
     }
     if 7 < l {
-        return Nesting::Refused(9);
+        return Err(Refusal::Index);
     }
     let c = nest(i, l);
-    Nesting::Coefficient(c)
+    Ok(c)
 }

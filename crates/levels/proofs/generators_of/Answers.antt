@@ -3,10 +3,7 @@ use Rattle.levels.specs.Levels.{rows-refused}
 use Rattle.levels.proofs.generators_of.Goals as goal
 
 pub rows-requires : goal.rows-requires
-rows-requires c = sym (rw c.in_default.is at c.test.ensures).number
+rows-requires c = sym c.in-Ok.ensures.number
 
-pub returns-in_default : goal.returns-in_default
-returns-in_default c = c.rows.ensures
-
-pub returns : goal.returns
-returns c = rows-refused _ _ (rw c.in-Refused.is at c.test.ensures)
+pub returns-in-Err : goal.returns-in-Err
+returns-in-Err c = rows-refused _ _ c.in-Err.ensures

@@ -1,3 +1,5 @@
+use Rattle.std.proofs.lemmas.Result.{err_from_is_err_and}
+use Rattle.code.proofs.Answers.{refusal-ne}
 use mathlib.Core.Path.{◌≡◌, sym, ◌∙◌}
 use native.Mathlib.Nat as Nat
 use native.Mathlib.Omega.{arith}
@@ -11,13 +13,15 @@ use Rattle.refusal.proofs.all_refusal.Goals.{After-strength_at-t}
 -- nothing is refused before the lengths, and t is the level's strength
 module _ (c : After-strength_at-t) where
   opened : open_refusal c.args.p c.args.level ≡ 0
-  opened = sym c.open_refusal-k.ensures ∙ c.if-k-ne0.false
+  opened = sym c.in_ok-open_refusal.ensures
 
   t-is : c.strength_at-t.result ≡ 1 * strength c.args.p c.args.level
   t-is = c.strength_at-t.ensures ∙ sym (Nat.one-mul (strength c.args.p c.args.level))
 
-pub returns-then-k-ne0 : goal.returns-then-k-ne0
-returns-then-k-ne0 c = all-open _ _ _ _ _ _ c.open_refusal-k.ensures c.if-k-ne0.true
+pub returns-in_err-open_refusal : goal.returns-in_err-open_refusal
+returns-in_err-open_refusal c =
+    let p = err_from_is_err_and c.from_residual.result c.from_residual.ensures.1 in
+    rw (p.1, p.2) (all-open _ _ _ _ _ _ c.in_err-open_refusal.ensures (refusal-ne _))
 
 pub returns-then-odd-t : goal.returns-then-odd-t
 returns-then-odd-t c = all-not-odd _ _ _ _ _ (opened (goal.at.returns-then-odd-t c).After-strength_at-t) (λ e. c.if-odd-t.true (e ∙ sym (t-is (goal.at.returns-then-odd-t c).After-strength_at-t)))

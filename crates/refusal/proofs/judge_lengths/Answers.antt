@@ -1,21 +1,25 @@
+use Rattle.std.proofs.lemmas.Result.{err_from_is_err_and}
+use Rattle.code.proofs.Answers.{refusal-ne}
 use mathlib.Core.Path.{sym, ◌∙◌}
 use Rattle.code.specs.Parameters.{Accepted}
 use Rattle.refusal.specs.Judging.{lengths-sheet, lengths-exact, lengths-other}
 use Rattle.refusal.proofs.judge_lengths.Goals as goal
-use Rattle.refusal.proofs.judge_lengths.Goals.{Else-k-ne0}
+use Rattle.refusal.proofs.judge_lengths.Goals.{In_ok-sheet_refusal}
 
 -- where the sheet is accepted
-accepts : (c : Else-k-ne0) → Accepted c.args.p
-accepts c = sym c.sheet_refusal-k.ensures ∙ c.if-k-ne0.false
+accepts : (c : In_ok-sheet_refusal) → Accepted c.args.p
+accepts c = sym c.in_ok-sheet_refusal.ensures
 
-pub returns-then-k-ne0 : goal.returns-then-k-ne0
-returns-then-k-ne0 c = lengths-sheet _ _ _ c.sheet_refusal-k.ensures c.if-k-ne0.true
+pub returns-in_err-sheet_refusal : goal.returns-in_err-sheet_refusal
+returns-in_err-sheet_refusal c =
+    let p = err_from_is_err_and c.from_residual.result c.from_residual.ensures.1 in
+    rw (p.1, p.2) (lengths-sheet _ _ _ c.in_err-sheet_refusal.ensures (refusal-ne _))
 
 pub page_bytes-requires : goal.page_bytes-requires
-page_bytes-requires c = accepts (goal.at.page_bytes-requires c).Else-k-ne0
+page_bytes-requires c = accepts (goal.at.page_bytes-requires c).In_ok-sheet_refusal
 
 pub returns-then-page-page_bytes : goal.returns-then-page-page_bytes
-returns-then-page-page_bytes c = lengths-exact _ _ (accepts (goal.at.returns-then-page-page_bytes c).Else-k-ne0) (c.if-page-page_bytes.true ∙ c.page_bytes.ensures)
+returns-then-page-page_bytes c = lengths-exact _ _ (accepts (goal.at.returns-then-page-page_bytes c).In_ok-sheet_refusal) (c.if-page-page_bytes.true ∙ c.page_bytes.ensures)
 
 pub returns : goal.returns
-returns c = lengths-other _ _ (accepts (goal.at.returns c).Else-k-ne0) (λ e. c.if-page-page_bytes.false (e ∙ sym c.page_bytes.ensures))
+returns c = lengths-other _ _ (accepts (goal.at.returns c).In_ok-sheet_refusal) (λ e. c.if-page-page_bytes.false (e ∙ sym c.page_bytes.ensures))

@@ -1,12 +1,16 @@
-use mathlib.Core.Path.{sym, ◌∙◌}
+use Rattle.std.proofs.lemmas.Result.{err_from_is_err_and}
+use Rattle.code.proofs.Answers.{refusal-ne}
+use mathlib.Core.Path.{sym}
 use Rattle.code.proofs.Quote.{quote-sheet, quote-none, quote-ten}
 use Rattle.refusal.proofs.quote_refusal.Goals as goal
 
-pub returns-then-k-ne0 : goal.returns-then-k-ne0
-returns-then-k-ne0 c = quote-sheet _ _ _ _ c.sheet_refusal-k.ensures c.if-k-ne0.true
+pub returns-in_err-sheet_refusal : goal.returns-in_err-sheet_refusal
+returns-in_err-sheet_refusal c =
+    let p = err_from_is_err_and c.from_residual.result c.from_residual.ensures.1 in
+    rw (p.1, p.2) (quote-sheet _ _ _ _ c.in_err-sheet_refusal.ensures (refusal-ne _))
 
 pub returns-then-out-eq12 : goal.returns-then-out-eq12
-returns-then-out-eq12 c = sym (quote-none _ _ _ (sym c.sheet_refusal-k.ensures ∙ c.if-k-ne0.false) c.if-out-eq12.true)
+returns-then-out-eq12 c = sym (quote-none _ _ _ (sym c.in_ok-sheet_refusal.ensures) c.if-out-eq12.true)
 
 pub returns : goal.returns
-returns c = quote-ten _ _ _ (sym c.sheet_refusal-k.ensures ∙ c.if-k-ne0.false) c.if-out-eq12.false
+returns c = quote-ten _ _ _ (sym c.in_ok-sheet_refusal.ensures) c.if-out-eq12.false

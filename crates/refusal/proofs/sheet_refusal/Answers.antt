@@ -1,7 +1,10 @@
+use Rattle.std.proofs.lemmas.Result.{err_from_is_err_and}
 use Rattle.refusal.proofs.sheet_refusal.Goals as goal
 
-pub returns-in_default : goal.returns-in_default
-returns-in_default c = (rw c.in_default.is at c.test-tested.ensures).number
+pub returns-in_err-test : goal.returns-in_err-test
+returns-in_err-test c =
+    let p = err_from_is_err_and c.from_residual.result c.from_residual.ensures.1 in
+    rw (p.1, p.2) c.in_err-test.ensures.number
 
 pub returns : goal.returns
-returns c = (rw c.in-Refused.is at c.test-tested.ensures).number
+returns c = c.in_ok-test.ensures.number
