@@ -10,7 +10,7 @@ ghost use Rattle.code.specs.Code.{degree, remainder};
 ghost use Rattle.code.specs.Parameters.{Accepted};
 ghost use Rattle.register.specs.Register.{value_of, refused_with, OpenedAs, FedAs};
 
-use code::{Outcome, Parameters};
+use code::{Outcome, Parameters, Refusal};
 
 // A level, the count of coefficients taken, and the remainder by the level's generator in 12 words, lowest first.
 #[derive(Clone, Copy)]
@@ -20,7 +20,8 @@ pub struct Register {
     pub remainder: [u64; 12],
 }
 
-// What opening and feeding hand back: the outcome beside the register.
+// What opening and feeding hand back: the outcome beside the register. No Result with the register in its Ok: the definitions `opened` and
+// `fed` (code: Calls) hand back a register beside a refusal too.
 #[derive(Clone, Copy)]
 pub struct Fed {
     pub outcome: Outcome,
@@ -78,11 +79,11 @@ impl Register {
     }
 
     // The register as it is, beside a refusal.
-    fn refused(self, k: u8) -> Fed
-        ensures { result ≡ refused_with k self }
+    fn refused(self, e: Refusal) -> Fed
+        ensures { result ≡ refused_with e self }
     {
         Fed {
-            outcome: Outcome::Refused(k),
+            outcome: Err(e),
             register: self,
         }
     }
@@ -91,12 +92,11 @@ impl Register {
     pub fn open(p: Parameters, level: u32) -> Fed
         ensures { OpenedAs p level result }
     {
-        let k = refusal::open_refusal(p, level);
-        if k != 0 {
-            return Register::empty(0).refused(k);
+        if let Err(e) = refusal::open_refusal(p, level) {
+            return Register::empty(0).refused(e);
         }
         Fed {
-            outcome: Outcome::Done,
+            outcome: Ok(()),
             register: Register::empty(level),
         }
     }
@@ -108,9 +108,8 @@ impl Register {
     {
         let level = self.level;
         let count = self.count;
-        let k = refusal::numbers_refusal(p, width, level, count, u);
-        if k != 0 {
-            return self.refused(k);
+        if let Err(e) = refusal::numbers_refusal(p, width, level, count, u) {
+            return self.refused(e);
         }
         let a = level as usize;
         let rows = levels::rows(p);
@@ -119,12 +118,12 @@ impl Register {
         let mut next = self;
         next.count = count + width as u64;
         if !refusal::remainder_fits(&f, w) {
-            return self.refused(12);
+            return self.refused(Refusal::Register);
         }
         let g = advance(p, rows, a, w, f, u, width as usize);
         next.remainder = g;
         Fed {
-            outcome: Outcome::Done,
+            outcome: Ok(()),
             register: next,
         }
     }
@@ -133,9 +132,8 @@ impl Register {
     pub fn feed(self, p: Parameters, width: u32, u: u64) -> Fed
         ensures { FedAs p width self u result }
     {
-        let k = refusal::sheet_refusal(p);
-        if k != 0 {
-            return self.refused(k);
+        if let Err(e) = refusal::sheet_refusal(p) {
+            return self.refused(e);
         }
         self.feed_accepted(p, width, u)
     }

@@ -1,9 +1,10 @@
 -- The quote, number by number.
 --   Quoting p k l    the first k of the 12 numbers of l are those of the quote
-use Rattle.std.specs.Prelude.{◌≡◌, refl, Bool, true, false, List, ℕ, ◌+◌, ◌-◌, ◌^◌, ◌≤◌, ◌<◌, leb, length, get_or, set}
+use Rattle.std.specs.Prelude.{Ok, Err, ◌≡◌, refl, Bool, true, false, List, ℕ, ◌+◌, ◌-◌, ◌^◌, ◌≤◌, ◌<◌, leb, length, get_or, set}
 use Rattle.std.proofs.Common.{sym, ap, ◌∙◌, arith, length-set, ext_get_or, leb-true, leb-false}
 use Rattle.std.proofs.Math.Nat as Nat
-use Rattle.code.specs.declared.Outcome.{Outcome}
+use Rattle.code.specs.declared.Refusal.{Refusal}
+use Rattle.code.specs.Answers.{refusal_number}
 use Rattle.code.specs.declared.Parameters.{Parameters}
 use Rattle.code.proofs.Accepted.{accepted}
 use Rattle.code.proofs.Answers.{made-done, made-refused}
@@ -55,13 +56,11 @@ module _ (p : Parameters) where
       sym (quote-past-m p (k - 4) (omega arith) m) ∙ ap (λ (j : ℕ). get_or (quote p) j 0) s
 
   -- ---- the promise
-  pub quote-refused : (k : ℕ) (old : List ℕ) → k ≡ quote_refusal 1 p (length old) → (k ≡ 0 → ⊥) → QuoteMade p old old (Outcome.Refused k)
-  quote-refused k old e h =
-      made-refused (quote_refusal 1 p (length old)) k (quote p) old (sym e) (Nat.pos_of_ne-zero h) (quote-le 1 p (length old))
+  pub quote-refused : (e : Refusal) (old : List ℕ) → refusal_number e ≡ quote_refusal 1 p (length old) → QuoteMade p old old (Err e)
+  quote-refused e old h = made-refused (quote_refusal 1 p (length old)) e (quote p) old h (quote-le 1 p (length old))
 
-  pub quote-done : (k : ℕ) (old after : List ℕ) → k ≡ quote_refusal 1 p (length old) → k ≡ 0 → after ≡ quote p
-      → QuoteMade p old after Outcome.Done
-  quote-done k old after e z f = made-done (quote_refusal 1 p (length old)) (quote p) old after (sym e ∙ z) f
+  pub quote-done : (old after : List ℕ) → 0 ≡ quote_refusal 1 p (length old) → after ≡ quote p → QuoteMade p old after (Ok tt)
+  quote-done old after e f = made-done (quote_refusal 1 p (length old)) (quote p) old after (sym e) f
 
-  pub quote-accepted : (k out : ℕ) → k ≡ quote_refusal 1 p out → k ≡ 0 → Accepted p × (out ≡ 12)
-  quote-accepted k out e z = quote-zero 1 p out (sym e ∙ z)
+  pub quote-accepted : (out : ℕ) → 0 ≡ quote_refusal 1 p out → Accepted p × (out ≡ 12)
+  quote-accepted out e = quote-zero 1 p out (sym e)

@@ -1,50 +1,45 @@
 -- A size as an answer: the number, or the refusal.
---   size_number r, size_values r    the requirement's number of an answer, 0 where nothing is refused, and its values
---   size_by k x                    the answer by the refusal k, 0 for none
---   Sized k x r                   what a call promises: r is the size x, or the refusal k
-use Rattle.std.specs.Prelude.{◌≡◌, refl, List, [], ◌∷◌, ℕ, zero, suc, ◌≤◌}
-use Rattle.std.proofs.Common.{sym, ◌∙◌, zero-le}
+--   size_values r     the values of an answer
+--   Sized k x r      what a call promises: r is the size x, or the refusal k
+use Rattle.std.specs.Prelude.{◌≡◌, refl, Result, Ok, Err, List, [], ◌∷◌, ℕ, zero, suc, ◌≤◌, ◌<◌}
+use Rattle.std.proofs.Common.{zero-le}
+use Rattle.std.proofs.Math.Nat as Nat
 use Rattle.code.specs.declared.Parameters.{Parameters}
+use Rattle.code.specs.declared.Refusal.{Refusal}
+use Rattle.code.proofs.Answers.{err-by, refusal-pos}
+use Rattle.code.specs.Answers.{answer_number, refusal_number, unless_refused}
 use Rattle.code.specs.Lists.{last_refusal, values_by}
-use Rattle.code.specs.Parameters.{Accepted, sheet_refusal}
+use Rattle.code.specs.Parameters.{sheet_refusal}
 use Rattle.code.proofs.Refused.{sheet-le}
-use Rattle.sizes.specs.declared.Size.{Size}
 
-abbrev pub size_number : Size → ℕ
-size_number (Size.Is x) = 0
-size_number (Size.Refused k) = k
+abbrev pub size_values : Result ℕ Refusal → List ℕ
+size_values (Ok x) = x ∷ []
+size_values (Err e) = []
 
-abbrev pub size_values : Size → List ℕ
-size_values (Size.Is x) = x ∷ []
-size_values (Size.Refused k) = []
-
-abbrev pub size_by : ℕ → ℕ → Size
-size_by zero x = Size.Is x
-size_by (suc k) x = Size.Refused (suc k)
-
-pub record Sized (refusal size : ℕ) (r : Size) : Type 0 where
-  pub answers : r ≡ size_by refusal size
-  pub number : size_number r ≡ refusal
+pub record Sized (refusal size : ℕ) (r : Result ℕ Refusal) : Type 0 where
+  pub answers : r ≡ unless_refused refusal size
+  pub number : answer_number r ≡ refusal
   pub values : size_values r ≡ values_by refusal (size ∷ [])
   pub small : refusal ≤ last_refusal
 
-refused-by : (k size : ℕ) → (k ≡ 0 → ⊥) → k ≤ last_refusal → Sized k size (Size.Refused k)
-refused-by zero size h b = absurd (h refl)
-refused-by (suc k) size h b = record { answers = refl; number = refl; values = refl; small = b }
+pub sized-refused : (refusal size : ℕ) (e : Refusal) → refusal_number e ≡ refusal → refusal ≤ last_refusal → Sized refusal size (Err e)
+sized-refused refusal size e h b = record {
+  answers = err-by size e refusal h;
+  number = h;
+  values = go refusal (rw (← h) (refusal-pos e));
+  small = b;
+}
+  where
+    go : (k : ℕ) → 0 < k → [] ≡ values_by k (size ∷ [])
+    go zero l = absurd (Nat.not-suc-le-zero l)
+    go (suc k) l = refl
 
-pub sized-refused : (refusal size k : ℕ) → k ≡ refusal → (k ≡ 0 → ⊥) → refusal ≤ last_refusal → Sized refusal size (Size.Refused k)
-sized-refused refusal size k e h b = rw (← e) (refused-by k size h (rw e b))
-
-is-by : (x : ℕ) → Sized 0 x (Size.Is x)
+is-by : (x : ℕ) → Sized 0 x (Ok x)
 is-by x = record { answers = refl; number = refl; values = refl; small = zero-le }
 
-pub sized-is : (refusal size x : ℕ) → refusal ≡ 0 → x ≡ size → Sized refusal size (Size.Is x)
+pub sized-is : (refusal size x : ℕ) → refusal ≡ 0 → x ≡ size → Sized refusal size (Ok x)
 sized-is refusal size x z e = rw (z, ← e) (is-by x)
 
--- ---- where the sheet is refused, and where it is not
-module _ (p : Parameters) (k : ℕ) (e : k ≡ sheet_refusal p) where
-  pub sheet-refused : (size : ℕ) → (k ≡ 0 → ⊥) → Sized (sheet_refusal p) size (Size.Refused k)
-  sheet-refused size h = sized-refused (sheet_refusal p) size k e h (sheet-le p)
-
-  pub sheet-accepted : k ≡ 0 → Accepted p
-  sheet-accepted z = sym e ∙ z
+-- ---- where the sheet is refused
+pub sheet-refused : (p : Parameters) (size : ℕ) (e : Refusal) → refusal_number e ≡ sheet_refusal p → Sized (sheet_refusal p) size (Err e)
+sheet-refused p size e h = sized-refused (sheet_refusal p) size e h (sheet-le p)

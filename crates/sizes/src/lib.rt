@@ -11,52 +11,36 @@ ghost use Rattle.code.specs.Refusals.{open_refusal};
 ghost use Rattle.layout.specs.Sizes.{Degrees};
 ghost use Rattle.sizes.specs.Sized.{Sized};
 
-use code::{Outcome, Parameters};
-
-// A size, or the number of the refusal.
-#[derive(Clone, Copy)]
-pub enum Size {
-    Is(usize),
-    Refused(u8),
-}
+use code::{Outcome, Parameters, Refusal};
 
 // The degree of the level's generator; 9 for a level above v.
-pub fn degree(p: Parameters, level: u32) -> Size
+pub fn degree(p: Parameters, level: u32) -> Result<usize, Refusal>
     ensures { Sized (open_refusal p level) (Code·degree p level) result }
 {
-    let k = refusal::open_refusal(p, level);
-    if k != 0 {
-        return Size::Refused(k);
-    }
+    refusal::open_refusal(p, level)?;
     let rows = levels::rows(p);
     let w = levels::degree_at(p, rows, level as usize);
-    Size::Is(w as usize)
+    Ok(w as usize)
 }
 
 // The bytes of a page.
-pub fn page_bytes(p: Parameters) -> Size
+pub fn page_bytes(p: Parameters) -> Result<usize, Refusal>
     ensures { Sized (sheet_refusal p) (page_bytes p) result }
 {
-    let k = refusal::sheet_refusal(p);
-    if k != 0 {
-        return Size::Refused(k);
-    }
+    refusal::sheet_refusal(p)?;
     let n = layout::page_bytes(p);
-    Size::Is(n)
+    Ok(n)
 }
 
 // The bytes of all blocks.
-pub fn data_bytes(p: Parameters) -> Size
+pub fn data_bytes(p: Parameters) -> Result<usize, Refusal>
     ensures { Sized (sheet_refusal p) (data_bytes p) result }
 {
-    let k = refusal::sheet_refusal(p);
-    if k != 0 {
-        return Size::Refused(k);
-    }
+    refusal::sheet_refusal(p)?;
     let rows = levels::rows(p);
     let w = levels::degrees(p, rows);
     let n = layout::data_bytes(p, &w);
-    Size::Is(n)
+    Ok(n)
 }
 
 // ---- the distance
@@ -97,15 +81,12 @@ fn least(p: Parameters) -> u32
 }
 
 // The least number of bits in which two different members can differ, as the formulas give it.
-pub fn distance(p: Parameters) -> Size
+pub fn distance(p: Parameters) -> Result<usize, Refusal>
     ensures { Sized (sheet_refusal p) (Code·distance p) result }
 {
-    let k = refusal::sheet_refusal(p);
-    if k != 0 {
-        return Size::Refused(k);
-    }
+    refusal::sheet_refusal(p)?;
     let d = least(p);
-    Size::Is(d as usize)
+    Ok(d as usize)
 }
 
 // ---- the quote
@@ -142,12 +123,9 @@ fn quote_into(list: &mut [u16], p: Parameters, w: &[u32])
 pub fn quote(p: Parameters, list: &mut [u16]) -> Outcome
     ensures { QuoteMade p list.old list.new result }
 {
-    let k = refusal::quote_refusal(p, list.len());
-    if k != 0 {
-        return Outcome::Refused(k);
-    }
+    refusal::quote_refusal(p, list.len())?;
     let rows = levels::rows(p);
     let w = levels::degrees(p, rows);
     quote_into(list, p, &w);
-    Outcome::Done
+    Ok(())
 }

@@ -2,7 +2,7 @@
 use mathlib.Core.Path.{refl}
 use native.Mathlib.Nat.{not-suc-le-zero}
 use native.Mathlib.Omega.{arith}
-use lib.ListN.{length, length-set}
+use lib.ListN.{length-set}
 use Rattle.reduction.specs.Sum.{copy_start, copy-turn}
 use Rattle.register.specs.Advance.{copied-digits}
 use Rattle.register.proofs.low_words.Goals as goal

@@ -1,11 +1,15 @@
-use Rattle.sizes.specs.Sized.{sheet-refused, sheet-accepted, sized-is}
+use mathlib.Core.Path.{sym}
+use Rattle.std.proofs.lemmas.Result.{err_from_is_err_and}
+use Rattle.sizes.specs.Sized.{sheet-refused, sized-is}
 use Rattle.sizes.proofs.page_bytes.Goals as goal
 
-pub returns-then-k-ne0 : goal.returns-then-k-ne0
-returns-then-k-ne0 c = sheet-refused _ _ c.sheet_refusal-k.ensures _ c.if-k-ne0.true
+pub returns-in_err-sheet_refusal : goal.returns-in_err-sheet_refusal
+returns-in_err-sheet_refusal c =
+    let p = err_from_is_err_and c.from_residual.result c.from_residual.ensures.1 in
+    rw (p.1, p.2) (sheet-refused _ _ _ c.in_err-sheet_refusal.ensures)
 
 pub page_bytes-n-requires : goal.page_bytes-n-requires
-page_bytes-n-requires c = sheet-accepted _ _ c.sheet_refusal-k.ensures c.if-k-ne0.false
+page_bytes-n-requires c = sym c.in_ok-sheet_refusal.ensures
 
 pub returns : goal.returns
-returns c = sized-is _ _ _ (sheet-accepted _ _ c.sheet_refusal-k.ensures c.if-k-ne0.false) c.page_bytes-n.ensures
+returns c = sized-is _ _ _ (sym c.in_ok-sheet_refusal.ensures) c.page_bytes-n.ensures

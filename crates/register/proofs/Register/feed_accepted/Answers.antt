@@ -1,45 +1,40 @@
+use Rattle.code.specs.declared.Refusal.{Refusal}
+use Rattle.code.proofs.Answers.{refusal-ne}
 use borrow.Author.Tests.{ltb-true}
 use mathlib.Core.Path.{refl, sym, ◌∙◌}
-use native.Mathlib.Nat.{suc-ne-zero}
 use native.Mathlib.Omega.{arith}
 use Rattle.refusal.specs.Feeding.{numbers_fit, feed-numbers, feed-bits, feed-none}
 use Rattle.register.specs.Register.{value_of, feeding-refused, feeding-done}
 use Rattle.refusal.specs.Tests.{full-lt}
 use Rattle.register.proofs.Register.feed_accepted.Goals as goal
 
-pub returns-then-k-ne0 : goal.returns-then-k-ne0
-returns-then-k-ne0 c =
-    let k = c.numbers_refusal-k in
+pub returns-in-Err : goal.returns-in-Err
+returns-in-Err c =
     let a = c.args in
-    feeding-refused a.p a.width a.self a.u k.result (feed-numbers a.p a.width (value_of a.self) a.u c.requires k.result k.ensures c.if-k-ne0.true)
-    _ c.refused.ensures c.if-k-ne0.true
+    feeding-refused a.p a.width a.self a.u c.in-Err.e _ c.refused.ensures
+    (feed-numbers a.p a.width (value_of a.self) a.u c.requires _ c.in-Err.ensures (refusal-ne c.in-Err.e))
 
 pub degree_at-w-requires : goal.degree_at-w-requires
 degree_at-w-requires c =
-    let k = c.numbers_refusal-k in
     let a = c.args in
-    (c.requires, c.rows-rows.ensures, (numbers_fit a.p a.width a.self.level a.self.count a.u k.result k.ensures c.if-k-ne0.false).level)
+    (c.requires, c.rows-rows.ensures, (numbers_fit a.p a.width a.self.level a.self.count a.u 0 c.in_default.ensures refl).level)
 
 pub overflow_add-next : goal.overflow_add-next
 overflow_add-next c =
-    let k = c.numbers_refusal-k in
     let a = c.args in
-    omega (arith, (numbers_fit a.p a.width a.self.level a.self.count a.u k.result k.ensures c.if-k-ne0.false).room, full-lt a.p c.requires)
+    omega (arith, (numbers_fit a.p a.width a.self.level a.self.count a.u 0 c.in_default.ensures refl).room, full-lt a.p c.requires)
 
 pub returns-then-not-remainder_fits : goal.returns-then-not-remainder_fits
 returns-then-not-remainder_fits c =
-    let k = c.numbers_refusal-k in
     let a = c.args in
-    feeding-refused a.p a.width a.self a.u 12
-    (feed-bits a.p a.width (value_of a.self) a.u c.requires k.result k.ensures c.if-k-ne0.false c.degree_at-w.result c.degree_at-w.ensures
+    feeding-refused a.p a.width a.self a.u Refusal.Register _ c.refused-then-not-remainder_fits.ensures
+    (feed-bits a.p a.width (value_of a.self) a.u c.requires 0 c.in_default.ensures refl c.degree_at-w.result c.degree_at-w.ensures
     (sym c.if-not-remainder_fits.true ∙ c.remainder_fits.ensures))
-    _ c.refused-then-not-remainder_fits.ensures (suc-ne-zero 11)
 
 pub advance-g-requires : goal.advance-g-requires
 advance-g-requires c =
-    let k = c.numbers_refusal-k in
     let a = c.args in
-    let n = numbers_fit a.p a.width a.self.level a.self.count a.u k.result k.ensures c.if-k-ne0.false in (
+    let n = numbers_fit a.p a.width a.self.level a.self.count a.u 0 c.in_default.ensures refl in (
       c.requires,
       c.rows-rows.ensures,
       n.level,
@@ -51,9 +46,8 @@ advance-g-requires c =
 
 pub returns : goal.returns
 returns c =
-    let k = c.numbers_refusal-k in
     let a = c.args in
-    feeding-done a.p a.width a.self a.u 0
-    (feed-none a.p a.width (value_of a.self) a.u c.requires k.result k.ensures c.if-k-ne0.false c.degree_at-w.result c.degree_at-w.ensures
-    (sym c.if-not-remainder_fits.false ∙ c.remainder_fits.ensures))
-    c.advance-g.result refl c.advance-g.ensures
+    feeding-done a.p a.width a.self a.u c.advance-g.result
+    (sym (feed-none a.p a.width (value_of a.self) a.u c.requires 0 c.in_default.ensures refl c.degree_at-w.result c.degree_at-w.ensures
+    (sym c.if-not-remainder_fits.false ∙ c.remainder_fits.ensures)))
+    c.advance-g.ensures
