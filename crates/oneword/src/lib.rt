@@ -12,44 +12,32 @@ use word::{all_from, level_remainder, nested_of, odd_from, remainder_into, short
 pub fn remainder(p: Parameters, page: &[u8], i: usize, out: &mut [u8]) -> Outcome
     ensures { RemainderMade p page.now i out.old out.new result }
 {
-    let k = word_refusal(p, page, i, p.m as usize, out.len(), 96);
-    if k != 0 {
-        return Outcome::Refused(k);
-    }
+    word_refusal(p, page, i, p.m as usize, out.len(), 96)?;
     let s = sub_word(p, page, i);
     remainder_into(out, p, 0, s);
-    Outcome::Done
+    Ok(())
 }
 
 // The short remainder of nested word l, by g_(v-l) / g_0, in 96 bytes.
 pub fn short_remainder(p: Parameters, page: &[u8], l: usize, out: &mut [u8]) -> Outcome
     ensures { ShortMade p page.now l out.old out.new result }
 {
-    let k = word_refusal(p, page, l, p.v as usize, out.len(), 96);
-    if k != 0 {
-        return Outcome::Refused(k);
-    }
+    word_refusal(p, page, l, p.v as usize, out.len(), 96)?;
     let s = nested_of(p, page, l);
     short_into(out, p, l, &s);
-    Outcome::Done
+    Ok(())
 }
 
 // Nested word l, in its bytes.
 pub fn nested_word(p: Parameters, page: &[u8], l: usize, out: &mut [u8]) -> Outcome
     ensures { NestedMade p page.now l out.old out.new result }
 {
-    let k = refusal::sheet_refusal(p);
-    if k != 0 {
-        return Outcome::Refused(k);
-    }
+    refusal::sheet_refusal(p)?;
     let exact = layout::nested_bytes(p);
-    let k = refusal::index_refusal(p, page, l, p.v as usize, out.len(), exact);
-    if k != 0 {
-        return Outcome::Refused(k);
-    }
+    refusal::index_refusal(p, page, l, p.v as usize, out.len(), exact)?;
     let s = nested_of(p, page, l);
     kernels::bytes::copy_down(out, &s, 0);
-    Outcome::Done
+    Ok(())
 }
 
 // The syndromes S_1, S_3, .., t_0 of them, of sub-word i, from its remainder by g_0, which has the roots α to α^(2 t_0).
@@ -58,15 +46,12 @@ pub fn syndromes(p: Parameters, page: &[u8], i: usize, list: &mut [u16]) -> Outc
     ensures { SyndromesMade p page.now i list.old list.new result }
 {
     let t = sheet::strength_at(p, 0) as usize;
-    let k = word_refusal(p, page, i, p.m as usize, list.len(), t);
-    if k != 0 {
-        return Outcome::Refused(k);
-    }
+    word_refusal(p, page, i, p.m as usize, list.len(), t)?;
     let s = sub_word(p, page, i);
     let mut r = [0u64; 13];
     let w = level_remainder(&mut r, p, 0, s);
     odd_from(list, p, &r, w);
-    Outcome::Done
+    Ok(())
 }
 
 // The syndromes S_1, S_3, .., t_(v-l) of them, of nested word l, from its remainder by g_(v-l).
@@ -75,15 +60,12 @@ pub fn nested_syndromes(p: Parameters, page: &[u8], l: usize, list: &mut [u16]) 
 {
     let a = layout::level_of(p, l);
     let t = sheet::strength_at(p, a as u32) as usize;
-    let k = word_refusal(p, page, l, p.v as usize, list.len(), t);
-    if k != 0 {
-        return Outcome::Refused(k);
-    }
+    word_refusal(p, page, l, p.v as usize, list.len(), t)?;
     let s = nested_of(p, page, l);
     let mut r = [0u64; 13];
     let w = level_remainder(&mut r, p, a, &s);
     odd_from(list, p, &r, w);
-    Outcome::Done
+    Ok(())
 }
 
 // The syndromes S_1, S_2, .., 2t of them, of a word of a level, t being that level's strength, from the list of S_1, S_3, .., whatever numbers
@@ -91,10 +73,7 @@ pub fn nested_syndromes(p: Parameters, page: &[u8], l: usize, list: &mut [u16]) 
 pub fn all_syndromes(p: Parameters, level: u32, odd: &[u16], list: &mut [u16]) -> Outcome
     ensures { AllMade p level odd.now list.old list.new result }
 {
-    let k = all_refusal(p, level, odd.len(), list.len());
-    if k != 0 {
-        return Outcome::Refused(k);
-    }
+    all_refusal(p, level, odd.len(), list.len())?;
     all_from(list, p, odd);
-    Outcome::Done
+    Ok(())
 }
