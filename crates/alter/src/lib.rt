@@ -85,9 +85,9 @@ fn keep(p: Parameters, page: &[u8]) -> Outcome
     ensures { result ≡ unless_blank (blank p page.now) }
 {
     if layout::page_blank(p, page) {
-        return Outcome::Refused(13u8);
+        return Err(Refusal::Blank);
     }
-    Outcome::Done
+    Ok(())
 }
 
 // The page of bit r of block i is added to the page, unless the sum is blank: then 13, and the page is left as it is. e is the bit's place, y
@@ -112,10 +112,10 @@ fn add_short(
     add_at(p, sum, i, y, e);
     add_words(p, sum, q, short);
     if layout::page_blank(p, sum) {
-        return Outcome::Refused(13);
+        return Err(Refusal::Blank);
     }
     kernels::bytes::copy_up(page, sum, 0);
-    Outcome::Done
+    Ok(())
 }
 
 // The same with all that it needs worked out first, so that no table is kept while the sum is formed.
@@ -168,10 +168,7 @@ fn alter_accepted(p: Parameters, page: &mut [u8], block: u32, bit: u32, value: u
 {
     let rows = levels::rows(p);
     let w = levels::degrees(p, rows);
-    let k = refusal::bit_refusal(p, &w, page, block, bit, value);
-    if k != 0 {
-        return Outcome::Refused(k);
-    }
+    refusal::bit_refusal(p, &w, page, block, bit, value)?;
     alter_named(p, rows, &w, page, block as usize, bit as usize, value)
 }
 
@@ -180,9 +177,6 @@ fn alter_accepted(p: Parameters, page: &mut [u8], block: u32, bit: u32, value: u
 pub fn alter(p: Parameters, page: &mut [u8], block: u32, bit: u32, value: u32) -> Outcome
     ensures { Altered p page.old block bit value page.new result }
 {
-    let k = refusal::sheet_refusal(p);
-    if k != 0 {
-        return Outcome::Refused(k);
-    }
+    refusal::sheet_refusal(p)?;
     alter_accepted(p, page, block, bit, value)
 }

@@ -101,6 +101,15 @@ pub unless-number : {A : Type 0} (x : A) (k : ℕ) → k ≤ last_refusal → an
 unless-number x zero h = refl
 unless-number x (suc k) h = numbered k h
 
+-- an answer that is a refusal comes of one
+pub err-pos : {A : Type 0} (x : A) (e : Refusal) (k : ℕ) → Err e ≡ unless_refused k x → 0 < k
+err-pos x e zero h = let z : ◌≡◌ {A = ℕ} 0 1 = cc in absurd (omega arith)
+err-pos x e (suc k) h = omega arith
+
+pub ok-zero : {A : Type 0} (x y : A) (k : ℕ) → Ok x ≡ unless_refused k y → k ≡ 0
+ok-zero x y zero h = refl
+ok-zero x y (suc k) h = let z : ◌≡◌ {A = ℕ} 0 1 = cc in absurd (omega arith)
+
 -- ---- the test of parameters
 tested-values : (p : Parameters) (r : ℕ)
     → tested_values (unless_refused r p) ≡ values_by r (p.q ∷ p.m ∷ p.v ∷ p.t0 ∷ p.t1 ∷ p.t2 ∷ p.t3 ∷ p.s ∷ [])
@@ -132,14 +141,8 @@ pub leaves-refused : (r : ℕ) (x old : List ℕ) → 0 < r → leaves r x old �
 leaves-refused zero x old h = absurd (Nat.not-suc-le-zero h)
 leaves-refused (suc r) x old h = refl
 
--- an answer that is a refusal comes of one
-pub refused-pos : (e : Refusal) (r : ℕ) → ◌≡◌ {A = Outcome} (Err e) (outcome r) → 0 < r
-refused-pos e zero h = let z : ◌≡◌ {A = ℕ} 0 1 = cc in absurd (omega arith)
-refused-pos e (suc r) h = omega arith
-
 pub done-zero : (k : ℕ) → outcome k ≡ Ok tt → k ≡ 0
-done-zero zero e = refl
-done-zero (suc k) e = let z : ◌≡◌ {A = ℕ} 0 1 = cc in absurd (omega arith)
+done-zero k e = ok-zero tt tt k (sym e)
 
 pub made-refused : (refusal : ℕ) (e : Refusal) (result old : List ℕ) → refusal_number e ≡ refusal → refusal ≤ last_refusal
     → Made refusal result old old (Err e)

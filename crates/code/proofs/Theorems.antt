@@ -28,7 +28,7 @@ use Rattle.code.specs.Answers.{Judgement, answer_number}
 use Rattle.code.specs.Register.{Register}
 use Rattle.generator.proofs.Generator as G
 use Rattle.generator.specs.Generator as Gen
-use Rattle.code.proofs.Answers.{judged, leaves-refused, ok-iff, read-as-judge, refused-pos}
+use Rattle.code.proofs.Answers.{judged, leaves-refused, ok-iff, read-as-judge, err-pos}
 use Rattle.code.specs.Accepted.{Rules}
 use Rattle.code.proofs.Accepted.{accepted, degree-le, degree-low, degree-of, lawful, stored-le, stored-room, stored-whole, width-below}
 use Rattle.code.specs.Alter.{Alterable, altered_blocks}
@@ -657,7 +657,7 @@ module _ (p : Parameters) (A : Accepted p) where
       (λ s. W.0.answers ∙ ap outcome (many-none p L count (length blocks) (length pages) (length list) A s)),
     );
     kept = λ L count n blocks pages after list listed W.
-        (let h = refused-pos n (refused_by L count blocks pages list) W.0.answers in (
+        (let h = err-pos tt n (refused_by L count blocks pages list) W.0.answers in (
           W.0.buffer ∙ leaves-refused (refused_by L count blocks pages list) _ pages h,
           W.1.buffer ∙ leaves-refused (refused_by L count blocks pages list) _ list h,
         ));
@@ -736,7 +736,7 @@ module _ (p : Parameters) (A : Accepted p) where
   left_alone (suc k) x old e = refl
 
   alter-kept : (x after : List ℕ) (i r b : ℕ) (e : Refusal) → Altered p x i r b after (Err e) → after ≡ x
-  alter-kept x after i r b n M = M.buffer ∙ leaves-refused (alter_refusal p x i r b) _ x (refused-pos n (alter_refusal p x i r b) M.answers)
+  alter-kept x after i r b n M = M.buffer ∙ leaves-refused (alter_refusal p x i r b) _ x (err-pos tt n (alter_refusal p x i r b) M.answers)
 
   -- whatever the answer is, the page afterwards is the altered one or the old one
   alter-either : (x after : List ℕ) (i r b : ℕ) (o : Outcome) → Altered p x i r b after o
@@ -1069,7 +1069,7 @@ module _ (p : Parameters) (A : Accepted p) where
       (λ s. M.0.answers ∙ ap outcome ((mend-15-iff 1 x i (length l) y).1 s)),
     );
     kept = λ x after i l listed n counted k M.
-        (let b = refused-pos k (mend_refusal 1 p x i (length l)) M.0.answers in (
+        (let b = err-pos tt k (mend_refusal 1 p x i (length l)) M.0.answers in (
           M.0.buffer ∙ leaves-refused (mend_refusal 1 p x i (length l)) _ x b,
           M.1.buffer ∙ leaves-refused (mend_refusal 1 p x i (length l)) _ l b,
           number_of counted n (M.2.buffer ∙ leaves-refused (mend_refusal 1 p x i (length l)) _ (n ∷ []) b),
@@ -1121,7 +1121,7 @@ module _ (p : Parameters) (A : Accepted p) where
     fails = λ x after o b M.
         (let d = mend-page-fails p A x (λ y. Judged p y (Ok Verdict.Member)) member_is b in
         ((λ e. d.0 (sym M.number ∙ ap answer_number e)), (λ s. M.answers ∙ ap outcome (d.1 s))));
-    kept = λ x after k M. M.buffer ∙ leaves-refused (mend_page_refusal p x) _ x (refused-pos k (mend_page_refusal p x) M.answers);
+    kept = λ x after k M. M.buffer ∙ leaves-refused (mend_page_refusal p x) _ x (err-pos tt k (mend_page_refusal p x) M.answers);
     otherwise = λ x after o h M. either x after o M (mend-page-else p A x h);
     clean = λ x after o b J M. comes x after x o M (mend-page-clean p A x b (sym J.answers));
     back = λ z x after o b h J r M. comes x after z o M (mend-page-back p A z x h b (sym J.answers) r);

@@ -2,7 +2,7 @@
 #![tactic(auto)]
 
 ghost use Rattle.std.specs.Prelude.{◌≡◌};
-ghost use Rattle.code.specs.Answers.{refusal_number};
+ghost use Rattle.code.specs.Answers.{answer_number, refusal_number};
 
 // The parameters of a code: the requirement's sheet. Its strengths t0 to t3 are the errors each level corrects; places past v are 0.
 // The top s coefficients of every sub-word are 0 and not stored.
@@ -45,6 +45,16 @@ impl Refusal {
         ensures { result ≡ refusal_number self }
     {
         self as u8
+    }
+}
+
+// The requirement's number of an answer: 0, or the refusal's.
+pub fn number_of<T>(r: &Result<T, Refusal>) -> u8
+    ensures { result ≡ answer_number r.now }
+{
+    match r {
+        Ok(_) => 0,
+        Err(e) => e.number(),
     }
 }
 

@@ -160,12 +160,12 @@ fn mend_word(
     let s = layout::sub_word(p, page, i);
     let c = find(p, s, t, &mut list);
     if t < c {
-        return Outcome::Refused(15);
+        return Err(Refusal::Unmended);
     }
     flip_in(p, page, i, &list, c);
     list_into(places, &list, c);
     *flips = c as u8;
-    Outcome::Done
+    Ok(())
 }
 
 // Sub-word i with its flips undone, the flipped places rising in the list, which has t_0 numbers, and 65535 after them, and their number in
@@ -174,9 +174,6 @@ pub fn mend(p: Parameters, page: &mut [u8], i: usize, places: &mut [u16], flips:
     ensures { Mended p page.old page.new i places.old places.new flips.old flips.new result }
 {
     let t = sheet::strength_at(p, 0) as usize;
-    let k = refusal::word_refusal(p, page, i, p.m as usize, places.len(), t);
-    if k != 0 {
-        return Outcome::Refused(k);
-    }
+    refusal::word_refusal(p, page, i, p.m as usize, places.len(), t)?;
     mend_word(p, page, i, t, places, flips)
 }

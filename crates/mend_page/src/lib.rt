@@ -117,17 +117,17 @@ fn mend_exact(p: Parameters, page: &mut [u8]) -> Outcome
 {
     let rows = levels::rows(p);
     if is_member(p, rows, page) {
-        return Outcome::Done;
+        return Ok(());
     }
     let n = page.len();
     let mut room = [0u8; 4096];
     let work = &mut room[..n];
     kernels::bytes::copy_up(work, page, 0);
     if !mend_in(p, rows, work) {
-        return Outcome::Refused(17);
+        return Err(Refusal::UnmendedPage);
     }
     kernels::bytes::copy_up(page, work, 0);
-    Outcome::Done
+    Ok(())
 }
 
 // A page mended, first each sub-word by itself, then through the nested words: the page is a member afterwards. 17 where none comes of it: then
@@ -135,13 +135,7 @@ fn mend_exact(p: Parameters, page: &mut [u8]) -> Outcome
 pub fn mend_page(p: Parameters, page: &mut [u8]) -> Outcome
     ensures { PageMended p page.old page.new result }
 {
-    let k = refusal::sheet_refusal(p);
-    if k != 0 {
-        return Outcome::Refused(k);
-    }
-    let n = refusal::page_refusal(p, page);
-    if n != 0 {
-        return Outcome::Refused(n);
-    }
+    refusal::sheet_refusal(p)?;
+    refusal::page_refusal(p, page)?;
     mend_exact(p, page)
 }

@@ -60,7 +60,7 @@ fn judge_exact(p: Parameters, rows: [[u64; 13]; 4], page: &[u8]) -> Verdict
         return Verdict::Blank;
     }
     if !layout::page_clear(p, page) {
-        return Verdict::Refused(8);
+        return Err(Refusal::Stray);
     }
     judge::verdict_of(p, rows, page)
 }
@@ -69,10 +69,7 @@ fn judge_exact(p: Parameters, rows: [[u64; 13]; 4], page: &[u8]) -> Verdict
 pub fn judge(p: Parameters, page: &[u8]) -> Verdict
     ensures { Judged p page.now result }
 {
-    let k = refusal::judge_lengths(p, page.len());
-    if k != 0 {
-        return Verdict::Refused(k);
-    }
+    refusal::judge_lengths(p, page.len())?;
     let rows = levels::rows(p);
     judge_exact(p, rows, page)
 }
@@ -97,10 +94,7 @@ fn read_accepted(p: Parameters, page: &[u8], blocks: &mut [u8]) -> Verdict
 {
     let rows = levels::rows(p);
     let w = levels::degrees(p, rows);
-    let k = refusal::read_lengths(p, &w, page.len(), blocks.len());
-    if k != 0 {
-        return Verdict::Refused(k);
-    }
+    refusal::read_lengths(p, &w, page.len(), blocks.len())?;
     let r = judge_exact(p, rows, page);
     if refused(r) {
         return r;
@@ -113,10 +107,7 @@ fn read_accepted(p: Parameters, page: &[u8], blocks: &mut [u8]) -> Verdict
 pub fn read_out(p: Parameters, page: &[u8], blocks: &mut [u8]) -> Verdict
     ensures { ReadOut p page.now blocks.old blocks.new result }
 {
-    let k = refusal::sheet_refusal(p);
-    if k != 0 {
-        return Verdict::Refused(k);
-    }
+    refusal::sheet_refusal(p)?;
     read_accepted(p, page, blocks)
 }
 
@@ -127,23 +118,17 @@ fn write_accepted(p: Parameters, width: u32, blocks: &[u8], page: &mut [u8]) -> 
 {
     let rows = levels::rows(p);
     let w = levels::degrees(p, rows);
-    let n = refusal::write_refusal(p, &w, width, blocks, page.len());
-    if n != 0 {
-        return Outcome::Refused(n);
-    }
+    refusal::write_refusal(p, &w, width, blocks, page.len())?;
     let list = [0u8; 1];
     pages::encode(p, rows, &w, blocks, page, &list, width as usize);
-    Outcome::Done
+    Ok(())
 }
 
 // The page of the blocks, `width` coefficients a step.
 pub fn write(p: Parameters, width: u32, blocks: &[u8], page: &mut [u8]) -> Outcome
     ensures { Written p width blocks.now page.old page.new result }
 {
-    let k = refusal::sheet_refusal(p);
-    if k != 0 {
-        return Outcome::Refused(k);
-    }
+    refusal::sheet_refusal(p)?;
     write_accepted(p, width, blocks, page)
 }
 
@@ -188,13 +173,10 @@ fn many_accepted(
 {
     let rows = levels::rows(p);
     let w = levels::degrees(p, rows);
-    let k = refusal::many_refusal(p, &w, width, count, blocks.len(), pages.len(), list.len());
-    if k != 0 {
-        return Outcome::Refused(k);
-    }
+    refusal::many_refusal(p, &w, width, count, blocks.len(), pages.len(), list.len())?;
     list_pages(p, &w, width, blocks, list);
     pages::encode_many(p, rows, &w, blocks, pages, list, width as usize);
-    Outcome::Done
+    Ok(())
 }
 
 // The pages of `count` block sets, `width` coefficients a step, and a list of what each is refused for, 0 for a page that is written.
@@ -209,9 +191,6 @@ pub fn write_many(
     ensures { WrittenMany p width count blocks.now pages.old pages.new list.old
         list.new result }
 {
-    let k = refusal::sheet_refusal(p);
-    if k != 0 {
-        return Outcome::Refused(k);
-    }
+    refusal::sheet_refusal(p)?;
     many_accepted(p, width, count, blocks, pages, list)
 }

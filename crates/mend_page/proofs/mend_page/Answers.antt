@@ -1,26 +1,30 @@
+use Rattle.std.proofs.lemmas.Result.{err_from_is_err_and}
+use Rattle.std.proofs.lemmas.Result.{err_from_is_err_and}
 use mathlib.Core.Path.{sym, ◌∙◌}
 use Rattle.refusal.specs.Judging.{page-sheet, page-zero}
 use Rattle.layout.specs.SubWords.{is-page}
 use Rattle.mend_page.proofs.Called.{mended-refused}
 use Rattle.mend_page.proofs.mend_page.Goals as goal
 
-pub returns-then-k-ne0 : goal.returns-then-k-ne0
-returns-then-k-ne0 c =
-    let a = c.args in
-    mended-refused a.p a.page.now _ (page-sheet a.p a.page.now _ c.sheet_refusal-k.ensures c.if-k-ne0.true) c.if-k-ne0.true
+pub returns-in_err-sheet_refusal : goal.returns-in_err-sheet_refusal
+returns-in_err-sheet_refusal c =
+    let p = err_from_is_err_and c.from_residual.result c.from_residual.ensures.1 in
+    rw (p.1, p.2) (let a = c.args in
+    mended-refused a.p a.page.now _ (page-sheet a.p a.page.now _ c.in_err-sheet_refusal.ensures) c.if-k-ne0.true)
 
 pub page_refusal-n-requires : goal.page_refusal-n-requires
-page_refusal-n-requires c = sym c.sheet_refusal-k.ensures ∙ c.if-k-ne0.false
+page_refusal-n-requires c = sym c.in_ok-sheet_refusal.ensures
 
-pub returns-then-n-ne0 : goal.returns-then-n-ne0
-returns-then-n-ne0 c =
-    let a = c.args in
-    mended-refused a.p a.page.now _ c.page_refusal-n.ensures c.if-n-ne0.true
+pub returns-in_err-page_refusal : goal.returns-in_err-page_refusal
+returns-in_err-page_refusal c =
+    let p = err_from_is_err_and c.from_residual.result c.from_residual.ensures.1 in
+    rw (p.1, p.2) (let a = c.args in
+    mended-refused a.p a.page.now _ c.in_err-page_refusal.ensures)
 
 pub mend_exact-requires : goal.mend_exact-requires
 mend_exact-requires c =
     let a = c.args in
-    let z = page-zero a.p a.page.now (sym c.page_refusal-n.ensures ∙ c.if-n-ne0.false) in
+    let z = page-zero a.p a.page.now (sym c.in_ok-page_refusal.ensures) in
     (z.accepted, is-page a.p a.page.now (λ i. (c.slice_known-1.given i).fits) z.exact z.clear)
 
 pub returns : goal.returns
