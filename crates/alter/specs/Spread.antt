@@ -2,7 +2,7 @@
 --   Spread p x cs k y      y is the page x with the first k words of cs added
 --   Adding p i r e page y q short    a page to which that of bit r of block i is to be added, and what it takes: the bit's place e, the
 --                          remainder y of x^e by g_v, and the page of y's data in block i, of the shortest sheet q
-use Rattle.std.specs.Prelude.{◌≡◌, refl, ◌≢◌, ◌⊎◌, List, ℕ, ◌+◌, ◌-◌, ◌*◌, ◌/◌, ◌^◌, ◌≤◌, ◌<◌, T, length, get_or}
+use Rattle.std.specs.Prelude.{◌≡◌, refl, ◌≢◌, ◌⊎◌, List, ℕ, ◌+◌, ◌*◌, ◌/◌, ◌^◌, ◌≤◌, ◌<◌, T, length, get_or}
 use Rattle.std.proofs.Common.{sym, ap, ap₂, ◌∙◌, inl, inr, arith, pow_mono}
 use Rattle.std.proofs.Math.Nat as Nat
 use Rattle.std.proofs.Math.Decide.{ℕ_discrete}

@@ -1,13 +1,14 @@
 -- A page with another added, unless the sum is blank.
 --   unless_blank b        done or, where b is true, 13
 --   Added p x u after o  u is added to x, unless the sum is blank
-use Rattle.std.specs.Prelude.{◌≡◌, refl, ◌≢◌, Bool, true, false, cond, List, ℕ, ◌+◌, ◌*◌, ◌%◌, ◌^◌, ◌<◌, length, get_or}
+use Rattle.std.specs.Prelude.{Ok, Err, ◌≡◌, refl, ◌≢◌, Bool, true, false, cond, List, ℕ, ◌+◌, ◌*◌, ◌%◌, ◌^◌, ◌<◌, length, get_or}
 use Rattle.std.proofs.Common.{sym, ap, ap₂, ◌∙◌}
 use Rattle.std.proofs.Math.Nat as Nat
 use Rattle.polynomial.specs.Digits.{digits, digits_value, value}
 use Rattle.polynomial.specs.Sums.{add, at_all}
 use Rattle.kernels.specs.Value.{value-lt}
-use Rattle.code.specs.declared.Outcome.{Outcome}
+use Rattle.code.specs.declared.Refusal.{Refusal}
+use Rattle.code.specs.Answers.{Outcome}
 use Rattle.code.specs.declared.Parameters.{Parameters}
 use Rattle.code.specs.Alter.{Alterable}
 use Rattle.code.proofs.Alter.{altered-eq, by_eqb, by-neqb}
@@ -18,8 +19,8 @@ use Rattle.code.specs.Parameters.{Accepted}
 use Rattle.refusal.specs.Altering.{alter-done, would-blank}
 
 abbrev pub unless_blank : Bool → Outcome
-unless_blank true = Outcome.Refused 13
-unless_blank false = Outcome.Done
+unless_blank true = Err Refusal.Blank
+unless_blank false = Ok tt
 
 pub record Added (p : Parameters) (x u after : List ℕ) (o : Outcome) : Type 0 where
   pub answers : o ≡ unless_blank (blank p (add x u))
@@ -40,12 +41,12 @@ copied y z n b c e l v =
     ∙ ap₂ (digits 8) e (v ∙ no_shift (value 8 y) (8 * n) (rw l (value-lt 8 y b)))
     ∙ digits_value 8 y (at_all (λ d. d < 2 ^ 8) y (λ i h. b i))
 
-pub added-blank : (p : Parameters) (x u y : List ℕ) → y ≡ add x u → true ≡ blank p y → Added p x u x (Outcome.Refused 13)
+pub added-blank : (p : Parameters) (x u y : List ℕ) → y ≡ add x u → true ≡ blank p y → Added p x u x (Err Refusal.Blank)
 added-blank p x u y e b =
     let t : blank p (add x u) ≡ true = ap (blank p) (sym e) ∙ sym b in
     record { answers = sym (ap unless_blank t); buffer = sym (ap (λ (c : Bool). cond c x (add x u)) t) }
 
-pub added-done : (p : Parameters) (x u y z : List ℕ) → y ≡ add x u → false ≡ blank p y → z ≡ y → Added p x u z Outcome.Done
+pub added-done : (p : Parameters) (x u y z : List ℕ) → y ≡ add x u → false ≡ blank p y → z ≡ y → Added p x u z (Ok tt)
 added-done p x u y z e b f =
     let t : blank p (add x u) ≡ false = ap (blank p) (sym e) ∙ sym b in
     record { answers = sym (ap unless_blank t); buffer = f ∙ e ∙ sym (ap (λ (c : Bool). cond c x (add x u)) t) }

@@ -14,7 +14,7 @@ ghost use Rattle.layout.specs.Written.{written};
 ghost use Rattle.alter.specs.Spread.{Adding, Spread};
 ghost use Rattle.alter.specs.Sum.{Added, unless_blank};
 
-use code::{Outcome, Parameters};
+use code::{Outcome, Parameters, Refusal};
 
 // ---- sums
 

@@ -1,10 +1,11 @@
 -- Many pages: their list, byte by byte, and the promise of the call.
 --   Listing p L blocks k l₀ l    l is l₀ with the refusals of pages 0 to k - 1
-use Rattle.std.specs.Prelude.{◌≡◌, refl, List, ℕ, ◌+◌, ◌*◌, ◌≤◌, ◌<◌, length, get_or, set}
+use Rattle.std.specs.Prelude.{Ok, Err, ◌≡◌, refl, List, ℕ, ◌+◌, ◌*◌, ◌≤◌, ◌<◌, length, get_or, set}
 use Rattle.std.proofs.Common.{sym, ap, ◌∙◌, length-set, ext_get_or}
 use Rattle.std.proofs.Math.Nat as Nat
-use Rattle.code.specs.declared.Outcome.{Outcome}
 use Rattle.code.specs.declared.Parameters.{Parameters}
+use Rattle.code.specs.declared.Refusal.{Refusal}
+use Rattle.code.specs.Answers.{refusal_number}
 use Rattle.code.proofs.Answers.{made-done, made-refused}
 use Rattle.code.specs.Calls.{WrittenMany, pages_by, status_of, statuses}
 use Rattle.code.specs.Layout.{data_bytes, page_bytes}
@@ -42,11 +43,11 @@ module _ (p : Parameters) (L count : ℕ) (blocks pages list : List ℕ) where
   abbrev refusal : ℕ
   refusal = many_refusal p L count (length blocks) (length pages) (length list)
 
-  pub many-refused : (k : ℕ) → k ≡ refusal → (k ≡ 0 → ⊥) → WrittenMany p L count blocks pages pages list list (Outcome.Refused k)
-  many-refused k e h =
+  pub many-refused : (e : Refusal) → refusal_number e ≡ refusal → WrittenMany p L count blocks pages pages list list (Err e)
+  many-refused e h =
       let l = many-le p L count (length blocks) (length pages) (length list) in (
-        made-refused refusal k (pages_by p (statuses p L count blocks) blocks pages) pages (sym e) (Nat.pos_of_ne-zero h) l,
-        made-refused refusal k (statuses p L count blocks) list (sym e) (Nat.pos_of_ne-zero h) l,
+        made-refused refusal e (pages_by p (statuses p L count blocks) blocks pages) pages h l,
+        made-refused refusal e (statuses p L count blocks) list h l,
       )
 
   module _ (z : refusal ≡ 0) (said : List ℕ) (e : said ≡ statuses p L (length list) blocks) where
@@ -72,7 +73,7 @@ module _ (p : Parameters) (L count : ℕ) (blocks pages list : List ℕ) where
           high = s.width.high;
         }
 
-    pub many-done : (after : List ℕ) → after ≡ pages_by p said blocks pages → WrittenMany p L count blocks pages after list said Outcome.Done
+    pub many-done : (after : List ℕ) → after ≡ pages_by p said blocks pages → WrittenMany p L count blocks pages after list said (Ok tt)
     many-done after f = (
       made-done refusal (pages_by p (statuses p L count blocks) blocks pages) pages after z
           (f ∙ ap (λ (l : List ℕ). pages_by p l blocks pages) as-counted),

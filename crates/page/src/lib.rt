@@ -9,10 +9,9 @@ ghost use Rattle.code.specs.Layout.{block_offset, data_bytes, data_of, page_byte
 ghost use Rattle.code.specs.Parameters.{Accepted};
 ghost use Rattle.layout.specs.Replaced.{replaced};
 ghost use Rattle.layout.specs.Sizes.{Degrees};
-ghost use Rattle.page.specs.Exact.{is_refused};
 ghost use Rattle.page.specs.Taken.{Taking, size_of};
 
-use code::{Outcome, Parameters, Verdict};
+use code::{Judgement, Outcome, Parameters, Refusal, Verdict};
 
 // The b data bits of the sub-word s, which stand from place `bits` on.
 fn data_into(block: &mut [u8], s: &[u8], bits: usize, b: usize)
@@ -52,21 +51,21 @@ fn take_blocks(p: Parameters, w: &[u32], page: &[u8], blocks: &mut [u8])
 }
 
 // Judge, for accepted parameters, whose generators are the rows, and a page of their length: blank before stray.
-fn judge_exact(p: Parameters, rows: [[u64; 13]; 4], page: &[u8]) -> Verdict
+fn judge_exact(p: Parameters, rows: [[u64; 13]; 4], page: &[u8]) -> Judgement
     requires { Accepted p × (rows ≡ generators p) × (length page.now ≡ page_bytes p) }
     ensures { Judged p page.now result }
 {
     if layout::page_blank(p, page) {
-        return Verdict::Blank;
+        return Ok(Verdict::Blank);
     }
     if !layout::page_clear(p, page) {
         return Err(Refusal::Stray);
     }
-    judge::verdict_of(p, rows, page)
+    Ok(judge::verdict_of(p, rows, page))
 }
 
 // Is the page a member, and if not, is it blank, or which word fails first?
-pub fn judge(p: Parameters, page: &[u8]) -> Verdict
+pub fn judge(p: Parameters, page: &[u8]) -> Judgement
     ensures { Judged p page.now result }
 {
     refusal::judge_lengths(p, page.len())?;
@@ -74,37 +73,21 @@ pub fn judge(p: Parameters, page: &[u8]) -> Verdict
     judge_exact(p, rows, page)
 }
 
-// Is it a refusal?
-fn refused(r: Verdict) -> bool
-    ensures { result ≡ is_refused r }
-{
-    match r {
-        Verdict::Member => false,
-        Verdict::Blank => false,
-        Verdict::SubWord(_) => false,
-        Verdict::NestedWord(_) => false,
-        Verdict::Refused(_) => true,
-    }
-}
-
 // Read out, for accepted parameters.
-fn read_accepted(p: Parameters, page: &[u8], blocks: &mut [u8]) -> Verdict
+fn read_accepted(p: Parameters, page: &[u8], blocks: &mut [u8]) -> Judgement
     requires { Accepted p }
     ensures { ReadOut p page.now blocks.old blocks.new result }
 {
     let rows = levels::rows(p);
     let w = levels::degrees(p, rows);
     refusal::read_lengths(p, &w, page.len(), blocks.len())?;
-    let r = judge_exact(p, rows, page);
-    if refused(r) {
-        return r;
-    }
+    let verdict = judge_exact(p, rows, page)?;
     take_blocks(p, &w, page, blocks);
-    r
+    Ok(verdict)
 }
 
 // The blocks of the page, member, blank or neither, and judge's answer.
-pub fn read_out(p: Parameters, page: &[u8], blocks: &mut [u8]) -> Verdict
+pub fn read_out(p: Parameters, page: &[u8], blocks: &mut [u8]) -> Judgement
     ensures { ReadOut p page.now blocks.old blocks.new result }
 {
     refusal::sheet_refusal(p)?;
@@ -143,7 +126,8 @@ fn status_at(p: Parameters, w: &[u32], width: u32, blocks: &[u8], k: usize) -> u
     let bytes = layout::page_bytes(p);
     let at = k * size;
     let end = at + size;
-    refusal::write_refusal(p, w, width, &blocks[at..end], bytes)
+    let outcome = refusal::write_refusal(p, w, width, &blocks[at..end], bytes);
+    code::number_of(&outcome)
 }
 
 // The same of every page, listed.

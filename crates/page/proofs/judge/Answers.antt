@@ -1,5 +1,6 @@
+use Rattle.code.proofs.Answers.{refusal-ne}
 use Rattle.std.proofs.lemmas.Result.{err_from_is_err_and}
-use mathlib.Core.Path.{◌≡◌, sym, ◌∙◌}
+use mathlib.Core.Path.{◌≡◌, sym}
 use lib.ListN.{length}
 use Rattle.code.proofs.Answers.{judged-refused}
 use Rattle.code.specs.Layout.{page_bytes}
@@ -17,8 +18,7 @@ exact c =
 pub returns-in_err-judge_lengths : goal.returns-in_err-judge_lengths
 returns-in_err-judge_lengths c =
     let p = err_from_is_err_and c.from_residual.result c.from_residual.ensures.1 in
-    rw (p.1, p.2) (let a = c.args in
-    judged-refused a.p a.page.now _ (judge-lengths a.p a.page.now _ c.in_err-judge_lengths.ensures) c.if-k-ne0.true)
+    rw (p.1, p.2) (judged-refused _ _ _ (judge-lengths _ _ _ c.in_err-judge_lengths.ensures (refusal-ne _)))
 
 pub rows-rows-requires : goal.rows-rows-requires
 rows-rows-requires c = (exact (goal.at.rows-rows-requires c).In_ok-judge_lengths).0

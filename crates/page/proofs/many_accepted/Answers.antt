@@ -22,8 +22,7 @@ lent c =
 pub returns-in_err-many_refusal : goal.returns-in_err-many_refusal
 returns-in_err-many_refusal c =
     let p = err_from_is_err_and c.from_residual.result c.from_residual.ensures.1 in
-    rw (p.1, p.2) (let a = c.args in
-    many-refused a.p a.width a.count a.blocks.now a.pages.now a.list.now _ c.in_err-many_refusal.ensures)
+    rw (p.1, p.2) (many-refused _ _ _ _ _ _ _ c.in_err-many_refusal.ensures)
 
 pub list_pages-requires : goal.list_pages-requires
 list_pages-requires c =

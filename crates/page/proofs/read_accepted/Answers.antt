@@ -1,5 +1,6 @@
+use Rattle.code.proofs.Answers.{refusal-ne}
 use Rattle.std.proofs.lemmas.Result.{err_from_is_err_and}
-use mathlib.Core.Path.{◌≡◌, sym, ◌∙◌}
+use mathlib.Core.Path.{◌≡◌, sym}
 use lib.ListN.{length}
 use Rattle.code.proofs.Answers.{read-refused}
 use Rattle.code.specs.Layout.{data_bytes, page_bytes}
@@ -15,17 +16,16 @@ exact c = lengths-zero c.args.p (length c.args.page.now) (length c.args.blocks.n
 pub returns-in_err-read_lengths : goal.returns-in_err-read_lengths
 returns-in_err-read_lengths c =
     let p = err_from_is_err_and c.from_residual.result c.from_residual.ensures.1 in
-    rw (p.1, p.2) (let a = c.args in
-    read-refused a.p a.page.now a.blocks.now c.read_lengths-k.result
-    (read-lengths a.p a.page.now (length a.blocks.now) _ c.in_err-read_lengths.ensures) c.if-k-ne0.true)
+    rw (p.1, p.2) (read-refused _ _ _ _ (read-lengths _ _ _ _ c.in_err-read_lengths.ensures (refusal-ne _)))
 
-pub judge_exact-r-requires : goal.judge_exact-r-requires
-judge_exact-r-requires c = (c.requires, c.rows-rows.ensures, (exact (goal.at.judge_exact-r-requires c).In_ok-read_lengths).1)
+pub judge_exact-requires : goal.judge_exact-requires
+judge_exact-requires c = (c.requires, c.rows-rows.ensures, (exact (goal.at.judge_exact-requires c).In_ok-read_lengths).1)
 
-pub returns-then-refused : goal.returns-then-refused
-returns-then-refused c =
+pub returns-in_err-verdict : goal.returns-in_err-verdict
+returns-in_err-verdict c =
     let a = c.args in
-    read_kept a.p a.page.now a.blocks.now (exact (goal.at.returns-then-refused c).In_ok-read_lengths).0 c.judge_exact-r.result c.judge_exact-r.ensures (sym c.refused.ensures ∙ c.if-refused.true)
+    let p = err_from_is_err_and c.from_residual-in_err-verdict.result c.from_residual-in_err-verdict.ensures.1 in
+    rw (p.1, p.2) (read_kept a.p a.page.now a.blocks.now (exact (goal.at.returns-in_err-verdict c).In_ok-read_lengths).0 _ c.in_err-verdict.ensures)
 
 pub take_blocks-requires : goal.take_blocks-requires
 take_blocks-requires c = record { accepts = c.requires; degrees = c.degrees-w.ensures; exact = (exact (goal.at.take_blocks-requires c).In_ok-read_lengths).1; room = (exact (goal.at.take_blocks-requires c).In_ok-read_lengths).0 }
@@ -33,4 +33,4 @@ take_blocks-requires c = record { accepts = c.requires; degrees = c.degrees-w.en
 pub returns : goal.returns
 returns c =
     let a = c.args in
-    read-given a.p a.page.now a.blocks.now (exact (goal.at.returns c).In_ok-read_lengths).0 c.judge_exact-r.result c.judge_exact-r.ensures _ (sym c.refused.ensures ∙ c.if-refused.false) c.take_blocks.ensures
+    read-given a.p a.page.now a.blocks.now (exact (goal.at.returns c).In_ok-read_lengths).0 _ _ c.in_ok-verdict.ensures c.take_blocks.ensures

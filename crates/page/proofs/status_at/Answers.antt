@@ -25,5 +25,5 @@ slice_bounds-write_refusal-end c = rw c.data_bytes-size.ensures c.requires.3
 pub returns : goal.returns
 returns c =
     let a = c.args in
-    c.write_refusal.ensures
+    c.number_of.ensures ∙ c.write_refusal-outcome.ensures
     ∙ ap₂ (λ (l : List ℕ) (k : ℕ). write_refusal a.p a.width l k) (lent-part a.blocks.now a.k c.data_bytes-size.result (a.k * c.data_bytes-size.result) (data_bytes a.p) refl c.data_bytes-size.ensures) c.page_bytes-bytes.ensures

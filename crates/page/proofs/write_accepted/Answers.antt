@@ -21,8 +21,7 @@ writable c =
 pub returns-in_err-write_refusal : goal.returns-in_err-write_refusal
 returns-in_err-write_refusal c =
     let p = err_from_is_err_and c.from_residual.result c.from_residual.ensures.1 in
-    rw (p.1, p.2) (let a = c.args in
-    written-refused a.p a.width a.blocks.now a.page.now _ c.in_err-write_refusal.ensures)
+    rw (p.1, p.2) (written-refused _ _ _ _ _ c.in_err-write_refusal.ensures)
 
 pub encode-requires : goal.encode-requires
 encode-requires c =
