@@ -1,6 +1,6 @@
 -- What the call answers, and what it leaves.
-use Rattle.std.specs.Prelude.{◌≡◌, refl, List, [], ◌∷◌, ℕ, ◌+◌, ◌*◌, ◌^◌, ◌≤◌, ◌<◌, leb, length, get_or, take, drop}
-use Rattle.std.proofs.Common.{sym, ap, ap₂, ◌∙◌, suc-le-suc, zero-le, arith, le-leb, length-drop, length-take, get_or-take}
+use Rattle.std.specs.Prelude.{Ok, Err, ◌≡◌, refl, List, [], ◌∷◌, ℕ, ◌+◌, ◌*◌, ◌^◌, ◌≤◌, ◌<◌, leb, length, get_or, take, drop}
+use Rattle.std.proofs.Common.{sym, ap, ap₂, ◌∙◌, zero-le, arith, le-leb, length-drop, length-take, get_or-take}
 use Rattle.std.proofs.Math.Option.{Option, none, some}
 use Rattle.std.proofs.Math.Nat as Nat
 use Rattle.std.proofs.Math.Decide.{ℕ_discrete}
@@ -10,11 +10,12 @@ use Rattle.polynomial.specs.Sums.{all_drop, all_take}
 use Rattle.polynomial.specs.Xor.{xor}
 use Rattle.field.specs.Flips.{Rising, flips}
 use Rattle.locator.specs.Locate.{kept}
-use Rattle.code.specs.declared.Outcome.{Outcome}
+use Rattle.code.specs.declared.Refusal.{Refusal}
+use Rattle.code.specs.Answers.{refusal_number}
 use Rattle.code.specs.declared.Parameters.{Parameters}
 use Rattle.code.specs.Accepted.{Rules}
 use Rattle.code.proofs.Accepted.{accepted}
-use Rattle.code.proofs.Answers.{made-done, made-refused}
+use Rattle.code.proofs.Answers.{made-done, made-refused, refusal-pos}
 use Rattle.code.specs.Calls.{Mended, list_of, places_of}
 use Rattle.code.proofs.Chains.{or-first}
 use Rattle.code.specs.Code.{Flips, nearest}
@@ -86,13 +87,13 @@ module _ (p : Parameters) (x : List ℕ) (i : ℕ) (l : List ℕ) (n : ℕ) wher
   refusal = mend_refusal 1 p x i (length l)
 
   -- refused before the places are looked for
-  pub mend-refused : (k : ℕ) → k ≡ word_refusal p x i p.m (length l) (1 * strength p 0) → (k ≡ 0 → ⊥)
-      → Mended p x x i l l n n (Outcome.Refused k)
-  mend-refused k e h =
-      let f : refusal ≡ k = mend-chain 1 p x i (length l) ∙ or-first (word_refusal p x i p.m (length l) (1 * strength p 0)) _ (Nat.pos_of_ne-zero (λ z. h (e ∙ z))) ∙ sym e in
-      let b = Nat.pos_of_ne-zero h in
+  pub mend-refused : (e : Refusal) → refusal_number e ≡ word_refusal p x i p.m (length l) (1 * strength p 0)
+      → Mended p x x i l l n n (Err e)
+  mend-refused e h =
+      let r = word_refusal p x i p.m (length l) (1 * strength p 0) in
+      let f : refusal_number e ≡ refusal = h ∙ sym (mend-chain 1 p x i (length l) ∙ or-first r _ (rw (← h) (refusal-pos e))) in
       let s = mend-le 1 p x i (length l) in
-      (made-refused refusal k _ x f b s, made-refused refusal k _ l f b s, made-refused refusal k _ (n ∷ []) f b s)
+      (made-refused refusal e _ x f s, made-refused refusal e _ l f s, made-refused refusal e _ (n ∷ []) f s)
 
   module _ (u : Unrefused p x i p.m (length l) (1 * strength p 0)) where
     left : refusal ≡ (15 when nowhere (mending p x i))
@@ -100,15 +101,14 @@ module _ (p : Parameters) (x : List ℕ) (i : ℕ) (l : List ℕ) (n : ℕ) wher
         mend-left 1 p x i (length l) u.accepted
         (record { exact = u.page.exact; clear = u.page.clear; sub_word = u.index; room = u.list })
 
-    pub mend-nowhere : nearest p 0 (get_or (words_of p x) i 0) ≡ none → Mended p x x i l l n n (Outcome.Refused 15)
+    pub mend-nowhere : nearest p 0 (get_or (words_of p x) i 0) ≡ none → Mended p x x i l l n n (Err Refusal.Unmended)
     mend-nowhere e =
-        let f : refusal ≡ 15 = left ∙ ap (λ (o : Option (List ℕ)). 15 when nowhere o) (mending-eq p x i ∙ e) in
+        let f : 15 ≡ refusal = sym (left ∙ ap (λ (o : Option (List ℕ)). 15 when nowhere o) (mending-eq p x i ∙ e)) in
         let s = mend-le 1 p x i (length l) in
-        let b : 0 < 15 = suc-le-suc zero-le in
-        (made-refused refusal 15 _ x f b s, made-refused refusal 15 _ l f b s, made-refused refusal 15 _ (n ∷ []) f b s)
+        (made-refused refusal Refusal.Unmended _ x f s, made-refused refusal Refusal.Unmended _ l f s, made-refused refusal Refusal.Unmended _ (n ∷ []) f s)
 
     pub mend-made : (Q after listed : List ℕ) (counted : ℕ) → nearest p 0 (get_or (words_of p x) i 0) ≡ some Q → after ≡ flipped p x i Q
-        → listed ≡ place_list (strength p 0) Q → counted ≡ length Q → Mended p x after i l listed n counted Outcome.Done
+        → listed ≡ place_list (strength p 0) Q → counted ≡ length Q → Mended p x after i l listed n counted (Ok tt)
     mend-made Q after listed counted e a b c =
         let m : mending p x i ≡ some Q = mending-eq p x i ∙ e in
         let f : refusal ≡ 0 = left ∙ ap (λ (o : Option (List ℕ)). 15 when nowhere o) m in

@@ -20,7 +20,7 @@ ghost use Rattle.refusal.specs.Indexed.{Unrefused};
 ghost use Rattle.mend.specs.Left.{place_at};
 ghost use Rattle.mend.specs.Settled.{Settled};
 
-use code::{Outcome, Parameters};
+use code::{Outcome, Parameters, Refusal};
 use element::Field;
 use tables::{logs4, logs8, logs12, powers4, powers8, powers12};
 use word::level_remainder;

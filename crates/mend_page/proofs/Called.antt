@@ -1,16 +1,17 @@
 -- What the call answers, and the page copied.
-use Rattle.std.specs.Prelude.{◌≡◌, Bool, true, false, not, ◌&&◌, List, ℕ, ◌*◌, ◌%◌, ◌^◌, ◌<◌, T, eqb, length, get_or}
-use Rattle.std.proofs.Common.{sym, ap, ap₂, ◌∙◌, eqb→eq, lit<}
+use Rattle.std.specs.Prelude.{Ok, Err, ◌≡◌, Bool, true, false, not, ◌&&◌, List, ℕ, ◌*◌, ◌%◌, ◌^◌, ◌<◌, T, eqb, length, get_or}
+use Rattle.std.proofs.Common.{sym, ap, ap₂, ◌∙◌, eqb→eq}
 use Rattle.std.proofs.Math.Option.{Option, none, some}
 use Rattle.std.proofs.Math.Nat as Nat
 use Rattle.polynomial.specs.Digits.{digits, digits_value, value}
 use Rattle.kernels.specs.Value.{value-lt}
 use Rattle.polynomial.specs.Sums.{at_all}
-use Rattle.code.specs.declared.Outcome.{Outcome}
+use Rattle.code.specs.declared.Refusal.{Refusal}
+use Rattle.code.specs.Answers.{refusal_number}
 use Rattle.code.specs.declared.Parameters.{Parameters}
 use Rattle.code.specs.Accepted.{Rules}
 use Rattle.code.proofs.Accepted.{accepted}
-use Rattle.code.proofs.Answers.{made-done, made-refused, number-member}
+use Rattle.code.proofs.Answers.{made-done, made-refused, number-member, refusal-ne}
 use Rattle.code.specs.Calls.{PageMended}
 use Rattle.code.proofs.Chains.{true-false}
 use Rattle.code.specs.Code.{failing_number}
@@ -47,23 +48,26 @@ none_found none e = tt
 none_found (some R) e = absurd (true-false (sym e))
 
 module _ (p : Parameters) (x : List ℕ) where
-  pub mended-refused : (k : ℕ) → k ≡ page_refusal p x → (k ≡ 0 → ⊥) → PageMended p x x (Outcome.Refused k)
-  mended-refused k e h = made-refused (mend_page_refusal p x) k _ x (sym (mend-page-first p x k e h)) (Nat.pos_of_ne-zero h) (mend-page-le p x)
+  pub mended-refused : (e : Refusal) → refusal_number e ≡ page_refusal p x → PageMended p x x (Err e)
+  mended-refused e h =
+      made-refused (mend_page_refusal p x) e _ x (mend-page-first p x (refusal_number e) h (refusal-ne e)) (mend-page-le p x)
 
   module _ (A : Accepted p) (h : IsPage p x) where
     R : Rules p
     R = accepted p A
 
-    pub mended-done : (y z : List ℕ) (r : Bool) → r ≡ true → Ends p (mend_page p (words_of p x)) y r → z ≡ y → PageMended p x z Outcome.Done
+    pub mended-done : (y z : List ℕ) (r : Bool) → r ≡ true → Ends p (mend_page p (words_of p x)) y r → z ≡ y → PageMended p x z (Ok tt)
     mended-done y z r t E e =
         let c = page-comes p A x h y E.page (E.words t) in
         made-done (mend_page_refusal p x) _ x z c.0 (e ∙ sym c.1)
 
-    pub mended-nowhere : (y : List ℕ) (r : Bool) → r ≡ false → Ends p (mend_page p (words_of p x)) y r → PageMended p x x (Outcome.Refused 17)
+    pub mended-nowhere : (y : List ℕ) (r : Bool) → r ≡ false → Ends p (mend_page p (words_of p x)) y r → PageMended p x x (Err Refusal.UnmendedPage)
     mended-nowhere y r t E =
-        made-refused (mend_page_refusal p x) 17 _ x ((mend-page-17 p A x h.bytes).1 (h, is-nowhere (mend_page p (words_of p x)) (none_found (mend_page p (words_of p x)) (sym t ∙ E.found)))) (lit< tt) (mend-page-le p x)
+        made-refused (mend_page_refusal p x) Refusal.UnmendedPage _ x
+        (sym ((mend-page-17 p A x h.bytes).1 (h, is-nowhere (mend_page p (words_of p x)) (none_found (mend_page p (words_of p x)) (sym t ∙ E.found)))))
+        (mend-page-le p x)
 
-    pub mended-member : true ≡ (eqb (failing_number p (words_of p x)) 0 && not (blank p x)) → PageMended p x x Outcome.Done
+    pub mended-member : true ≡ (eqb (failing_number p (words_of p x)) 0 && not (blank p x)) → PageMended p x x (Ok tt)
     mended-member e =
         let b = both (eqb (failing_number p (words_of p x)) 0) (not (blank p x)) e in
         let M = (verdict-member p R (words_of p x)).0 (number-member p (words_of p x) (eqb→eq (failing_number p (words_of p x)) 0 b.0)) in

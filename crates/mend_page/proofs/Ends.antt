@@ -45,7 +45,6 @@ member-else p cs r m b N e f =
     says Verdict.Blank n t = absurd t
     says (Verdict.SubWord i) n t = absurd t
     says (Verdict.NestedWord l) n t = absurd t
-    says (Verdict.Refused k) n t = absurd t
 
 -- ---- the end
 pub ends-none : (p : Parameters) (o : Option (List ℕ)) (y : List ℕ) → IsPage p y → o ≡ none → Ends p o y false

@@ -37,4 +37,3 @@ says_member Verdict.Member = true
 says_member Verdict.Blank = false
 says_member (Verdict.SubWord i) = false
 says_member (Verdict.NestedWord l) = false
-says_member (Verdict.Refused k) = false

@@ -11,7 +11,7 @@ ghost use Rattle.code.specs.Parameters.{Accepted};
 ghost use Rattle.mend.specs.Settled.{Lent};
 ghost use Rattle.mend_page.specs.Ends.{Ends, Stands, says_member};
 
-use code::{Outcome, Parameters, Verdict};
+use code::{Outcome, Parameters, Refusal, Verdict};
 use element::Field;
 use tables::{logs4, logs8, logs12, powers4, powers8, powers12};
 
@@ -19,13 +19,7 @@ use tables::{logs4, logs8, logs12, powers4, powers8, powers12};
 fn says_member(r: Verdict) -> bool
     ensures { result ≡ says_member r }
 {
-    match r {
-        Verdict::Member => true,
-        Verdict::Blank => false,
-        Verdict::SubWord(_) => false,
-        Verdict::NestedWord(_) => false,
-        Verdict::Refused(_) => false,
-    }
+    matches!(r, Verdict::Member)
 }
 
 // Is the page a member, and not blank?

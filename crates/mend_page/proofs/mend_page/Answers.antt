@@ -1,6 +1,6 @@
 use Rattle.std.proofs.lemmas.Result.{err_from_is_err_and}
-use Rattle.std.proofs.lemmas.Result.{err_from_is_err_and}
-use mathlib.Core.Path.{sym, ◌∙◌}
+use Rattle.code.proofs.Answers.{refusal-ne}
+use mathlib.Core.Path.{sym}
 use Rattle.refusal.specs.Judging.{page-sheet, page-zero}
 use Rattle.layout.specs.SubWords.{is-page}
 use Rattle.mend_page.proofs.Called.{mended-refused}
@@ -9,17 +9,15 @@ use Rattle.mend_page.proofs.mend_page.Goals as goal
 pub returns-in_err-sheet_refusal : goal.returns-in_err-sheet_refusal
 returns-in_err-sheet_refusal c =
     let p = err_from_is_err_and c.from_residual.result c.from_residual.ensures.1 in
-    rw (p.1, p.2) (let a = c.args in
-    mended-refused a.p a.page.now _ (page-sheet a.p a.page.now _ c.in_err-sheet_refusal.ensures) c.if-k-ne0.true)
+    rw (p.1, p.2) (mended-refused _ _ _ (page-sheet _ _ _ c.in_err-sheet_refusal.ensures (refusal-ne _)))
 
-pub page_refusal-n-requires : goal.page_refusal-n-requires
-page_refusal-n-requires c = sym c.in_ok-sheet_refusal.ensures
+pub page_refusal-requires : goal.page_refusal-requires
+page_refusal-requires c = sym c.in_ok-sheet_refusal.ensures
 
 pub returns-in_err-page_refusal : goal.returns-in_err-page_refusal
 returns-in_err-page_refusal c =
-    let p = err_from_is_err_and c.from_residual.result c.from_residual.ensures.1 in
-    rw (p.1, p.2) (let a = c.args in
-    mended-refused a.p a.page.now _ c.in_err-page_refusal.ensures)
+    let p = err_from_is_err_and c.from_residual-in_err-page_refusal.result c.from_residual-in_err-page_refusal.ensures.1 in
+    rw (p.1, p.2) (mended-refused _ _ _ c.in_err-page_refusal.ensures)
 
 pub mend_exact-requires : goal.mend_exact-requires
 mend_exact-requires c =

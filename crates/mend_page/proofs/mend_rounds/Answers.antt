@@ -3,7 +3,7 @@ use Prim.Native.Nat.{◌≤◌, ◌<◌}
 use native.Mathlib.Omega.{arith}
 use lib.ListN.{length, take}
 use lib.Seq.{length-take-le}
-use Rattle.code.specs.Nest.{round, rounds}
+use Rattle.code.specs.Nest.{rounds}
 use Rattle.mend_page.specs.Ends.{in_work}
 use Rattle.mend_page.proofs.Ends.{turn_end, turn_many, turn-next, turn-stop}
 use Rattle.mend_page.proofs.mend_rounds.Goals as goal
