@@ -3,9 +3,9 @@
 use Rattle.std.specs.Prelude.{◌≡◌, refl, Bool, not, List, ◌⊎◌, ℕ, zero, suc, ◌*◌, ◌<◌, eqb, length}
 use Rattle.std.proofs.Common.{sym, ap, ap₂, ◌∙◌, inl, inr}
 use Rattle.std.proofs.Math.Nat as Nat
-use Rattle.code.specs.declared.Outcome.{Outcome}
+use Rattle.code.specs.Answers.{Outcome, answer_number}
 use Rattle.code.specs.declared.Parameters.{Parameters}
-use Rattle.code.specs.Calls.{AllMade, AllMadeC, as_bytes, as_numbers, leaves, number_at, outcome_number}
+use Rattle.code.specs.Calls.{AllMade, AllMadeC, as_bytes, as_numbers, leaves, number_at}
 use Rattle.code.specs.Code.{all_syndromes}
 use Rattle.code.specs.Lists.{◌or_else◌, ◌when◌}
 use Rattle.code.proofs.Odd.{all-le, all-open, all-zero}
@@ -45,7 +45,7 @@ leaves-same (suc r) xs ys old e = refl
 
 -- ---- the call on the numbers of the bytes `odd` took xs, of the length that the bytes `old` fix, to ys; n is its answer's number
 module _ (p : Parameters) (level : ℕ) (odd old xs ys : List ℕ) (o : Outcome) (n : ℕ)
-    (l : length xs ≡ numbers_in (length old)) (m : AllMade p level (given odd) xs ys o) (f : n ≡ outcome_number o) where
+    (l : length xs ≡ numbers_in (length old)) (m : AllMade p level (given odd) xs ys o) (f : n ≡ answer_number o) where
   number : n ≡ all_refusal 1 p level (length (given odd)) (length xs)
   number = f ∙ m.number
 

@@ -2,9 +2,9 @@
 use Rattle.std.specs.Prelude.{◌≡◌, List, [], ◌∷◌, ℕ, ◌*◌, length}
 use Rattle.std.proofs.Common.{sym, ap, ◌∙◌, zero-le}
 use Rattle.std.proofs.Math.Nat as Nat
-use Rattle.code.specs.declared.Outcome.{Outcome}
+use Rattle.code.specs.Answers.{Outcome, answer_number}
 use Rattle.code.specs.declared.Parameters.{Parameters}
-use Rattle.code.specs.Calls.{Mended, MendedC, as_bytes, leaves, outcome_number, places_of}
+use Rattle.code.specs.Calls.{Mended, MendedC, as_bytes, leaves, places_of}
 use Rattle.code.proofs.Chains.{or-none}
 use Rattle.code.specs.Layout.{flipped, mending, place_list}
 use Rattle.code.specs.Lists.{◌or_else◌, ◌when◌}
@@ -26,7 +26,7 @@ mend-alike p x i k =
 
 -- ---- the call on numbers took xs, of the length that the bytes `old` fix, to ys; r is its answer's number
 module _ (p : Parameters) (x after : List ℕ) (i : ℕ) (old xs ys : List ℕ) (n counted : ℕ) (o : Outcome) (r : ℕ)
-    (l : length xs ≡ numbers_in (length old)) (m : Mended p x after i xs ys n counted o) (f : r ≡ outcome_number o) where
+    (l : length xs ≡ numbers_in (length old)) (m : Mended p x after i xs ys n counted o) (f : r ≡ answer_number o) where
   same : mend_refusal 1 p x i (length xs) ≡ mend_refusal 2 p x i (length old)
   same = ap (mend_refusal 1 p x i) l ∙ mend-alike p x i (length old)
 

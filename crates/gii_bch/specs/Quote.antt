@@ -2,16 +2,16 @@
 use Rattle.std.specs.Prelude.{◌≡◌, List, ℕ, length}
 use Rattle.std.proofs.Common.{sym, ap, ◌∙◌}
 use Rattle.std.proofs.Math.Nat as Nat
-use Rattle.code.specs.declared.Outcome.{Outcome}
+use Rattle.code.specs.Answers.{Outcome, answer_number}
 use Rattle.code.specs.declared.Parameters.{Parameters}
 use Rattle.code.proofs.Answers.{leaves-refused}
-use Rattle.code.specs.Calls.{QuoteMade, QuoteMadeC, as_bytes, leaves, outcome_number, quote}
+use Rattle.code.specs.Calls.{QuoteMade, QuoteMadeC, as_bytes, leaves, quote}
 use Rattle.code.specs.Parameters.{sheet_refusal}
 use Rattle.code.proofs.Quote.{quote-exact, quote-le, quote-none, quote-sheet, quote-ten}
 use Rattle.code.specs.Refusals.{quote_refusal}
 
 -- the call on 12 numbers took xs to ys; n is its answer's number
-module _ (p : Parameters) (xs ys : List ℕ) (o : Outcome) (n : ℕ) (l : length xs ≡ 12) (m : QuoteMade p xs ys o) (f : n ≡ outcome_number o) where
+module _ (p : Parameters) (xs ys : List ℕ) (o : Outcome) (n : ℕ) (l : length xs ≡ 12) (m : QuoteMade p xs ys o) (f : n ≡ answer_number o) where
   by-sheet : n ≡ sheet_refusal p
   by-sheet = f ∙ m.number ∙ quote-exact 1 p (length xs) l
 

@@ -1,9 +1,11 @@
 -- Sizes as numbers: 0 stands for a refusal, and is no size.
 --   size_found r    the size of an answer, 0 where it is a refusal
-use Rattle.std.specs.Prelude.{◌≡◌, refl, ℕ, zero, suc, ◌+◌, ◌-◌, ◌*◌, ◌^◌, ◌≤◌, ◌<◌}
+use Rattle.std.specs.Prelude.{Result, Ok, Err, ◌≡◌, refl, ℕ, zero, suc, ◌+◌, ◌-◌, ◌*◌, ◌^◌, ◌≤◌, ◌<◌}
 use Rattle.std.proofs.Common.{ap, ◌∙◌, zero-le, arith, lit<}
 use Rattle.std.proofs.Math.Nat as Nat
 use Rattle.code.specs.declared.Parameters.{Parameters}
+use Rattle.code.specs.declared.Refusal.{Refusal}
+use Rattle.code.specs.Answers.{unless_refused}
 use Rattle.code.proofs.Accepted.{accepted, strength-high}
 use Rattle.code.proofs.Answers.{size-c}
 use Rattle.code.specs.Calls.{SizeC, size_unless}
@@ -13,14 +15,13 @@ use Rattle.code.specs.Parameters.{Accepted, sheet_refusal, strength}
 use Rattle.code.proofs.Theorems.{demand3}
 use Rattle.layout.specs.Parts.{block_room, bytes_high}
 use Rattle.layout.specs.Sizes.{data-low, page-high, stored_low}
-use Rattle.sizes.specs.declared.Size.{Size}
-use Rattle.sizes.specs.Sized.{Sized, size_by}
+use Rattle.sizes.specs.Sized.{Sized}
 
-abbrev pub size_found : Size → ℕ
-size_found (Size.Is x) = x
-size_found (Size.Refused k) = 0
+abbrev pub size_found : Result ℕ Refusal → ℕ
+size_found (Ok x) = x
+size_found (Err e) = 0
 
-found-by : (k x : ℕ) → size_found (size_by k x) ≡ size_unless k x
+found-by : (k x : ℕ) → size_found (unless_refused k x) ≡ size_unless k x
 found-by zero x = refl
 found-by (suc k) x = refl
 
@@ -33,7 +34,7 @@ pub record IsSize (p : Parameters) (x : ℕ) : Type 0 where
   pub low : Accepted p → 0 < x
   pub high : Accepted p → x < 2 ^ 32
 
-module _ (p : Parameters) (x : ℕ) (r : Size) (S : Sized (sheet_refusal p) x r) (I : IsSize p x) where
+module _ (p : Parameters) (x : ℕ) (r : Result ℕ Refusal) (S : Sized (sheet_refusal p) x r) (I : IsSize p x) where
   found-is : size_found r ≡ size_unless (sheet_refusal p) x
   found-is = ap size_found S.answers ∙ found-by (sheet_refusal p) x
 

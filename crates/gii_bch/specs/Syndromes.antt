@@ -10,11 +10,11 @@ use Rattle.std.proofs.Common.{◌∙◌, inl, inr, zero-le, arith}
 use Rattle.std.proofs.Math.Bool.{not}
 use Rattle.std.proofs.Math.Nat as Nat
 use Rattle.std.proofs.Math.Dec.{leb}
-use Rattle.code.specs.declared.Outcome.{Outcome}
+use Rattle.code.specs.Answers.{Outcome, answer_number}
 use Rattle.code.specs.declared.Parameters.{Parameters}
 use Rattle.code.specs.Accepted.{Rules}
 use Rattle.code.proofs.Accepted.{accepted, rising}
-use Rattle.code.specs.Calls.{Made, MadeC, as_bytes, leaves, nested_syndrome_list, outcome_number, syndrome_list}
+use Rattle.code.specs.Calls.{Made, MadeC, as_bytes, leaves, nested_syndrome_list, syndrome_list}
 use Rattle.code.specs.Lists.{◌when◌, ◌or_else◌}
 use Rattle.code.specs.Parameters.{Accepted, strength}
 use Rattle.code.specs.Refusals.{page_refusal, word_refusal}
@@ -88,7 +88,7 @@ leaves_alike (suc r) xs ys zs old e = refl
 
 -- ---- the call on numbers took xs, of the length that the bytes `old` fix, to ys; n is its answer's number
 module _ (nested : Bool) (p : Parameters) (x : List ℕ) (i : ℕ) (old xs ys : List ℕ) (o : Outcome) (n : ℕ)
-    (l : length xs ≡ numbers_in (length old)) (m : ListMade nested p x i xs ys o) (f : n ≡ outcome_number o) where
+    (l : length xs ≡ numbers_in (length old)) (m : ListMade nested p x i xs ys o) (f : n ≡ answer_number o) where
   abbrev e : ℕ
   e = strength p (level_at nested p i)
 

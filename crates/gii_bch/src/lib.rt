@@ -7,7 +7,7 @@ ghost use Rattle.code.specs.Layout.{data_bytes, page_bytes};
 ghost use Rattle.code.specs.Parameters.{sheet};
 
 use crate::all::all_bytes;
-use crate::answers::{outcome_number, size_number, verdict_number};
+use crate::answers::{judgement_number, outcome_number, size_number};
 use crate::mending::mend_bytes;
 use crate::quote::quote_bytes;
 use crate::syndromes::syndrome_bytes;
@@ -201,7 +201,7 @@ pub extern "C" fn gii_judge(
         t3,
         s,
     };
-    verdict_number(page::judge(p, page))
+    judgement_number(page::judge(p, page))
 }
 
 // The blocks of the page, member or not, and judge's answer.
@@ -231,7 +231,7 @@ pub extern "C" fn gii_read_out(
         s,
     };
     let r = page::read_out(p, page, blocks);
-    verdict_number(r)
+    judgement_number(r)
 }
 
 // The syndromes S_1, S_3, .., t_0 of them, of sub-word `index`.
