@@ -5,7 +5,6 @@ use Rattle.std.proofs.Common.{sym, ap, ◌∙◌, arith, length-append, length-t
 use Rattle.std.proofs.Math.Nat as Nat
 use Rattle.std.proofs.Math.Decide.{dec_lt}
 use Rattle.std.proofs.lemmas.List.{length-replicate}
-use Rattle.code.specs.declared.Outcome.{Outcome}
 use Rattle.code.specs.Calls.{outcome}
 use Rattle.code.specs.Writer.{Puts, output_of}
 
@@ -26,11 +25,6 @@ room-filled n k zeros x z e =
 pub room-length : (n k : ℕ) (zeros : List ℕ) → zeros ≡ replicate (suc n) 0 → k ≤ n → length (take k (drop 1 zeros)) ≡ k
 room-length n k zeros z h =
     length-take k (drop 1 zeros) ∙ Nat.min-eq_left (rw z (rw (length-replicate {A = ℕ} n 0) h))
-
--- ---- a refusal that a call answers is above 0
-pub outcome-pos : (r n : ℕ) → Outcome.Refused n ≡ outcome r → 0 < n
-outcome-pos zero n e = let z : ◌≡◌ {A = ℕ} 0 1 = cc in absurd (omega arith)
-outcome-pos (suc r) n e = let f : n ≡ suc r = cc in omega arith
 
 -- ---- the output of a refusal r, 0 for none, and a page x
 module _ (o : List ℕ) (r : ℕ) (x : List ℕ) (is : o ≡ output_of r x) where

@@ -7,8 +7,7 @@
 ghost use Rattle.std.specs.Prelude.{◌≡◌, ◌+◌, ◌*◌, ◌<◌};
 ghost use Rattle.quote.specs.Given.{shortening_read, strength_read, sheet_read};
 
-use code::{Outcome, Parameters};
-use sizes::Size;
+use code::{Parameters, Refusal};
 use std::io;
 use std::io::Write;
 
@@ -103,10 +102,9 @@ fn sheet(rt: &impl Print, p: Parameters) -> io::Result<()> {
     text(rt, b", v")?;
     number(rt, p.v as u64)?;
     text(rt, b", t")?;
-    strength(rt, p.t0)?;
-    strength(rt, p.t1)?;
-    strength(rt, p.t2)?;
-    strength(rt, p.t3)?;
+    for t in [p.t0, p.t1, p.t2, p.t3] {
+        strength(rt, t)?;
+    }
     if p.s != 0 {
         text(rt, b", s")?;
         number(rt, p.s as u64)?;
@@ -114,8 +112,8 @@ fn sheet(rt: &impl Print, p: Parameters) -> io::Result<()> {
     text(rt, b"\n")
 }
 
-fn size(rt: &impl Print, name: &[u8], r: Size, unit: &[u8]) -> io::Result<()> {
-    if let Size::Is(n) = r {
+fn size(rt: &impl Print, name: &[u8], r: Result<usize, Refusal>, unit: &[u8]) -> io::Result<()> {
+    if let Ok(n) = r {
         text(rt, name)?;
         number(rt, n as u64)?;
         text(rt, unit)?;
@@ -123,43 +121,29 @@ fn size(rt: &impl Print, name: &[u8], r: Size, unit: &[u8]) -> io::Result<()> {
     Ok(())
 }
 
-// The number, and the word of the table of refusals.
-fn refused(rt: &impl Print, k: u8) -> io::Result<()> {
+// The number, and the word of the table of refusals: a quote has these alone.
+fn refused(rt: &impl Print, e: Refusal) -> io::Result<()> {
     text(rt, b"refused")?;
-    number(rt, k as u64)?;
-    if k == 1 {
-        text(rt, b": field\n")?;
+    number(rt, e.number() as u64)?;
+    match e {
+        Refusal::Field => text(rt, b": field\n"),
+        Refusal::Shape => text(rt, b": shape\n"),
+        Refusal::Strengths => text(rt, b": strengths\n"),
+        Refusal::Clash => text(rt, b": clash\n"),
+        Refusal::Shortening => text(rt, b": shortening\n"),
+        _ => Ok(()),
     }
-    if k == 2 {
-        text(rt, b": shape\n")?;
-    }
-    if k == 3 {
-        text(rt, b": strengths\n")?;
-    }
-    if k == 4 {
-        text(rt, b": clash\n")?;
-    }
-    if k == 14 {
-        text(rt, b": shortening\n")?;
-    }
-    Ok(())
 }
 
 fn quoted(rt: &impl Print, p: Parameters, list: [u16; 12]) -> io::Result<()> {
     text(rt, b"check bits of each level:")?;
-    shown(rt, list[0])?;
-    shown(rt, list[1])?;
-    shown(rt, list[2])?;
-    shown(rt, list[3])?;
+    for n in &list[..4] {
+        shown(rt, *n)?;
+    }
     text(rt, b"\ndata bits of each block:")?;
-    shown(rt, list[4])?;
-    shown(rt, list[5])?;
-    shown(rt, list[6])?;
-    shown(rt, list[7])?;
-    shown(rt, list[8])?;
-    shown(rt, list[9])?;
-    shown(rt, list[10])?;
-    shown(rt, list[11])?;
+    for n in &list[4..] {
+        shown(rt, *n)?;
+    }
     text(rt, b"\n")?;
     size(rt, b"blocks:", sizes::data_bytes(p), b" bytes\n")?;
     size(rt, b"page:", sizes::page_bytes(p), b" bytes\n")?;
@@ -172,9 +156,8 @@ fn main(rt: HostRuntime) -> io::Result<()> {
     let p = sheet_given(input);
     sheet(&rt, p)?;
     let mut list = [0u16; 12];
-    let r = sizes::quote(p, &mut list);
-    let Outcome::Refused(k) = r else {
-        return quoted(&rt, p, list);
-    };
-    refused(&rt, k)
+    match sizes::quote(p, &mut list) {
+        Ok(()) => quoted(&rt, p, list),
+        Err(e) => refused(&rt, e),
+    }
 }

@@ -1,11 +1,12 @@
 -- What is written of a page: one byte where it is refused, byte 0 and the mended page where it is not.
 --   answer_of p x    of the page x
-use Rattle.std.specs.Prelude.{◌≡◌, refl, ◌⊎◌, List, ◌∷◌, ◌++◌, ℕ, ◌+◌, ◌-◌, ◌≤◌, ◌<◌, length, take, drop, replicate}
+use Rattle.std.specs.Prelude.{Result, Ok, Err, ◌≡◌, refl, ◌⊎◌, List, ◌∷◌, ◌++◌, ℕ, ◌+◌, ◌-◌, ◌≤◌, ◌<◌, length, take, drop, replicate}
 use Rattle.std.proofs.Common.{sym, ap, ◌∙◌, inl, inr, arith}
 use Rattle.std.proofs.Math.Nat as Nat
-use Rattle.code.specs.declared.Outcome.{Outcome}
+use Rattle.code.specs.declared.Refusal.{Refusal}
+use Rattle.code.specs.Answers.{Outcome, answer_number, refusal_number}
 use Rattle.code.specs.declared.Parameters.{Parameters}
-use Rattle.code.specs.Calls.{PageMended, leaves, list_of, outcome_number}
+use Rattle.code.specs.Calls.{PageMended, leaves, list_of}
 use Rattle.code.proofs.Chains.{exact-of, or-none}
 use Rattle.code.specs.Layout.{mended_page, page_bytes}
 use Rattle.code.proofs.Mending.{mend-page-first}
@@ -13,7 +14,8 @@ use Rattle.code.specs.Parameters.{Accepted, sheet_refusal}
 use Rattle.code.specs.Refusals.{mend_page_refusal, page_refusal}
 use Rattle.code.proofs.Refused.{page-links}
 use Rattle.code.specs.Writer.{Puts, Returned, mender, output_of, rest_given, sheet_given}
-use Rattle.given.specs.Output.{outcome-pos, output-done, puts-refused, room-filled}
+use Rattle.given.specs.Output.{output-done, puts-refused, room-filled}
+use Rattle.code.proofs.Answers.{refusal-pos}
 use Rattle.layout.specs.Sizes.{page-high}
 
 abbrev pub answer_of : Parameters → List ℕ → List ℕ
@@ -51,13 +53,13 @@ module _ (input : List ℕ) (p : Parameters) (x : List ℕ) (e : p ≡ sheet_giv
       (s.0, exact-of 6 (length x) (page_bytes p) (or-none _ _ s.1).0)
 
   -- ---- the call's answer
-  none_of : (after : List ℕ) (o : Outcome) → o ≡ Outcome.Done → PageMended p x after o → mend_page_refusal p x ≡ 0
-  none_of after o d M = sym M.number ∙ ap outcome_number d
+  none_of : (after : List ℕ) (o : Outcome) → o ≡ Ok tt → PageMended p x after o → mend_page_refusal p x ≡ 0
+  none_of after o d M = sym M.number ∙ ap answer_number d
 
-  pub page-fits : (after : List ℕ) (o : Outcome) → o ≡ Outcome.Done → PageMended p x after o → length x ≤ 4096
+  pub page-fits : (after : List ℕ) (o : Outcome) → o ≡ Ok tt → PageMended p x after o → length x ≤ 4096
   page-fits after o d M = let s = lengths (none_of after o d M) in omega (arith, s.1, page-high p s.0)
 
-  pub page-done : (after : List ℕ) (o : Outcome) (count : ℕ) (bytes : List ℕ) → o ≡ Outcome.Done → PageMended p x after o → Puts (0 ∷ after) count bytes
+  pub page-done : (after : List ℕ) (o : Outcome) (count : ℕ) (bytes : List ℕ) → o ≡ Ok tt → PageMended p x after o → Puts (0 ∷ after) count bytes
       → Returned input count bytes
   page-done after o count bytes d M w =
       let z = none_of after o d M in
@@ -65,8 +67,7 @@ module _ (input : List ℕ) (p : Parameters) (x : List ℕ) (e : p ≡ sheet_giv
       let same : mender input ≡ 0 ∷ after = output-done (mender input) (mend_page_refusal p x) (list_of (mended_page p x)) answer-is z ∙ ap (λ (t : List ℕ). 0 ∷ t) (sym y) in
       rw same w
 
-  pub page-refused : (n count : ℕ) (after bytes : List ℕ) → PageMended p x after (Outcome.Refused n) → count ≡ 1 → bytes ≡ n ∷ replicate 4096 0
-      → Returned input count bytes
-  page-refused n count after bytes M =
-      puts-refused (mender input) (mend_page_refusal p x) (list_of (mended_page p x)) answer-is n count bytes M.number
-      (outcome-pos (mend_page_refusal p x) n M.answers)
+  pub page-refused : (e : Refusal) (n count : ℕ) (after bytes : List ℕ) → PageMended p x after (Err e) → n ≡ refusal_number e → count ≡ 1
+      → bytes ≡ n ∷ replicate 4096 0 → Returned input count bytes
+  page-refused e n count after bytes M h =
+      puts-refused (mender input) (mend_page_refusal p x) (list_of (mended_page p x)) answer-is n count bytes (h ∙ M.number) (rw h (refusal-pos e))

@@ -7,7 +7,7 @@ ghost use Rattle.std.specs.Prelude.{◌≡◌, ◌∷◌, ◌≤◌, ◌<◌, If
 ghost use Rattle.code.specs.Writer.{Puts, Returned, mender, sheet_given};
 ghost use Rattle.given.specs.Output.{Answered};
 
-use code::{Outcome, Parameters};
+use code::Parameters;
 use given::Output;
 use std::io;
 use std::io::Write;
@@ -19,7 +19,7 @@ fn copy(to: &mut [u8], from: &[u8])
     requires { (length to.old ≡ length from.now) × (length to.old < 8192) }
     ensures { to.new ≡ from.now }
 {
-    kernels::bytes::copy_up(to, from, 0);
+    to.copy_from_slice(from);
 }
 
 // Byte 0 and the page.
@@ -30,10 +30,7 @@ fn page_out(page: &[u8]) -> Output
     let end = 1 + page.len();
     let mut bytes = given::zeros();
     copy(&mut bytes[1..end], page);
-    Output {
-        count: end,
-        bytes: bytes,
-    }
+    Output { count: end, bytes }
 }
 
 // Byte 0 and the mended page, or the refusal's number.
@@ -47,11 +44,10 @@ fn page_mended(input: &[u8], p: Parameters) -> Output
     let mut space = [0u8; 4105];
     let work = &mut space[..n];
     copy(work, page);
-    let outcome = mend_page::mend_page(p, work);
-    let Outcome::Refused(k) = outcome else {
-        return page_out(work);
-    };
-    given::refused(k)
+    match mend_page::mend_page(p, work) {
+        Ok(()) => page_out(work),
+        Err(e) => given::refused(e.number()),
+    }
 }
 
 // ---- writing

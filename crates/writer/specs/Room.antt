@@ -1,15 +1,17 @@
 -- The output's bytes where write was lent those from 1 on, as many as the page has.
 --   Asked input p L at k zeros    what the program holds where it asks write
-use Rattle.std.specs.Prelude.{◌≡◌, refl, List, ◌∷◌, ◌++◌, ℕ, ◌+◌, ◌-◌, ◌≤◌, length, take, drop, replicate}
+use Rattle.std.specs.Prelude.{Result, Ok, Err, ◌≡◌, refl, List, ◌∷◌, ◌++◌, ℕ, ◌+◌, ◌-◌, ◌≤◌, length, take, drop, replicate}
 use Rattle.std.proofs.Common.{sym, ap, ◌∙◌, arith}
-use Rattle.code.specs.declared.Outcome.{Outcome}
+use Rattle.code.specs.declared.Refusal.{Refusal}
+use Rattle.code.specs.Answers.{refusal_number}
 use Rattle.code.specs.declared.Parameters.{Parameters}
 use Rattle.code.specs.Calls.{Written, leaves}
 use Rattle.code.specs.Layout.{page_bytes, page_of}
 use Rattle.code.specs.Refusals.{write_refusal}
 use Rattle.code.specs.Writer.{Wrote, lead, rest_given, sheet_given, writer}
 use Rattle.given.specs.Input.{Begins, rest-lent}
-use Rattle.given.specs.Output.{outcome-pos, puts-done, room-filled, room-length}
+use Rattle.given.specs.Output.{puts-done, room-filled, room-length}
+use Rattle.code.proofs.Answers.{refusal-pos}
 use Rattle.writer.specs.Output.{page_given, refusal_of, writer-eq, wrote-refused}
 
 -- ---- write's answer
@@ -43,12 +45,12 @@ module _ (input : List ℕ) (p : Parameters) (L at k : ℕ) (zeros : List ℕ) (
   refusal_is : write_refusal p L given (length lent) ≡ refusal_of input
   refusal_is = rw (given_is, lent_length, a.width, a.sheet) refl
 
-  pub page-refused : (n count : ℕ) (after bytes : List ℕ) → Written p L given lent after (Outcome.Refused n) → count ≡ 1
+  pub page-refused : (e : Refusal) (n count : ℕ) (after bytes : List ℕ) → Written p L given lent after (Err e) → n ≡ refusal_number e → count ≡ 1
       → bytes ≡ n ∷ replicate 4096 0 → Wrote input count bytes
-  page-refused n count after bytes w f g =
-      wrote-refused input n count bytes (w.number ∙ refusal_is) (outcome-pos (write_refusal p L given (length lent)) n w.answers) f g
+  page-refused e n count after bytes w h f g =
+      wrote-refused input n count bytes (h ∙ w.number ∙ refusal_is) (rw h (refusal-pos e)) f g
 
-  pub page-done : (after : List ℕ) → Written p L given lent after Outcome.Done → length after ≡ length lent
+  pub page-done : (after : List ℕ) → Written p L given lent after (Ok tt) → length after ≡ length lent
       → Wrote input (1 + k) (take 1 zeros ++ (after ++ drop (1 + k - 1) (drop 1 zeros)))
   page-done after w l =
       let z : 0 ≡ write_refusal p L given (length lent) = w.number in

@@ -4,26 +4,16 @@
 #![tactic(auto)]
 
 ghost use Rattle.std.specs.Prelude.{◌≡◌, ◌≤◌, IfOk, length};
-ghost use Rattle.code.specs.Parameters.{tested_number, Accepted};
+ghost use Rattle.code.specs.Parameters.{Accepted};
 ghost use Rattle.code.specs.Writer.{Wrote, sheet_given, writer};
 ghost use Rattle.given.specs.Output.{Answered};
 
-use code::{Outcome, Parameters, Tested};
+use code::Parameters;
 use given::Output;
 use std::io;
 use std::io::Write;
 
 // ---- the output
-
-// The number of the test's answer.
-fn tested_number(r: Tested) -> u8
-    ensures { result ≡ tested_number r }
-{
-    match r {
-        Tested::Accepted { .. } => 0,
-        Tested::Refused(k) => k,
-    }
-}
 
 // Byte 0 and the page, or the number of write's refusal, of accepted parameters.
 fn page_written(input: &[u8], p: Parameters) -> Output
@@ -35,14 +25,10 @@ fn page_written(input: &[u8], p: Parameters) -> Output
     let blocks = &input[at..];
     let end = 1 + layout::page_bytes(p);
     let mut bytes = given::zeros();
-    let outcome = page::write(p, width, blocks, &mut bytes[1..end]);
-    let Outcome::Refused(k) = outcome else {
-        return Output {
-            count: end,
-            bytes: bytes,
-        };
-    };
-    given::refused(k)
+    match page::write(p, width, blocks, &mut bytes[1..end]) {
+        Ok(()) => Output { count: end, bytes },
+        Err(e) => given::refused(e.number()),
+    }
 }
 
 // ---- writing
@@ -65,32 +51,10 @@ fn respond(rt: &impl Print, room: &[u8], got: usize) -> io::Result<Output>
 {
     let input = &room[..got];
     let p = given::sheet_given(input);
-    let tested = sheet::test(p);
-    let Tested::Accepted {
-        q,
-        m,
-        v,
-        t0,
-        t1,
-        t2,
-        t3,
-        s,
-    } = tested
-    else {
-        let k = tested_number(tested);
-        return put(rt, room, got, given::refused(k));
-    };
-    let accepted = Parameters {
-        q: q,
-        m: m,
-        v: v,
-        t0: t0,
-        t1: t1,
-        t2: t2,
-        t3: t3,
-        s: s,
-    };
-    put(rt, room, got, page_written(input, accepted))
+    match sheet::test(p) {
+        Ok(accepted) => put(rt, room, got, page_written(input, accepted)),
+        Err(e) => put(rt, room, got, given::refused(e.number())),
+    }
 }
 
 fn main(rt: HostRuntime) -> io::Result<()> {

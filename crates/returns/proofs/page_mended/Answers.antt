@@ -1,4 +1,4 @@
-use mathlib.Core.Path.{◌≡◌, sym, ap, ◌∙◌}
+use mathlib.Core.Path.{◌≡◌, refl, sym, ap, ◌∙◌}
 use native.Mathlib.Omega.{arith}
 use Prim.Native.Nat.{◌-◌, ◌≤◌}
 use lib.ListN.{length, take, drop}
@@ -28,17 +28,17 @@ copy-requires c =
 pub page_out-requires : goal.page_out-requires
 page_out-requires c =
     let same : c.copy.new.to ≡ rest_given c.args.input.now = c.copy.ensures ∙ is (goal.at.page_out-requires c).After-rest_begins-at in
-    let fits : length c.copy.new.to ≤ 4096 = page-fits c.args.input.now c.args.p c.copy.new.to c.requires.0 (same) c.mend_page-outcome.new.page c.mend_page-outcome.result c.in_default.is c.mend_page-outcome.ensures in
+    let fits : length c.copy.new.to ≤ 4096 = page-fits c.args.input.now c.args.p c.copy.new.to c.requires.0 (same) c.mend_page.new.page _ refl c.in-Ok.ensures in
     omega (arith, ap length c.copy.ensures)
 
-pub returns-in_default : goal.returns-in_default
-returns-in_default c =
-    let same : c.copy.new.to ≡ rest_given c.args.input.now = c.copy.ensures ∙ is (goal.at.returns-in_default c).After-rest_begins-at in
-    page-done c.args.input.now c.args.p c.copy.new.to c.requires.0 (same) c.mend_page-outcome.new.page c.mend_page-outcome.result
-    c.page_out.result.count c.page_out.result.bytes c.in_default.is c.mend_page-outcome.ensures c.page_out.ensures
+pub returns-in-Ok : goal.returns-in-Ok
+returns-in-Ok c =
+    let same : c.copy.new.to ≡ rest_given c.args.input.now = c.copy.ensures ∙ is (goal.at.returns-in-Ok c).After-rest_begins-at in
+    page-done c.args.input.now c.args.p c.copy.new.to c.requires.0 (same) c.mend_page.new.page _
+    c.page_out.result.count c.page_out.result.bytes refl c.in-Ok.ensures c.page_out.ensures
 
-pub returns : goal.returns
-returns c =
-    let same : c.copy.new.to ≡ rest_given c.args.input.now = c.copy.ensures ∙ is (goal.at.returns c).After-rest_begins-at in
-    page-refused c.args.input.now c.args.p c.copy.new.to c.requires.0 (same) _ c.refused.result.count c.mend_page-outcome.new.page c.refused.result.bytes
-    (rw c.in-Refused.is at c.mend_page-outcome.ensures) c.refused.ensures.0 c.refused.ensures.1
+pub returns-in-Err : goal.returns-in-Err
+returns-in-Err c =
+    let same : c.copy.new.to ≡ rest_given c.args.input.now = c.copy.ensures ∙ is (goal.at.returns-in-Err c).After-rest_begins-at in
+    page-refused c.args.input.now c.args.p c.copy.new.to c.requires.0 (same) _ _ c.refused.result.count c.mend_page.new.page c.refused.result.bytes
+    c.in-Err.ensures c.number.ensures c.refused.ensures.0 c.refused.ensures.1

@@ -26,12 +26,12 @@ overflow_add-end c = omega (arith, c.page_bytes-end.ensures, page-high c.args.p 
 pub slice_bounds-bytes-end : goal.slice_bounds-bytes-end
 slice_bounds-bytes-end c = omega (arith, c.page_bytes-end.ensures, page-high c.args.p c.requires.1, ap length c.zeros-bytes.ensures ∙ length-replicate {A = ℕ} 4097 0)
 
-pub returns-in_default : goal.returns-in_default
-returns-in_default c =
-    page-done c.args.input.now c.args.p c.lead-width.result c.rest_begins-at.result c.page_bytes-end.result c.zeros-bytes.result (asked (goal.at.returns-in_default c).After-zeros-bytes)
-    c.write-outcome.new.page (rw c.in_default.is at c.write-outcome.ensures) (search rules)
+pub returns-in-Ok : goal.returns-in-Ok
+returns-in-Ok c =
+    page-done c.args.input.now c.args.p c.lead-width.result c.rest_begins-at.result c.page_bytes-end.result c.zeros-bytes.result (asked (goal.at.returns-in-Ok c).After-zeros-bytes)
+    c.write.new.page c.in-Ok.ensures (search rules)
 
-pub returns : goal.returns
-returns c =
-    page-refused c.args.input.now c.args.p c.lead-width.result c.rest_begins-at.result c.page_bytes-end.result c.zeros-bytes.result (asked (goal.at.returns c).After-zeros-bytes)
-    _ c.refused.result.count c.write-outcome.new.page c.refused.result.bytes (rw c.in-Refused.is at c.write-outcome.ensures) c.refused.ensures.0 c.refused.ensures.1
+pub returns-in-Err : goal.returns-in-Err
+returns-in-Err c =
+    page-refused c.args.input.now c.args.p c.lead-width.result c.rest_begins-at.result c.page_bytes-end.result c.zeros-bytes.result (asked (goal.at.returns-in-Err c).After-zeros-bytes)
+    _ _ c.refused.result.count c.write.new.page c.refused.result.bytes c.in-Err.ensures c.number.ensures c.refused.ensures.0 c.refused.ensures.1
