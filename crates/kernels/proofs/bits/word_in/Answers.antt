@@ -6,4 +6,4 @@ use Rattle.kernels.proofs.bits.word_in.Goals as goal
 pub returns : goal.returns
 returns c =
     let a = c.args in
-    c.eight_in.ensures ∙ eight_is a.s.now (λ k. (c.type_inv.s k).fits) a.at
+    c.from_le_bytes.ensures ∙ eight_is a.s.now (λ k. (c.type_inv.s k).fits) a.at
