@@ -2,6 +2,8 @@
 ghost use Rattle.std.specs.Prelude.{◌≡◌, ◌+◌, ◌*◌, ◌/◌, ◌%◌, ◌^◌, ◌≤◌, ◌<◌, length, get_or};
 ghost use Rattle.polynomial.specs.Digits.{value};
 
+use std::array;
+
 // The byte at `at`, 0 past the end.
 fn byte_at(s: &[u8], at: usize) -> u8
     ensures { result ≡ get_or s.now at 0 }
@@ -14,16 +16,7 @@ pub fn word_in(s: &[u8], at: usize) -> u64
     requires { at + 8 ≤ length s.now }
     ensures { result ≡ value 8 s.now / 2 ^ (8 * at) % 2 ^ 64 }
 {
-    u64::from_le_bytes([
-        s[at],
-        s[at + 1],
-        s[at + 2],
-        s[at + 3],
-        s[at + 4],
-        s[at + 5],
-        s[at + 6],
-        s[at + 7],
-    ])
+    u64::from_le_bytes(s[at..at + 8].try_into().unwrap())
 }
 
 // The 8 bytes at `at`, 0 past the end, as a word.
@@ -34,16 +27,7 @@ fn word_at(s: &[u8], at: usize) -> u64
     if at + 8 <= s.len() {
         word_in(s, at)
     } else {
-        u64::from_le_bytes([
-            byte_at(s, at),
-            byte_at(s, at + 1),
-            byte_at(s, at + 2),
-            byte_at(s, at + 3),
-            byte_at(s, at + 4),
-            byte_at(s, at + 5),
-            byte_at(s, at + 6),
-            byte_at(s, at + 7),
-        ])
+        u64::from_le_bytes(array::from_fn(|i| byte_at(s, at + i)))
     }
 }
 
