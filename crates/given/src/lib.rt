@@ -36,24 +36,17 @@ pub fn read_full<R: Read>(input: &mut R, buf: &mut [u8]) -> io::Result<usize>
 pub fn lead(input: &[u8], k: usize) -> u32
     ensures { result ≡ lead input.now k }
 {
-    if k < input.len() {
-        return input[k] as u32;
-    }
-    0
+    input.get(k).map_or(0, |b| u32::from(*b))
 }
 
 // How many strengths there are: v + 1 if v is 1 to 3, else none.
 fn strengths_given(input: &[u8]) -> usize
     ensures { result ≡ strengths_given input.now }
 {
-    let v = lead(input, 2) as usize;
-    if v < 1 {
-        return 0;
+    match lead(input, 2) {
+        v @ 1..=3 => v as usize + 1,
+        _ => 0,
     }
-    if 3 < v {
-        return 0;
-    }
-    v + 1
 }
 
 // t_a, 0 where there is none.
@@ -61,10 +54,7 @@ fn strength_given(input: &[u8], a: usize) -> u32
     ensures { result ≡ strength_given input.now a }
 {
     let many = strengths_given(input);
-    if a < many {
-        return lead(input, 4 + a);
-    }
-    0
+    if a < many { lead(input, 4 + a) } else { 0 }
 }
 
 // The parameters. No sub-word is shortened: s is 0.
@@ -88,11 +78,7 @@ pub fn rest_begins(input: &[u8]) -> usize
     ensures { Begins input.now result }
 {
     let many = strengths_given(input);
-    let at = 4 + many;
-    if at < input.len() {
-        return at;
-    }
-    input.len()
+    input.len().min(4 + many)
 }
 
 // ---- the output
@@ -108,17 +94,14 @@ pub struct Output {
 pub fn zeros() -> [u8; 4097]
     ensures { result ≡ replicate 4097 0 }
 {
-    [0u8; 4097]
+    [0; 4097]
 }
 
 // One byte, the number.
 pub fn refused(k: u8) -> Output
     ensures { (result.count ≡ 1) × (result.bytes ≡ k ∷ replicate 4096 0) }
 {
-    let mut bytes = [0u8; 4097];
+    let mut bytes = [0; 4097];
     bytes[0] = k;
-    Output {
-        count: 1,
-        bytes: bytes,
-    }
+    Output { count: 1, bytes }
 }

@@ -1,52 +1,14 @@
 // Bits read out of bytes.
 ghost use Rattle.std.specs.Prelude.{◌≡◌, ◌+◌, ◌*◌, ◌/◌, ◌%◌, ◌^◌, ◌≤◌, ◌<◌, length, get_or};
 ghost use Rattle.polynomial.specs.Digits.{value};
-ghost use Rattle.kernels.specs.Bytes.{eight};
 
-fn wide(x: u8) -> u64
-    ensures { (result ≡ x) × (result < 256) }
-{
-    x as u64
-}
-
-// The 8 bytes at `at`, added up.
-fn eight_in(s: &[u8], at: usize) -> u64
-    requires { at + 8 ≤ length s.now }
-    ensures { result ≡ eight s.now at }
-{
-    wide(s[at])
-        + wide(s[at + 1]) * 256
-        + wide(s[at + 2]) * 65536
-        + wide(s[at + 3]) * 16777216
-        + wide(s[at + 4]) * 4294967296
-        + wide(s[at + 5]) * 1099511627776
-        + wide(s[at + 6]) * 281474976710656
-        + wide(s[at + 7]) * 72057594037927936
-}
+use std::array;
 
 // The byte at `at`, 0 past the end.
-fn byte_at(s: &[u8], at: usize) -> u64
-    ensures { (result ≡ get_or s.now at 0) × (result < 256) }
+fn byte_at(s: &[u8], at: usize) -> u8
+    ensures { result ≡ get_or s.now at 0 }
 {
-    if at < s.len() { wide(s[at]) } else { 0 }
-}
-
-// The 8 bytes at `at`, 0 past the end, added up.
-fn eight_at(s: &[u8], at: usize) -> u64
-    requires { at < 1000000 }
-    ensures { result ≡ eight s.now at }
-{
-    if at + 8 <= s.len() {
-        return eight_in(s, at);
-    }
-    byte_at(s, at)
-        + byte_at(s, at + 1) * 256
-        + byte_at(s, at + 2) * 65536
-        + byte_at(s, at + 3) * 16777216
-        + byte_at(s, at + 4) * 4294967296
-        + byte_at(s, at + 5) * 1099511627776
-        + byte_at(s, at + 6) * 281474976710656
-        + byte_at(s, at + 7) * 72057594037927936
+    s.get(at).copied().unwrap_or(0)
 }
 
 // The word at byte `at`.
@@ -54,7 +16,19 @@ pub fn word_in(s: &[u8], at: usize) -> u64
     requires { at + 8 ≤ length s.now }
     ensures { result ≡ value 8 s.now / 2 ^ (8 * at) % 2 ^ 64 }
 {
-    eight_in(s, at)
+    u64::from_le_bytes(s[at..at + 8].try_into().unwrap())
+}
+
+// The 8 bytes at `at`, 0 past the end, as a word.
+fn word_at(s: &[u8], at: usize) -> u64
+    requires { at < 1000000 }
+    ensures { result ≡ value 8 s.now / 2 ^ (8 * at) % 2 ^ 64 }
+{
+    if at + 8 <= s.len() {
+        word_in(s, at)
+    } else {
+        u64::from_le_bytes(array::from_fn(|i| byte_at(s, at + i)))
+    }
 }
 
 // The 64 coefficients from bit sh of byte `at` on, out of two words.
@@ -74,8 +48,8 @@ pub fn bits(s: &[u8], pos: usize, count: usize) -> u64
 {
     let at = pos / 8;
     let sh = pos % 8;
-    let lo = eight_at(s, at);
-    let hi = byte_at(s, at + 8);
+    let lo = word_at(s, at);
+    let hi = u64::from(byte_at(s, at + 8));
     let x = (lo >> sh) + ((hi << 1) << (63 - sh));
     (x << (64 - count)) >> (64 - count)
 }
@@ -90,8 +64,8 @@ pub fn bits_up(s: &[u8], up: usize, pos: usize, count: usize) -> u64
     }
     let d = up - pos;
     if d < count {
-        let low = bits(s, 0, count - d);
-        return low << d;
+        bits(s, 0, count - d) << d
+    } else {
+        0
     }
-    0
 }

@@ -12,14 +12,7 @@ pub fn put_word(dst: &mut [u8], at: usize, v: u64)
     requires { at + 8 ≤ length dst.old }
     ensures { dst.new ≡ take at dst.old ++ digits 8 8 v ++ drop (at + 8) dst.old }
 {
-    dst[at] = (v % 256) as u8;
-    dst[at + 1] = (v / 256 % 256) as u8;
-    dst[at + 2] = (v / 65536 % 256) as u8;
-    dst[at + 3] = (v / 16777216 % 256) as u8;
-    dst[at + 4] = (v / 4294967296 % 256) as u8;
-    dst[at + 5] = (v / 1099511627776 % 256) as u8;
-    dst[at + 6] = (v / 281474976710656 % 256) as u8;
-    dst[at + 7] = (v / 72057594037927936 % 256) as u8;
+    dst[at..at + 8].copy_from_slice(&v.to_le_bytes());
 }
 
 // v is added from byte `at` on.
@@ -36,12 +29,9 @@ pub fn add_bytes(acc: &mut [u8], at: usize, v: u64)
     requires { (at ≤ length acc.old) × (v < 2 ^ (8 * (length acc.old - at))) }
     ensures { value 8 acc.new ≡ xor (value 8 acc.old) (v * 2 ^ (8 * at)) }
 {
-    let mut u = v;
-    let mut i = at;
-    while u != 0 {
-        acc[i] = acc[i] ^ (u % 256) as u8;
-        u = u / 256;
-        i += 1;
+    let bytes = v.to_le_bytes();
+    for i in 0..bytes.len().min(acc.len() - at) {
+        acc[at + i] ^= bytes[i];
     }
 }
 
@@ -49,20 +39,7 @@ pub fn add_bytes(acc: &mut [u8], at: usize, v: u64)
 fn words_from(len: usize, at: usize) -> usize
     ensures { 8 * result ≤ len - at }
 {
-    if len < at {
-        return 0;
-    }
-    (len - at) / 8
-}
-
-// The smaller number.
-fn fewer(a: usize, b: usize) -> usize
-    ensures { (result ≤ a) × (result ≤ b) }
-{
-    if a < b {
-        return a;
-    }
-    b
+    len.saturating_sub(at) / 8
 }
 
 // `count` words of x · x^up, from x^pos on, are added from byte `from` on.
@@ -71,11 +48,9 @@ fn add_words(acc: &mut [u8], from: usize, x: &[u8], up: usize, pos: usize, count
     ensures { value 8 acc.new
         ≡ xor (value 8 acc.old) (value 8 x.now * 2 ^ up / 2 ^ pos % 2 ^ (8 * (8 * count)) * 2 ^ (8 * from)) }
 {
-    let mut k: usize = 0;
-    while k < count {
+    for k in 0..count {
         let v = bits_up(x, up, pos + 64 * k, 64);
         add_word(acc, from + 8 * k, v);
-        k += 1;
     }
 }
 
@@ -86,11 +61,9 @@ fn add_windows(acc: &mut [u8], from: usize, x: &[u8], at: usize, sh: usize, coun
     ensures { value 8 acc.new
         ≡ xor (value 8 acc.old) (value 8 x.now / 2 ^ (8 * at + sh) % 2 ^ (8 * (8 * count)) * 2 ^ (8 * from)) }
 {
-    let mut k: usize = 0;
-    while k < count {
+    for k in 0..count {
         let v = window_in(x, at + 8 * k, sh);
         add_word(acc, from + 8 * k, v);
-        k += 1;
     }
 }
 
@@ -103,11 +76,10 @@ fn add_rest(acc: &mut [u8], from: usize, x: &[u8], up: usize, pos: usize)
     let n = acc.len() - from;
     let c = n / 8;
     add_words(acc, from, x, up, pos, c);
-    if n % 8 == 0 {
-        return;
+    if n % 8 != 0 {
+        let v = bits_up(x, up, pos + 64 * c, 8 * (n % 8));
+        add_bytes(acc, from + 8 * c, v);
     }
-    let v = bits_up(x, up, pos + 64 * c, 8 * (n % 8));
-    add_bytes(acc, from + 8 * c, v);
 }
 
 // The `count` lowest words of x are added.
@@ -115,11 +87,9 @@ fn add_in(acc: &mut [u8], x: &[u8], count: usize)
     requires { (8 * count ≤ length acc.old) × (8 * count ≤ length x.now) }
     ensures { value 8 acc.new ≡ xor (value 8 acc.old) (value 8 x.now % 2 ^ (8 * (8 * count))) }
 {
-    let mut k: usize = 0;
-    while k < count {
+    for k in 0..count {
         let v = word_in(x, 8 * k);
         add_word(acc, 8 * k, v);
-        k += 1;
     }
 }
 
@@ -128,16 +98,14 @@ fn add_low(acc: &mut [u8], x: &[u8])
     requires { length acc.old < 8192 }
     ensures { value 8 acc.new ≡ xor (value 8 acc.old) (value 8 x.now % 2 ^ (8 * length acc.old)) }
 {
-    let c = fewer(acc.len() / 8, x.len() / 8);
+    let c = (acc.len() / 8).min(x.len() / 8);
     add_in(acc, x, c);
-    if x.len() < 8 * c + 8 {
-        if 8 * c + 8 <= acc.len() {
-            let v = bits_up(x, 0, 64 * c, 64);
-            add_word(acc, 8 * c, v);
-            return;
-        }
+    if x.len() < 8 * c + 8 && 8 * c + 8 <= acc.len() {
+        let v = bits_up(x, 0, 64 * c, 64);
+        add_word(acc, 8 * c, v);
+    } else {
+        add_rest(acc, 8 * c, x, 0, 64 * c);
     }
-    add_rest(acc, 8 * c, x, 0, 64 * c);
 }
 
 // x moved up by s places is added into acc; what passes acc's end is lost.
@@ -159,7 +127,7 @@ pub fn add_up(acc: &mut [u8], x: &[u8], s: usize)
     }
     let from = 8 * h;
     let at = from - o;
-    let c = fewer(words_from(acc.len(), from), words_from(x.len(), at + 8));
+    let c = words_from(acc.len(), from).min(words_from(x.len(), at + 8));
     add_words(acc, 0, x, s, 0, h);
     add_windows(acc, from, x, at, 8 * o - s, c);
     let end = from + 8 * c;
@@ -172,14 +140,12 @@ pub fn raise(a: &mut [u8], b: &[u8], s: usize)
     ensures { value 8 a.new
         ≡ xor (value 8 a.old * 2 ^ s) (value 8 b.now) % 2 ^ (8 * length a.old) }
 {
-    let mut c: u64 = 0;
-    let mut i: usize = 0;
-    while i < a.len() {
-        let w = word_in(a, i);
-        let x = word_in(b, i);
-        put_word(a, i, ((w << s) + c) ^ x);
+    let mut c = 0;
+    for k in 0..a.len() / 8 {
+        let w = word_in(a, 8 * k);
+        let x = word_in(b, 8 * k);
+        put_word(a, 8 * k, ((w << s) + c) ^ x);
         c = (w >> 1) >> (63 - s);
-        i += 8;
     }
 }
 
@@ -188,11 +154,7 @@ pub fn clear_bytes(acc: &mut [u8], from: usize)
     requires { from ≤ length acc.old }
     ensures { value 8 acc.new ≡ value 8 (take from acc.old) }
 {
-    let mut i = from;
-    while i < acc.len() {
-        acc[i] = 0;
-        i += 1;
-    }
+    acc[from..].fill(0);
 }
 
 // src moved up by w places is copied to dst; what passes dst's end is lost.
@@ -210,7 +172,7 @@ pub fn copy_down(dst: &mut [u8], src: &[u8], w: usize)
     ensures { value 8 dst.new ≡ value 8 src.now / 2 ^ w % 2 ^ (8 * length dst.old) }
 {
     let at = w / 8;
-    let c = fewer(dst.len() / 8, words_from(src.len(), at + 8));
+    let c = (dst.len() / 8).min(words_from(src.len(), at + 8));
     clear_bytes(dst, 0);
     add_windows(dst, 0, src, at, w % 8, c);
     add_rest(dst, 8 * c, src, 0, w + 64 * c);
@@ -222,10 +184,8 @@ pub fn store_low(dst: &mut [u8], r: &[u64], w: usize)
     ensures { value 8 dst.new ≡ value 8 dst.old + value 64 r.now }
 {
     let n = w / 64;
-    let mut k: usize = 0;
-    while k < n {
+    for k in 0..n {
         add_word(dst, 8 * k, r[k]);
-        k += 1;
     }
     if w % 64 != 0 {
         add_bytes(dst, 8 * n, r[n]);
@@ -237,10 +197,8 @@ pub fn store(dst: &mut [u8], r: &[u64])
     requires { (length dst.old ≡ 96) × (length r.now ≡ 13) × (value 64 r.now < 2 ^ D) }
     ensures { dst.new ≡ digits 8 96 (value 64 r.now) }
 {
-    let mut k: usize = 0;
-    while k < 12 {
+    for k in 0..12 {
         put_word(dst, 8 * k, r[k]);
-        k += 1;
     }
 }
 
@@ -250,7 +208,7 @@ fn clear_from(acc: &mut [u8], n: usize)
     ensures { value 8 acc.new ≡ value 8 acc.old % 2 ^ n }
 {
     let k = n / 8;
-    acc[k] = acc[k] % 128;
+    acc[k] %= 128;
     clear_bytes(acc, k + 1);
 }
 

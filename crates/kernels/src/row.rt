@@ -4,18 +4,16 @@ ghost use Rattle.polynomial.specs.Digits.{value};
 ghost use Rattle.polynomial.specs.Division.{deg};
 ghost use Rattle.polynomial.specs.Xor.{xor};
 
+use std::mem;
+
 // r is moved up by a whole word.
 fn shift_word(r: &mut [u64])
     requires { (length r.old ≡ 13) × (get_or r.old 12 0 ≡ 0) }
     ensures { value 64 r.new ≡ value 64 r.old * 2 ^ 64 }
 {
-    let mut c: u64 = 0;
-    let mut i: usize = 0;
-    while i < 12 {
-        let w = r[i];
-        r[i] = c;
-        c = w;
-        i += 1;
+    let mut c = 0;
+    for i in 0..12 {
+        c = mem::replace(&mut r[i], c);
     }
     r[12] = c;
 }
@@ -29,13 +27,11 @@ pub fn shift(r: &mut [u64], l: usize)
         shift_word(r);
         return;
     }
-    let mut c: u64 = 0;
-    let mut i: usize = 0;
-    while i < 12 {
+    let mut c = 0;
+    for i in 0..12 {
         let w = r[i];
         r[i] = (w << l) + c;
         c = w >> (64 - l);
-        i += 1;
     }
     r[12] = c;
 }
@@ -47,8 +43,8 @@ pub fn insert(r: &mut [u64], u: u64, p: usize)
 {
     let q = p / 64;
     let s = p % 64;
-    r[q] = r[q] ^ (u << s);
-    r[q + 1] = r[q + 1] ^ ((u >> 1) >> (63 - s));
+    r[q] ^= u << s;
+    r[q + 1] ^= (u >> 1) >> (63 - s);
 }
 
 // g is added into e.
@@ -56,10 +52,8 @@ pub fn add(e: &mut [u64], g: &[u64])
     requires { (length e.old ≡ 13) × (length g.now ≡ 13) }
     ensures { value 64 e.new ≡ xor (value 64 e.old) (value 64 g.now) }
 {
-    let mut j: usize = 0;
-    while j < 13 {
-        e[j] = e[j] ^ g[j];
-        j += 1;
+    for j in 0..13 {
+        e[j] ^= g[j];
     }
 }
 
@@ -67,18 +61,14 @@ pub fn add(e: &mut [u64], g: &[u64])
 pub fn clear(r: &mut [u64])
     ensures { value 64 r.new ≡ 0 }
 {
-    let mut i: usize = 0;
-    while i < r.len() {
-        r[i] = 0;
-        i += 1;
-    }
+    r.fill(0);
 }
 
 // The word at `at`, 0 past the end.
 fn word_at(g: &[u64], at: usize) -> u64
     ensures { result ≡ get_or g.now at 0 }
 {
-    if at < g.len() { g[at] } else { 0 }
+    g.get(at).copied().unwrap_or(0)
 }
 
 // The 64 coefficients from x^pos on.
@@ -102,10 +92,7 @@ fn window_up(g: &[u64], up: usize, pos: usize) -> u64
         return window(g, pos - up);
     }
     let d = up - pos;
-    if d < 64 {
-        return word_at(g, 0) << d;
-    }
-    0
+    if d < 64 { word_at(g, 0) << d } else { 0 }
 }
 
 // g, of degree w at most, is moved up in r so that x^w stands at x^768.
@@ -114,10 +101,8 @@ pub fn align(r: &mut [u64], g: &[u64], w: usize)
     ensures { value 64 r.new ≡ value 64 g.now * 2 ^ (768 - w) }
 {
     let s = 768 - w;
-    let mut i: usize = 0;
-    while i < 13 {
-        r[i] = window_up(g, s, 64 * i);
-        i += 1;
+    for (i, w) in r.iter_mut().enumerate() {
+        *w = window_up(g, s, 64 * i);
     }
 }
 
@@ -126,11 +111,8 @@ pub fn lower(r: &mut [u64], s: usize)
     requires { (length r.old ≡ 13) × (s ≤ 768) }
     ensures { value 64 r.new ≡ value 64 r.old / 2 ^ s }
 {
-    let mut i: usize = 0;
-    while i < 13 {
-        let v = window(r, s + 64 * i);
-        r[i] = v;
-        i += 1;
+    for i in 0..13 {
+        r[i] = window(r, s + 64 * i);
     }
 }
 
@@ -139,23 +121,13 @@ pub fn degree_of(r: &[u64]) -> usize
     requires { (length r.now ≡ 13) × (0 < value 64 r.now) }
     ensures { result ≡ deg (value 64 r.now) }
 {
-    let mut i: usize = 12;
-    while r[i] == 0 {
-        i = i - 1;
-    }
-    64 * i + (63 - u64::leading_zeros(r[i]) as usize)
+    let i = r.iter().rposition(|w| *w != 0).unwrap();
+    64 * i + r[i].ilog2() as usize
 }
 
 // Is r the polynomial 0?
 pub fn is_zero(r: &[u64]) -> bool
     ensures { result ≡ eqb (value 64 r.now) 0 }
 {
-    let mut i: usize = 0;
-    while i < r.len() {
-        if r[i] != 0 {
-            return false;
-        }
-        i += 1;
-    }
-    true
+    r.iter().all(|w| *w == 0)
 }

@@ -19,11 +19,9 @@ fn sum_into(acc: &mut [u8], p: Parameters, page: &[u8], l: usize)
 {
     let first = sub_word(p, page, 0);
     kernels::bytes::copy_up(acc, first, 0);
-    let mut i: usize = 1;
-    while i < p.m as usize {
+    for i in 1..p.m as usize {
         let x = sub_word(p, page, i);
         kernels::bytes::add_up(acc, x, l * i);
-        i += 1;
     }
 }
 

@@ -10,13 +10,11 @@ ghost use Rattle.numbers.specs.List.{first_numbers, numbers_in};
 pub fn numbers_in(bytes: usize) -> usize
     ensures { result ≡ numbers_in bytes }
 {
-    if 256 < bytes {
-        return 0;
+    if bytes <= 256 && bytes % 2 == 0 {
+        bytes / 2
+    } else {
+        0
     }
-    if bytes % 2 != 0 {
-        return 0;
-    }
-    bytes / 2
 }
 
 // The two bytes at `at` are set to x.
@@ -24,8 +22,7 @@ fn put(list: &mut [u8], at: usize, x: u16)
     requires { at + 2 ≤ length list.old }
     ensures { list.new ≡ take at list.old ++ digits 8 2 x ++ drop (at + 2) list.old }
 {
-    list[at] = (x % 256) as u8;
-    list[at + 1] = (x / 256 % 256) as u8;
+    list[at..at + 2].copy_from_slice(&x.to_le_bytes());
 }
 
 // The numbers, as bytes.
@@ -33,10 +30,8 @@ pub fn store(list: &mut [u8], numbers: &[u16])
     requires { length list.old ≡ 2 * length numbers.now }
     ensures { list.new ≡ as_bytes numbers.now }
 {
-    let mut i: usize = 0;
-    while i < numbers.len() {
-        put(list, 2 * i, numbers[i]);
-        i += 1;
+    for (i, x) in numbers.iter().enumerate() {
+        put(list, 2 * i, *x);
     }
 }
 
@@ -45,10 +40,9 @@ pub fn store_when(n: u32, list: &mut [u8], numbers: &[u16])
     requires { n ≡ 0 → length list.old ≡ 2 * length numbers.now }
     ensures { list.new ≡ leaves n (as_bytes numbers.now) list.old }
 {
-    if n != 0 {
-        return;
+    if n == 0 {
+        store(list, numbers);
     }
-    store(list, numbers);
 }
 
 // Number k of the bytes.
@@ -56,9 +50,7 @@ fn number_at(bytes: &[u8], k: usize) -> u16
     requires { 2 * k + 2 ≤ length bytes.now }
     ensures { result ≡ number_at bytes.now k }
 {
-    let low = bytes[2 * k] as u16;
-    let high = bytes[2 * k + 1] as u16;
-    high * 256 + low
+    u16::from_le_bytes([bytes[2 * k], bytes[2 * k + 1]])
 }
 
 // The numbers of the bytes, as many as the list takes.
@@ -66,10 +58,8 @@ pub fn load(numbers: &mut [u16], bytes: &[u8])
     requires { 2 * length numbers.old ≤ length bytes.now }
     ensures { numbers.new ≡ first_numbers (length numbers.old) bytes.now }
 {
-    let mut i: usize = 0;
-    while i < numbers.len() {
-        numbers[i] = number_at(bytes, i);
-        i += 1;
+    for (i, x) in numbers.iter_mut().enumerate() {
+        *x = number_at(bytes, i);
     }
 }
 
@@ -79,8 +69,9 @@ pub fn note(list: &mut [u16], b: usize, i: u16, out: bool) -> usize
     ensures { (result ≤ b + 1) × (take result list.new ≡ take b list.old ++ cond out [] (i ∷ [])) }
 {
     if out {
-        return b;
+        b
+    } else {
+        list[b] = i;
+        b + 1
     }
-    list[b] = i;
-    b + 1
 }

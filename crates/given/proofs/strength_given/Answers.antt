@@ -10,7 +10,7 @@ returns-then-a-many c =
     let a = c.args in
     strength-there a.input.now a.a c.strengths_given-many.result c.lead.result c.strengths_given-many.ensures c.if-a-many.true c.lead.ensures
 
-pub returns : goal.returns
-returns c =
+pub returns-else-a-many : goal.returns-else-a-many
+returns-else-a-many c =
     let a = c.args in
     strength-past a.input.now a.a c.strengths_given-many.result c.strengths_given-many.ensures c.if-a-many.false

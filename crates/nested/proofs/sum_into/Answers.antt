@@ -13,19 +13,16 @@ pub copy_up-requires : goal.copy_up-requires
 copy_up-requires c = omega (arith, c.requires.3, word-high _ c.requires.0)
 
 pub loop-i-init : goal.loop-i-init
-loop-i-init c = (c.copy_up.auto.dst ∙ c.requires.3, turned-first _ c.requires.0 _ _ _ _ _ c.requires.2 (λ i. (c.type_inv.page i).fits) c.requires.1 c.sub_word-first.ensures c.requires.3 c.copy_up.ensures)
+loop-i-init c = turned-first _ c.requires.0 _ _ _ _ _ c.requires.2 (λ i. (c.type_inv.page i).fits) c.requires.1 c.sub_word-first.ensures c.requires.3 c.copy_up.ensures
 
 pub overflow_mul-l : goal.overflow_mul-l
 overflow_mul-l c = omega (arith, place-high _ c.requires.0 c.args.l c.loop-i.i c.requires.2 c.loop-i-test.true)
 
 pub add_up-requires : goal.add_up-requires
-add_up-requires c = omega (arith, c.loop-i.invariant.0, word-high _ c.requires.0)
+add_up-requires c = omega (arith, c.requires.3, word-high _ c.requires.0)
 
 pub loop-i-preserved : goal.loop-i-preserved
-loop-i-preserved c = (c.add_up.auto.acc ∙ c.loop-i.invariant.0, turned_turn _ c.requires.0 _ _ c.requires.2 (λ i. (c.type_inv.page i).fits) c.requires.1 _ c.loop-i.i _ c.loop-i-test.true c.sub_word-x.ensures c.loop-i.invariant.0 _ _ c.add_up.ensures c.loop-i.invariant.1)
-
-pub shape_of-acc : goal.shape_of-acc
-shape_of-acc c = omega (arith, c.loop-i.invariant.0, c.requires.3)
+loop-i-preserved c = turned_turn _ c.requires.0 _ _ c.requires.2 (λ i. (c.type_inv.page i).fits) c.requires.1 _ c.loop-i.i _ c.loop-i-test.true c.sub_word-x.ensures (c.loop-i.auto.acc ∙ c.copy_up.auto.dst ∙ c.requires.3) _ _ c.add_up.ensures c.loop-i.invariant
 
 pub returns : goal.returns
-returns c = turned-done _ c.requires.0 _ _ _ c.loop-i.i c.loop-i-test.false c.loop-i.invariant.1
+returns c = turned-done _ c.requires.0 _ _ _ c.loop-i.i (omega arith) c.loop-i.invariant

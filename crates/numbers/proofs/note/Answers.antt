@@ -14,8 +14,8 @@ returns-then-out c =
     let a = c.args in
     (omega arith, sym (ap (λ (b : Bool). take a.b a.list.now ++ cond b [] (a.i ∷ [])) c.if-out.true ∙ append-nil (take a.b a.list.now)))
 
-pub returns : goal.returns
-returns c =
+pub returns-else-out : goal.returns-else-out
+returns-else-out c =
     let a = c.args in (
       Nat.le_refl (a.b + 1),
       ap (λ (k : ℕ). take k (set a.list.now a.b a.i)) (add-one a.b) ∙ take-suc-set a.list.now a.b a.i c.requires

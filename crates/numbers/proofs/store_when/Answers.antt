@@ -5,13 +5,13 @@ use Rattle.code.proofs.Answers.{leaves-refused}
 use Rattle.code.specs.Calls.{as_bytes, leaves}
 use Rattle.numbers.proofs.store_when.Goals as goal
 
-pub returns-then-n-ne0 : goal.returns-then-n-ne0
-returns-then-n-ne0 c = sym (leaves-refused _ _ _ (Nat.pos_of_ne-zero c.if-n-ne0.true))
+pub returns-else-n-eq0 : goal.returns-else-n-eq0
+returns-else-n-eq0 c = sym (leaves-refused _ _ _ (Nat.pos_of_ne-zero c.if-n-eq0.false))
 
 pub store-requires : goal.store-requires
-store-requires c = c.requires c.if-n-ne0.false
+store-requires c = c.requires c.if-n-eq0.true
 
-pub returns : goal.returns
-returns c =
+pub returns-then-n-eq0 : goal.returns-then-n-eq0
+returns-then-n-eq0 c =
     let a = c.args in
-    c.store.ensures ∙ sym (ap (λ (n : ℕ). leaves n (as_bytes a.numbers.now) a.list.now) c.if-n-ne0.false)
+    c.store.ensures ∙ sym (ap (λ (n : ℕ). leaves n (as_bytes a.numbers.now) a.list.now) c.if-n-eq0.true)

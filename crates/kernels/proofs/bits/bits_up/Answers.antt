@@ -16,12 +16,12 @@ pub returns-then-d-count : goal.returns-then-d-count
 returns-then-d-count c =
     let a = c.args in
     let x = value 8 a.s.now in
-    ap (λ (n : ℕ). n * 2 ^ (a.up - a.pos) % 2 ^ 64) (c.bits-low.ensures ∙ ap (λ (n : ℕ). n % 2 ^ (a.count - (a.up - a.pos))) (div-one x))
+    ap (λ (n : ℕ). n * 2 ^ (a.up - a.pos) % 2 ^ 64) (c.bits-then-d-count.ensures ∙ ap (λ (n : ℕ). n % 2 ^ (a.count - (a.up - a.pos))) (div-one x))
     ∙ up-some x (a.up - a.pos) a.count (omega arith) (omega arith)
     ∙ sym (ap (λ (n : ℕ). n % 2 ^ a.count) (up_up x a.up a.pos (omega arith)))
 
-pub returns : goal.returns
-returns c =
+pub returns-else-d-count : goal.returns-else-d-count
+returns-else-d-count c =
     let a = c.args in
     let x = value 8 a.s.now in
     sym (ap (λ (n : ℕ). n % 2 ^ a.count) (up_up x a.up a.pos (omega arith)) ∙ up-all x (a.up - a.pos) a.count (omega arith))

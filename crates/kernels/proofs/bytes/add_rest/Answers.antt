@@ -8,8 +8,8 @@ use lib.Pow.{pow_pos}
 use Rattle.kernels.specs.Add.{bytes-law, next-bits}
 use Rattle.kernels.proofs.bytes.add_rest.Goals as goal
 
-pub returns-then-n-eq0 : goal.returns-then-n-eq0
-returns-then-n-eq0 c =
+pub returns-else-n-ne0 : goal.returns-else-n-ne0
+returns-else-n-ne0 c =
     let a = c.args in
     let n = length a.acc.now - a.from in
     let e : 8 * (n / 8) ≡ n = omega arith in
@@ -23,8 +23,8 @@ add_bytes-requires c =
     let e : n % 8 ≡ length a.acc.now - (a.from + 8 * (n / 8)) = omega arith in
     (omega arith, rw (c.bits_up-v.ensures, k, ← e) (mod-lt _ (pow_pos (8 * (n % 8)))))
 
-pub returns : goal.returns
-returns c =
+pub returns-then-n-ne0 : goal.returns-then-n-ne0
+returns-then-n-ne0 c =
     let a = c.args in
     let n = length a.acc.now - a.from in
     let w = c.add_words in

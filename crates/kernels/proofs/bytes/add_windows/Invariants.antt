@@ -1,11 +1,8 @@
 -- The loop: k words of x / 2 ^ (8 * at + sh) are added.
-use Prim.Native.Nat.{◌+◌, ◌-◌, ◌*◌, ◌/◌, ◌^◌, ◌≤◌}
+use Prim.Native.Nat.{◌+◌, ◌*◌, ◌/◌, ◌^◌}
 use Rattle.polynomial.specs.Digits.{value}
 use Rattle.kernels.specs.Add.{Added}
 use Rattle.kernels.proofs.bytes.add_windows.Given as goal
 
 abbrev pub invariant-loop-k : goal.invariant-loop-k
-invariant-loop-k l = (l.k ≤ l.count) × Added l.initial.acc l.acc l.from (value 8 l.x / 2 ^ (8 * l.at + l.sh)) (8 * l.k)
-
-abbrev pub decreases-loop-k : goal.decreases-loop-k
-decreases-loop-k l = l.count - l.k
+invariant-loop-k l = Added l.initial.acc l.acc l.from (value 8 l.x / 2 ^ (8 * l.at + l.sh)) (8 * l.k)

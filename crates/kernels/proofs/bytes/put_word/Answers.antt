@@ -1,32 +1,14 @@
--- Eight stores are the eight digits: put-law.
-use native.Mathlib.Omega.{arith}
-use lib.ListN.{length-set}
-use Rattle.kernels.specs.Write.{put-law}
+-- The word's bytes are its eight digits: bytes_are.
+use Rattle.std.proofs.Common.{◌∙◌, ◌+◌, sym, arith, take, drop, append_assoc}
+use Rattle.std.proofs.lemmas.List.Edits.{paste_all}
+use Rattle.std.proofs.lemmas.Slice.{put_mid-paste}
+use Rattle.polynomial.specs.Digits.{digits, length_digits}
+use Rattle.kernels.proofs.Digits.{bytes_are}
 use Rattle.kernels.proofs.bytes.put_word.Goals as goal
 
-pub bounds-dst-at-2 : goal.bounds-dst-at-2
-bounds-dst-at-2 c = simp length-set (omega arith)
-
-pub bounds-dst-at-3 : goal.bounds-dst-at-3
-bounds-dst-at-3 c = simp length-set (omega arith)
-
-pub bounds-dst-at-4 : goal.bounds-dst-at-4
-bounds-dst-at-4 c = simp length-set (omega arith)
-
-pub bounds-dst-at-5 : goal.bounds-dst-at-5
-bounds-dst-at-5 c = simp length-set (omega arith)
-
-pub bounds-dst-at-6 : goal.bounds-dst-at-6
-bounds-dst-at-6 c = simp length-set (omega arith)
-
-pub bounds-dst-at-7 : goal.bounds-dst-at-7
-bounds-dst-at-7 c = simp length-set (omega arith)
-
-pub bounds-dst-at-8 : goal.bounds-dst-at-8
-bounds-dst-at-8 c = simp length-set (omega arith)
-
-pub shape_of-dst : goal.shape_of-dst
-shape_of-dst c = simp length-set
-
 pub returns : goal.returns
-returns c = put-law c.args.dst.now c.args.at c.args.v c.requires
+returns c =
+    let a = c.args in
+    put_mid-paste a.at _ a.dst.now _ (digits 8 8 a.v) 8 (c.copy_from_slice.ensures.after ∙ c.to_le_bytes.ensures ∙ bytes_are a.v) (omega arith) (sym (length_digits 8 8 a.v))
+    ∙ paste_all a.dst.now a.at (digits 8 8 a.v) 8 (sym (length_digits 8 8 a.v))
+    ∙ sym (append_assoc (take a.at a.dst.now) (digits 8 8 a.v) (drop (a.at + 8) a.dst.now))

@@ -1,48 +1,31 @@
--- The loop: i bytes of a are moved up with b added, and c is carried on.
-use mathlib.Core.Path.{refl, ◌∙◌}
-use Prim.Native.Nat.{◌+◌, ◌≤◌}
+-- The loop: k words of a are moved up with b added, and c is carried on.
+use mathlib.Core.Path.{◌≡◌}
+use Prim.Native.Nat.{◌+◌, ◌*◌}
 use native.Mathlib.Omega.{arith}
-use lib.ListN.{length}
 use Rattle.kernels.specs.Raise.{raised-start, raised-fits, raised-turn, raised-done}
 use Rattle.kernels.proofs.bytes.raise.Goals as goal
-use Rattle.kernels.proofs.bytes.raise.Goals.{In-loop-i}
 
--- a word is left
-fits : (c : In-loop-i) → c.loop-i.i + 8 ≤ length c.loop-i.a
-fits c =
-    let l = c.loop-i in
-    omega (arith, l.invariant.0, l.invariant.2.whole, c.loop-i-test.true, c.requires.0)
-
-pub loop-i-init : goal.loop-i-init
-loop-i-init c = (refl, (λ k. (c.type_inv.a k).fits), raised-start _ _ _)
-
-pub word_in-w-requires : goal.word_in-w-requires
-word_in-w-requires c = fits (goal.at.word_in-w-requires c).In-loop-i
-
-pub word_in-x-requires : goal.word_in-x-requires
-word_in-x-requires c = omega (arith, fits (goal.at.word_in-x-requires c).In-loop-i, c.loop-i.invariant.0, c.requires.1)
+pub loop-k-init : goal.loop-k-init
+loop-k-init c = ((λ k. (c.type_inv.a k).fits), raised-start _ _ _)
 
 pub overflow_add-w : goal.overflow_add-w
-overflow_add-w c = record { fits = raised-fits _ c.loop-i.a _ c.args.s c.loop-i.c c.loop-i.i c.requires.2 c.loop-i.invariant.2 c.word_in-w.result }
+overflow_add-w c =
+    let l = c.loop-k in
+    record { fits = raised-fits _ l.a _ c.args.s l.c (8 * l.k) c.requires.2 l.invariant.1 c.word_in-w.result }
 
-pub put_word-requires : goal.put_word-requires
-put_word-requires c = fits (goal.at.put_word-requires c).In-loop-i
-
-pub overflow_add-i : goal.overflow_add-i
-overflow_add-i c = omega (arith, fits (goal.at.overflow_add-i c).In-loop-i)
-
-pub loop-i-smaller : goal.loop-i-smaller
-loop-i-smaller c = omega (arith, fits (goal.at.loop-i-smaller c).In-loop-i, c.put_word.auto.dst)
-
-pub loop-i-preserved : goal.loop-i-preserved
-loop-i-preserved c = (
-  c.put_word.auto.dst ∙ c.loop-i.invariant.0,
-  (λ k. (c.type_inv.a k).fits),
-  raised-turn _ c.loop-i.a _ c.args.s c.loop-i.c c.loop-i.i c.requires.2 c.loop-i.invariant.2 _ c.word_in-w.result c.word_in-x.result
-      (λ k. (c.slice_known-1.given k).fits) c.loop-i.invariant.1 (fits (goal.at.loop-i-preserved c).In-loop-i) c.put_word.auto.dst c.word_in-w.ensures c.word_in-x.ensures c.put_word.ensures,
-)
+pub loop-k-preserved : goal.loop-k-preserved
+loop-k-preserved c =
+    let l = c.loop-k in
+    let w = c.word_in-w in
+    let x = c.word_in-x in
+    let q = c.put_word in
+    let e : 8 * l.k + 8 ≡ 8 * (l.k + 1) = omega arith in (
+      (λ k. (c.type_inv.a k).fits),
+      rw e at (raised-turn _ l.a _ c.args.s l.c (8 * l.k) c.requires.2 l.invariant.1 _ w.result x.result (λ k. (c.slice_known-1.given k).fits) l.invariant.0
+          (omega arith) q.auto.dst w.ensures x.ensures q.ensures),
+    )
 
 pub returns : goal.returns
 returns c =
-    let l = c.loop-i in
-    raised-done _ l.a _ _ l.c l.i c.loop-i-test.false l.invariant.2
+    let l = c.loop-k in
+    raised-done _ l.a _ _ l.c (8 * l.k) (omega arith) l.invariant.1

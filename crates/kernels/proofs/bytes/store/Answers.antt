@@ -8,7 +8,7 @@ use Rattle.kernels.specs.Write.{written_start, written-done, written-word}
 use Rattle.kernels.proofs.bytes.store.Goals as goal
 
 pub loop-k-init : goal.loop-k-init
-loop-k-init c = (omega arith, (λ k. (c.type_inv.dst k).fits), written_start 8 _ _)
+loop-k-init c = ((λ k. (c.type_inv.dst k).fits), written_start 8 _ _)
 
 pub loop-k-preserved : goal.loop-k-preserved
 loop-k-preserved c =
@@ -17,12 +17,11 @@ loop-k-preserved c =
     let b : Bounded 64 r = λ k. (c.shared_slice_known-1.given k).fits in
     let q = c.put_word in
     let e : 8 * l.k + 8 ≡ 8 * (l.k + 1) = omega arith in (
-      omega arith,
       (λ k. (c.type_inv.dst k).fits),
-      rw e at (written-word _ l.dst _ _ (8 * l.k) _ (omega arith) q.auto.dst q.ensures (word-digit r b l.k) l.invariant.2),
+      rw e at (written-word _ l.dst _ _ (8 * l.k) _ (omega arith) q.auto.dst q.ensures (word-digit r b l.k) l.invariant.1),
     )
 
 pub returns : goal.returns
 returns c =
     let l = c.loop-k in
-    store-list l.dst _ l.invariant.1 (omega arith) c.requires.2 (written-done 8 _ l.dst _ (8 * l.k) 96 (omega arith) (omega arith) l.invariant.2)
+    store-list l.dst _ l.invariant.0 (omega arith) c.requires.2 (written-done 8 _ l.dst _ (8 * l.k) 96 (omega arith) (omega arith) l.invariant.1)

@@ -8,15 +8,15 @@ use Rattle.kernels.specs.Write.{written_start, written-digit, written-done}
 use Rattle.kernels.proofs.row.align.Goals as goal
 
 pub loop-i-init : goal.loop-i-init
-loop-i-init c = (omega arith, written_start 64 _ _)
+loop-i-init c = written_start 64 _ _
 
 pub loop-i-preserved : goal.loop-i-preserved
 loop-i-preserved c =
     let l = c.loop-i in
-    (omega arith, written-digit 64 _ l.r _ l.i _ (omega arith) c.window_up.ensures l.invariant.1)
+    written-digit 64 _ l.r _ l.i _ (omega arith) c.window_up.ensures l.invariant
 
 pub returns : goal.returns
 returns c =
     let l = c.loop-i in
     let a = c.args in
-    written-done 64 _ l.r _ l.i 13 (omega arith) (omega arith) l.invariant.1 ∙ mod-eq_of_lt (align-lt (value 64 a.g.now) a.w c.requires.2 c.requires.1)
+    written-done 64 _ l.r _ l.i 13 (omega arith) (omega arith) l.invariant ∙ mod-eq_of_lt (align-lt (value 64 a.g.now) a.w c.requires.2 c.requires.1)

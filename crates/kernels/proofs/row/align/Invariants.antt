@@ -1,11 +1,8 @@
 -- The loop: i words are written, the lowest of g * 2 ^ s. All of it fits: align-lt.
-use Prim.Native.Nat.{◌-◌, ◌*◌, ◌^◌, ◌≤◌}
+use Prim.Native.Nat.{◌*◌, ◌^◌}
 use Rattle.polynomial.specs.Digits.{value}
 use Rattle.kernels.specs.Write.{Written}
 use Rattle.kernels.proofs.row.align.Given as goal
 
 abbrev pub invariant-loop-i : goal.invariant-loop-i
-invariant-loop-i l = (l.i ≤ 13) × Written 64 l.initial.r l.r (value 64 l.g * 2 ^ l.s) l.i
-
-abbrev pub decreases-loop-i : goal.decreases-loop-i
-decreases-loop-i l = 13 - l.i
+invariant-loop-i l = Written 64 l.initial.r l.r (value 64 l.g * 2 ^ l.s) l.i

@@ -1,25 +1,11 @@
--- The loop: the i lowest words are 0.
-use mathlib.Core.Path.{refl, sym, ap, ◌∙◌}
-use native.Mathlib.Omega.{arith}
-use lib.ListN.{length, length-set}
-use lib.Seq.{take_all}
+use Rattle.std.proofs.Common.{◌≡◌, ◌∙◌, ap, rules, length}
+use Rattle.std.proofs.Math.ListN.{replicate}
 use Rattle.polynomial.specs.Digits.{value}
 use Rattle.kernels.specs.Value.{value-nil}
-use Rattle.kernels.specs.Zero.{zero-set}
+use Rattle.kernels.proofs.Zeros.{zeros-above}
 use Rattle.kernels.proofs.row.clear.Goals as goal
-
-pub loop-i-init : goal.loop-i-init
-loop-i-init c = (omega arith, refl, value-nil 64)
-
-pub loop-i-smaller : goal.loop-i-smaller
-loop-i-smaller c = simp length-set (omega arith)
-
-pub loop-i-preserved : goal.loop-i-preserved
-loop-i-preserved c =
-    let l = c.loop-i in
-    (simp length-set (omega arith), length-set l.r l.i 0 ∙ l.invariant.1, zero-set 64 l.r l.i _ (omega arith) l.invariant.2)
 
 pub returns : goal.returns
 returns c =
-    let l = c.loop-i in
-    ap (value 64) (sym (take_all l.i l.r (omega arith))) ∙ l.invariant.2
+    let e : c.fill.new.self ≡ replicate (length c.args.r.now) 0 = c.fill.ensures.after (search rules) in
+    ap (value 64) e ∙ zeros-above 64 _ _ ∙ value-nil 64

@@ -1,42 +1,40 @@
--- The loop: the words above i are 0. One is not, so that i stays above 0.
-use mathlib.Core.Path.{sym, ap}
-use native.Mathlib.Omega.{arith}
-use lib.ListN.{get_or}
-use lib.Seq.{take_all}
-use Rattle.polynomial.specs.Digits.{value}
-use Rattle.kernels.specs.Degree.{degree-next, degree-again, degree-more, degree-law, zeros-lt}
+-- Word i is the highest that is not 0.
+use Rattle.std.proofs.Common.{◌≡◌, ◌∙◌, ℕ, ◌+◌, ◌-◌, ◌*◌, ◌^◌, ◌<◌, ◌≤◌, ap, arith, rules, length, List, get_or, lt_irrefl, pos_of_ne-zero, one-mul}
+use Rattle.std.proofs.Math.Nat.{pow-succ', div-eq_of_lt-le}
+use Rattle.std.proofs.lemmas.Bool.{some_since}
+use Rattle.std.proofs.lemmas.Nat.{leading_top}
+use Rattle.std.specs.Int.Count.{count_leading_zeros}
+use Rattle.std.specs.Option.{MatchOption}
+use Rattle.polynomial.specs.Division.{Deg, deg-unique}
+use Rattle.kernels.specs.Degree.{degree-law}
+use Rattle.kernels.proofs.Zeros.{zeros-value, zeros-from}
 use Rattle.kernels.proofs.row.degree_of.Goals as goal
+use Rattle.kernels.proofs.row.degree_of.Goals.{After-rposition}
 
-pub loop-i-init : goal.loop-i-init
-loop-i-init c = (omega arith, ap (value 64) (sym (take_all 13 c.args.r.now (omega arith))))
+abbrev Highest : List ℕ → ℕ → Type 0
+Highest r i = (i < length r) × (get_or r i 0 ≡ 0 → ⊥) × ((k : ℕ) → i < k → k < length r → get_or r k 0 ≡ 0)
 
-pub overflow_sub-i : goal.overflow_sub-i
-overflow_sub-i c =
-    let l = c.loop-i in
-    let r = c.args.r.now in
-    degree-more r l.i c.requires.1 (degree-next r l.i (omega arith) c.loop-i-test.true l.invariant.1)
+found : (c : After-rposition) → MatchOption c.rposition.result ((k : ℕ) → k < length c.args.r.now → get_or c.args.r.now k 0 ≡ 0) (Highest c.args.r.now)
+found c = search rules
 
-pub loop-i-smaller : goal.loop-i-smaller
-loop-i-smaller c =
-    let l = c.loop-i in
-    let r = c.args.r.now in
-    let k = degree-more r l.i c.requires.1 (degree-next r l.i (omega arith) c.loop-i-test.true l.invariant.1) in
-    omega arith
+-- the logarithm is what the leading zeros leave
+logarithm : (x j : ℕ) → (x ≡ 0 → ⊥) → x < 2 ^ 64 → 2 ^ j ≤ x → x < 2 * 2 ^ j → j ≡ 63 - count_leading_zeros 64 x
+logarithm x j z h low high =
+    let t = leading_top 64 x (pos_of_ne-zero z) h in
+    let a : Deg x j = div-eq_of_lt-le (2 ^ j) (rw (one-mul (2 ^ j)) low) high in
+    let b : Deg x t.0 = div-eq_of_lt-le (2 ^ t.0) (rw (one-mul (2 ^ t.0)) t.2) (rw (pow-succ' 2 t.0) at t.3) in
+    deg-unique x j t.0 a b ∙ omega (arith, t.1)
 
-pub loop-i-preserved : goal.loop-i-preserved
-loop-i-preserved c =
-    let l = c.loop-i in
-    let r = c.args.r.now in
-    let e = degree-next r l.i (omega arith) c.loop-i-test.true l.invariant.1 in
-    (omega arith, degree-again r l.i (degree-more r l.i c.requires.1 e) e)
-
-pub overflow_cast-result : goal.overflow_cast-result
-overflow_cast-result c = omega (arith, zeros-lt (get_or c.args.r.now c.loop-i.i 0) c.loop-i-test.false (c.shared_slice_known-1.given c.loop-i.i).fits)
-
-pub overflow_sub-result : goal.overflow_sub-result
-overflow_sub-result c = omega (arith, zeros-lt (get_or c.args.r.now c.loop-i.i 0) c.loop-i-test.false (c.shared_slice_known-1.given c.loop-i.i).fits)
+pub unwrap-i-requires : goal.unwrap-i-requires
+unwrap-i-requires c =
+    some_since _ _ _ (found (goal.at.unwrap-i-requires c).After-rposition)
+    (λ z. lt_irrefl 0 (rw (zeros-value 64 c.args.r.now z) at c.requires.1))
 
 pub returns : goal.returns
 returns c =
-    let l = c.loop-i in
-    degree-law c.args.r.now l.i (λ k. (c.shared_slice_known-1.given k).fits) (omega arith) c.loop-i-test.false c.requires.1 l.invariant.1
+    let r = c.args.r.now in
+    let i = c.unwrap-i.result in
+    let q = c.ilog2 in
+    let e : Highest r i = rw c.unwrap-i.ensures at (found (goal.at.returns c).After-rposition) in
+    ap (λ (j : ℕ). 64 * i + j) (logarithm (get_or r i 0) q.result e.1 (c.type_inv.r i).fits q.ensures.power_le q.ensures.next_power_gt)
+    ∙ degree-law r i (λ k. (c.type_inv.r k).fits) e.0 e.1 c.requires.1 (zeros-from 64 r (i + 1) (omega (arith, e.0)) (λ k a b. e.2 k (omega arith) b))

@@ -1,27 +1,21 @@
--- The loop: the i lowest words are 0.
-use mathlib.Core.Path.{sym}
-use Prim.Native.Nat.{◌*◌}
-use native.Mathlib.Omega.{arith}
+-- 0 has no digit but 0, and no other number has none but 0.
+use Rattle.std.proofs.Common.{◌≡◌, ◌∙◌, ◌↔◌, ℕ, ◌<◌, ◌*◌, ◌^◌, Bool, true, false, refl, sym, rules, length, get_or, eqb}
+use Rattle.std.proofs.lemmas.Bool.{iff_false, eq-eqb, ne_eqb}
+use Rattle.std.proofs.Math.Nat.{zero-mod, zero-div}
 use Rattle.polynomial.specs.Digits.{value, value-at}
-use Rattle.kernels.specs.Value.{bounded-all, value-nil}
-use Rattle.kernels.specs.Zero.{zero-digit, zero-yes, zero-no}
+use Rattle.kernels.specs.Value.{bounded-all}
+use Rattle.kernels.proofs.Zeros.{zeros-value}
 use Rattle.kernels.proofs.row.is_zero.Goals as goal
 
-pub loop-i-init : goal.loop-i-init
-loop-i-init c = (omega arith, value-nil 64)
-
-pub returns-then-r-i-ne0 : goal.returns-then-r-i-ne0
-returns-then-r-i-ne0 c =
-    let l = c.loop-i in
-    let r = c.args.r.now in
-    sym (zero-no (value 64 r) 64 (64 * l.i) _ (sym (value-at 64 r (bounded-all 64 r (λ k. (c.type_inv.r k).fits)) l.i)) c.if-r-i-ne0.true)
-
-pub loop-i-preserved : goal.loop-i-preserved
-loop-i-preserved c =
-    let l = c.loop-i in
-    (omega arith, zero-digit 64 c.args.r.now l.i (omega arith) (omega arith) l.invariant.1)
+decided : (b : Bool) (x : ℕ) → ((b ≡ true) ↔ (x ≡ 0)) → b ≡ eqb x 0
+decided true x h = sym (eq-eqb x 0 (h.0 refl))
+decided false x h = sym (ne_eqb x 0 (λ z. iff_false h refl z))
 
 pub returns : goal.returns
 returns c =
-    let l = c.loop-i in
-    sym (zero-yes 64 c.args.r.now l.i (omega arith) l.invariant.1)
+    let r = c.args.r.now in
+    let each : (c.all.result ≡ true) ↔ ((k : ℕ) → k < length r → get_or r k 0 ≡ 0) = search rules in
+    decided c.all.result (value 64 r) (
+      (λ t. zeros-value 64 r (each.0 t)),
+      (λ z. each.1 (λ k i. sym (value-at 64 r (bounded-all 64 r (λ j. (c.type_inv.r j).fits)) k) ∙ rw (z, zero-div (2 ^ (64 * k))) (zero-mod (2 ^ 64)))),
+    )

@@ -3,7 +3,6 @@ use mathlib.Core.Path.{refl, ap, ◌∙◌}
 use Prim.Native.Nat.{ℕ, ◌%◌, ◌^◌}
 use native.Mathlib.Nat.{mod-lt}
 use native.Mathlib.Omega.{arith}
-use lib.ListN.{drop}
 use lib.Pow.{pow_pos}
 use Rattle.kernels.specs.Move.{lower_word, lower-done}
 use Rattle.kernels.specs.Value.{drop-next, Bounded, bounded-set}
@@ -11,22 +10,21 @@ use Rattle.kernels.specs.Write.{written_start, written-done, written-digit}
 use Rattle.kernels.proofs.row.lower.Goals as goal
 
 pub loop-i-init : goal.loop-i-init
-loop-i-init c = (omega arith, refl, (λ k. (c.type_inv.r k).fits), written_start 64 _ _)
+loop-i-init c = (refl, (λ k. (c.type_inv.r k).fits), written_start 64 _ _)
 
 pub loop-i-preserved : goal.loop-i-preserved
 loop-i-preserved c =
     let l = c.loop-i in
     let a = c.args in
     let b : Bounded 64 a.r.now = λ k. (c.slice_known-1.given k).fits in
-    let q = c.window-v in (
-      omega arith,
-      drop-next l.r a.r.now l.i _ l.invariant.1,
-      bounded-set 64 l.r l.invariant.2 l.i _ (rw q.ensures (mod-lt _ (pow_pos 64))),
+    let q = c.window in (
+      drop-next l.r a.r.now l.i _ l.invariant.0,
+      bounded-set 64 l.r l.invariant.1 l.i _ (rw q.ensures (mod-lt _ (pow_pos 64))),
       written-digit 64 _ l.r _ l.i _ (omega arith)
-          (q.ensures ∙ ap (λ (n : ℕ). n % 2 ^ 64) (lower_word a.r.now l.r a.s l.i b l.invariant.2 l.invariant.1)) l.invariant.3,
+          (q.ensures ∙ ap (λ (n : ℕ). n % 2 ^ 64) (lower_word a.r.now l.r a.s l.i b l.invariant.1 l.invariant.0)) l.invariant.2,
     )
 
 pub returns : goal.returns
 returns c =
     let l = c.loop-i in
-    lower-done c.args.r.now c.args.s _ (λ k. (c.slice_known-1.given k).fits) c.requires.0 (written-done 64 _ l.r _ l.i 13 (omega arith) (omega arith) l.invariant.3)
+    lower-done c.args.r.now c.args.s _ (λ k. (c.slice_known-1.given k).fits) c.requires.0 (written-done 64 _ l.r _ l.i 13 (omega arith) (omega arith) l.invariant.2)

@@ -17,8 +17,8 @@ returns-then-d-lt64 c =
     let a = c.args in
     ap (λ (n : ℕ). n * 2 ^ (a.up - a.pos) % 2 ^ 64) c.word_at.ensures ∙ first-up a.g.now (λ k. (c.type_inv.g k).fits) a.up a.pos (omega arith)
 
-pub returns : goal.returns
-returns c =
+pub returns-else-d-lt64 : goal.returns-else-d-lt64
+returns-else-d-lt64 c =
     let a = c.args in
     let x = value 64 a.g.now in
     sym (ap (λ (n : ℕ). n % 2 ^ 64) (up_up x a.up a.pos (omega arith)) ∙ up-all x (a.up - a.pos) 64 (omega arith))
