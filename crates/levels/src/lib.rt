@@ -36,10 +36,10 @@ pub fn rows(p: Parameters) -> [[u64; 13]; 4]
 pub fn generators_of(p: Parameters) -> [[u64; 13]; 4]
     ensures { result ≡ generators p }
 {
-    let Tested::Refused(_) = sheet::test(p) else {
-        return rows(p);
-    };
-    [[0u64; 13]; 4]
+    match sheet::test(p) {
+        Tested::Refused(_) => [[0u64; 13]; 4],
+        _ => rows(p),
+    }
 }
 
 // ---- degrees, and tables for remainders
@@ -61,10 +61,8 @@ pub fn degrees(p: Parameters, rows: [[u64; 13]; 4]) -> [u32; 4]
 {
     let v = p.v as usize;
     let mut w = [0u32; 4];
-    let mut a: usize = 0;
-    while a <= v {
+    for a in 0..=v {
         w[a] = degree_at(p, rows, a);
-        a += 1;
     }
     w
 }

@@ -8,5 +8,5 @@ rows-requires c = sym (rw c.in_default.is at c.test.ensures).number
 pub returns-in_default : goal.returns-in_default
 returns-in_default c = c.rows.ensures
 
-pub returns : goal.returns
-returns c = rows-refused _ _ (rw c.in-Refused.is at c.test.ensures)
+pub returns-in-Refused : goal.returns-in-Refused
+returns-in-Refused c = rows-refused _ _ (rw c.in-Refused.is at c.test.ensures)
