@@ -18,10 +18,8 @@ fn put_row(b: &mut [u64], t: &[u64], a: usize, c: usize, at: usize)
     requires { (length b.old ≡ 12288) × (length t.now ≡ 3072) × (a + 12 ≤ 3072) × (c + 12 ≤ 3072) × (at + 6 ≤ 12288) }
     ensures { Six b.old b.new at (xor (upper_at t.now a) (upper_at t.now c)) }
 {
-    let mut j: usize = 0;
-    while j < 6 {
+    for j in 0..6 {
         b[at + j] = t[a + 6 + j] ^ t[c + 6 + j];
-        j += 1;
     }
 }
 
@@ -30,11 +28,9 @@ pub fn build(b: &mut [u64], t: &[u64])
     requires { (length b.old ≡ 12288) × (length t.now ≡ 3072) × MovedUp t.now half }
     ensures { Widened t.now b.new }
 {
-    let mut n: usize = 0;
-    while n < 2048 {
+    for n in 0..2048 {
         let k = n / 256 * 384;
         put_row(b, t, k + n % 16 * 12, k + 192 + n / 16 % 16 * 12, n * 6);
-        n += 1;
     }
 }
 
@@ -46,10 +42,8 @@ fn add_rows(v: &mut [u64], b: &[u64], a: usize, c: usize)
     ensures { (value 64 v.new ≡ xor (value 64 v.old) (xor (six_at b.now a) (six_at b.now c) * 2 ^ half))
         × (take 6 v.new ≡ take 6 v.old) }
 {
-    let mut j: usize = 0;
-    while j < 6 {
-        v[6 + j] = v[6 + j] ^ b[a + j] ^ b[c + j];
-        j += 1;
+    for j in 0..6 {
+        v[6 + j] ^= b[a + j] ^ b[c + j];
     }
 }
 
@@ -75,7 +69,7 @@ fn add_top(v: &mut [u64], b: &[u64], top: u64)
     let mut k: usize = 0;
     while u != 0 {
         add_two(v, b, k, u);
-        u = u / 65536;
+        u /= 65536;
         k += 1;
     }
 }
@@ -102,9 +96,7 @@ fn feed(r: &mut [u64], b: &[u64], s: &[u8], k: usize, w: usize)
         → Reduced t (value 8 s.now % 2 ^ (w + 64 * k) / 2 ^ w * 2 ^ D) (value 64 r.new) }
 {
     let mut v = [0u64; 13];
-    let mut i = k;
-    while 0 < i {
-        i -= 1;
+    for i in (0..k).rev() {
         let u = kernels::bits::bits(s, w + 64 * i, 64);
         step(&mut v, b, u);
     }
@@ -121,10 +113,10 @@ pub fn remainder_of(r: &mut [u64], b: &[u64], s: &[u8], w: usize)
     kernels::row::clear(r);
     if n <= w {
         reduction::remainder::add_low(r, s, n);
-        return;
+    } else {
+        let k = (n - w).div_ceil(64);
+        feed(r, b, s, k, w);
+        kernels::row::lower(r, 768 - w);
+        reduction::remainder::add_low(r, s, w);
     }
-    let k = (n - w + 63) / 64;
-    feed(r, b, s, k, w);
-    kernels::row::lower(r, 768 - w);
-    reduction::remainder::add_low(r, s, w);
 }

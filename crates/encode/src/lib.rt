@@ -21,7 +21,7 @@ pub fn room_bytes(p: Parameters) -> usize
     requires { Accepted p }
     ensures { result ≡ room_bytes p }
 {
-    (layout::sub_word_bytes(p) + 15) / 8 * 8
+    layout::sub_word_bytes(p).next_multiple_of(8) + 8
 }
 
 // ---- what later sub-words add
@@ -50,9 +50,7 @@ fn take_later(a: &mut [u8], b: &mut [u8], c: &mut [u8], p: Parameters, page: &[u
     ensures { Sums i (8 * length a.old) (drop (suc i) (words_of p page.now))
         (value 8 a.new) (value 8 b.new) (value 8 c.new) }
 {
-    let mut k = p.m as usize;
-    while i + 1 < k {
-        k -= 1;
+    for k in (i + 1..p.m as usize).rev() {
         let x = layout::sub_word(p, page, k);
         kernels::bytes::add_up(a, x, 0);
         raise_over(a, b, c, i);
@@ -121,9 +119,9 @@ pub fn check_of(
 {
     if t.len() == 3072 {
         reduction::remainder::remainder_of(r, t, acc, 8 * acc.len(), width, 768 - w);
-        return;
+    } else {
+        bytewise::remainder_of(r, t, acc, w);
     }
-    bytewise::remainder_of(r, t, acc, w);
 }
 
 // The data s over their own check bits by level a: the remainder is that of the part itself.
@@ -234,9 +232,9 @@ fn write_word(
     let s = &blocks[at..stop];
     if p.v as usize <= i {
         write_alone(p, w, s, page, i, width, t);
-        return;
+    } else {
+        write_early(p, w, s, page, i, width, t, acc);
     }
-    write_early(p, w, s, page, i, width, t, acc);
 }
 
 // ---- a run of sub-words
@@ -256,9 +254,7 @@ pub fn write_span(
     requires { Writing p w.now blocks.now page.old width acc.old × Span p t.now to from × Encoded p blocks.now from page.old }
     ensures { Encoded p blocks.now to page.new }
 {
-    let mut i = from;
-    while to < i {
-        i -= 1;
+    for i in (to..from).rev() {
         write_word(p, w, blocks, page, i, width, t, acc);
     }
 }

@@ -16,11 +16,7 @@ fn row_of(table: &[u64], w: usize, k: usize) -> [u64; 13]
 {
     let mut g = [0u64; 13];
     let s = w * k;
-    let mut j: usize = 0;
-    while j < w {
-        g[j] = table[s + j];
-        j += 1;
-    }
+    g[..w].copy_from_slice(&table[s..s + w]);
     g
 }
 
@@ -30,16 +26,11 @@ pub fn generator_row(f: Field, t: usize) -> [u64; 13]
     ensures { result ≡ row (generator (field_of f.q) t) }
 {
     let k = t - 1;
-    if f.q == 4 {
-        let g = tables::generators4();
-        return row_of(&g, 1, k);
+    match f.q {
+        4 => row_of(&tables::generators4(), 1, k),
+        8 => row_of(&tables::generators8(k / 16), 4, k % 16),
+        _ => row_of(&tables::generators12(k / 16), 12, k % 16),
     }
-    if f.q == 8 {
-        let g = tables::generators8(k / 16);
-        return row_of(&g, 4, k % 16);
-    }
-    let g = tables::generators12(k / 16);
-    row_of(&g, 12, k % 16)
 }
 
 // The degree of the generator of strength t.
@@ -48,6 +39,5 @@ pub fn degree(f: Field, t: usize) -> u32
     ensures { result ≡ width (field_of f.q) t }
 {
     let g = generator_row(f, t);
-    let d = kernels::row::degree_of(&g);
-    d as u32
+    kernels::row::degree_of(&g) as u32
 }

@@ -61,10 +61,8 @@ pub fn degrees(p: Parameters, rows: [[u64; 13]; 4]) -> [u32; 4]
 {
     let v = p.v as usize;
     let mut w = [0u32; 4];
-    let mut a: usize = 0;
-    while a <= v {
+    for a in 0..=v {
         w[a] = degree_at(p, rows, a);
-        a += 1;
     }
     w
 }

@@ -68,10 +68,8 @@ fn write_pages(
         × ((k : ℕ) → k < length list.now → Begun p blocks.now list.now pages.old k from) }
     ensures { Stage p blocks.now list.now pages.old pages.new to }
 {
-    let mut k: usize = 0;
-    while k < list.len() {
+    for k in 0..list.len() {
         write_page(p, w, blocks, pages, list, k, from, to, width, t, acc);
-        k += 1;
     }
 }
 
@@ -82,16 +80,7 @@ fn write_pages(
 fn bytes_pay(words: usize, bits: usize, width: usize, room: usize) -> bool
     ensures { result ≡ true → (room ≡ 12288) × (bits ≤ 384) }
 {
-    if room != 12288 {
-        return false;
-    }
-    if 384 < bits {
-        return false;
-    }
-    if width != 64 {
-        return false;
-    }
-    32 <= words
+    room == 12288 && bits <= 384 && width == 64 && 32 <= words
 }
 
 // Sub-words `from` - 1 down to `to` of every page, by a table with bytes that is made in b, from t, the table of their level.
@@ -141,9 +130,9 @@ fn write_level(
     levels::prepare(t, p, rows, a, bits);
     if bytes_pay(list.len() * (from - to), bits, width, b.len()) {
         write_bytewise(p, w, blocks, pages, list, from, to, width, t, b, acc);
-        return;
+    } else {
+        write_pages(p, w, blocks, pages, list, from, to, width, t, acc);
     }
-    write_pages(p, w, blocks, pages, list, from, to, width, t, acc);
 }
 
 // Sub-words v - 1 down to 0, each of a level of its own, after the others are written.
@@ -163,10 +152,8 @@ fn write_earlier(
         × ((k : ℕ) → k < length list.now → Begun p blocks.now list.now pages.old k p.v) }
     ensures { Stage p blocks.now list.now pages.old pages.new 0 }
 {
-    let mut i = p.v as usize;
-    while 0 < i {
-        write_level(p, rows, w, blocks, pages, list, i, i - 1, width, t, b, acc);
-        i -= 1;
+    for i in (0..p.v as usize).rev() {
+        write_level(p, rows, w, blocks, pages, list, i + 1, i, width, t, b, acc);
     }
 }
 

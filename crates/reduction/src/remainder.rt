@@ -18,11 +18,7 @@ pub fn copy(dst: &mut [u64], src: &[u64], from: usize)
     requires { (12 ≤ length dst.old) × (12 ≤ length src.now) × (from ≤ 12) × (take from dst.old ≡ take from src.now) }
     ensures { Copied dst.old dst.new src.now 12 }
 {
-    let mut i = from;
-    while i < 12 {
-        dst[i] = src[i];
-        i += 1;
-    }
+    dst[from..12].copy_from_slice(&src[from..12]);
 }
 
 // Four rows are added, which stand at a, b, c and d; their words below `from` are 0.
@@ -33,10 +29,8 @@ fn add_rows(v: &mut [u64], t: &[u64], a: usize, b: usize, c: usize, d: usize, fr
         (xor (row_at t.now a) (xor (row_at t.now b) (xor (row_at t.now c) (row_at t.now d)))))
         × (take from v.new ≡ take from v.old) }
 {
-    let mut j = from;
-    while j < 12 {
-        v[j] = v[j] ^ t[a + j] ^ t[b + j] ^ t[c + j] ^ t[d + j];
-        j += 1;
+    for j in from..12 {
+        v[j] ^= t[a + j] ^ t[b + j] ^ t[c + j] ^ t[d + j];
     }
 }
 
@@ -64,7 +58,7 @@ fn add_top(v: &mut [u64], t: &[u64], top: u64, from: usize)
     let mut k: usize = 0;
     while u != 0 {
         add_four(v, t, k, u, from);
-        u = u / 65536;
+        u /= 65536;
         k += 1;
     }
 }
@@ -91,11 +85,11 @@ pub fn step(r: &mut [u64], t: &[u64], u: u64, l: usize, p: usize)
 {
     shift(r, l);
     insert(r, u, p);
-    if 384 <= p {
+    if p < 384 {
+        reduce(r, t, 0);
+    } else {
         reduce(r, t, 6);
-        return;
     }
-    reduce(r, t, 0);
 }
 
 // The words of src from `from` on, below the 12th, are copied to dst, each one place higher.
@@ -105,11 +99,7 @@ pub fn copy_next(dst: &mut [u64], src: &[u64], from: usize)
     ensures { (value 64 dst.new ≡ value 64 (take 11 src.now) * 2 ^ 64)
         × (take (from + 1) dst.new ≡ take (from + 1) dst.old) }
 {
-    let mut i = from;
-    while i < 11 {
-        dst[i + 1] = src[i];
-        i += 1;
-    }
+    dst[from + 1..].copy_from_slice(&src[from..11]);
 }
 
 // A step by a whole word that enters at x^768: the register is moved up, and what passes x^768 is reduced with u.
@@ -132,9 +122,9 @@ fn step_whole(r: &mut [u64], t: &[u64], u: u64, p: usize)
 {
     if p < 384 {
         step_word(r, t, u, 0);
-        return;
+    } else {
+        step_word(r, t, u, 6);
     }
-    step_word(r, t, u, 6);
 }
 
 // The lower 12 words of r, moved up by l places, are added into v; what passes x^768 is lost.
@@ -143,12 +133,10 @@ fn add_shifted(v: &mut [u64], r: &[u64], l: usize)
     ensures { value 64 v.new ≡ xor (value 64 v.old) (value 64 (take 12 r.now) * 2 ^ l % 2 ^ D) }
 {
     let mut c: u64 = 0;
-    let mut j: usize = 0;
-    while j < 12 {
+    for j in 0..12 {
         let w = r[j];
-        v[j] = v[j] ^ (w << l) ^ c;
+        v[j] ^= (w << l) ^ c;
         c = w >> (64 - l);
-        j += 1;
     }
 }
 
@@ -173,25 +161,13 @@ fn feed_words(r: &mut [u64], t: &[u64], s: &[u8], n: usize, w: usize, p: usize) 
         × Reduced t.now (value 8 s.now % 2 ^ n / 2 ^ result * 2 ^ D) (value 64 r.new) }
 {
     let mut v = [0u64; 13];
-    let mut q = n;
-    while w + 64 <= q {
-        q -= 64;
-        let u = bits(s, q, 64);
+    let q = w + (n - w) % 64;
+    for i in (0..(n - w) / 64).rev() {
+        let u = bits(s, q + 64 * i, 64);
         step_whole(&mut v, t, u, p);
     }
     copy(r, &v, 0);
     q
-}
-
-// The size of the next chunk: at most `most` places of the `left` that are left.
-fn chunk_of(most: usize, left: usize) -> usize
-    requires { (1 ≤ most) × (1 ≤ left) }
-    ensures { (1 ≤ result) × (result ≤ most) × (result ≤ left) }
-{
-    if left < most {
-        return left;
-    }
-    most
 }
 
 // The same down to x^w, l at a time, the short chunk last. l is not in the result. Whole words have a loop of their own, and only there the
@@ -208,8 +184,9 @@ fn feed_top(r: &mut [u64], t: &[u64], s: &[u8], n: usize, w: usize, l: usize, p:
         q = feed_words(&mut v, t, s, n, w, p);
         most = 63;
     }
+    // A `while`: the last chunk is shorter, and the steps of a range are all equal.
     while w < q {
-        let k = chunk_of(most, q - w);
+        let k = most.min(q - w);
         q -= k;
         let u = bits(s, q, k);
         step_part(&mut v, t, u, k);
@@ -223,17 +200,12 @@ pub fn add_low(r: &mut [u64], s: &[u8], k: usize)
     ensures { value 64 r.new ≡ xor (value 64 r.old) (value 8 s.now % 2 ^ k) }
 {
     let c = k / 64;
-    let mut j: usize = 0;
-    while j < c {
-        let v = bits(s, 64 * j, 64);
-        r[j] = r[j] ^ v;
-        j += 1;
+    for j in 0..c {
+        r[j] ^= bits(s, 64 * j, 64);
     }
-    if k % 64 == 0 {
-        return;
+    if k % 64 != 0 {
+        r[c] ^= bits(s, 64 * c, k % 64);
     }
-    let v = bits(s, 64 * c, k % 64);
-    r[c] = r[c] ^ v;
 }
 
 // The remainder of the n lowest coefficients of s by the generator itself, of degree w = 768 - p, in the lowest words of r: what stands
@@ -246,9 +218,9 @@ pub fn remainder_of(r: &mut [u64], t: &[u64], s: &[u8], n: usize, l: usize, p: u
     clear(r);
     if n <= w {
         add_low(r, s, n);
-        return;
+    } else {
+        feed_top(r, t, s, n, w, l, p);
+        lower(r, p);
+        add_low(r, s, w);
     }
-    feed_top(r, t, s, n, w, l, p);
-    lower(r, p);
-    add_low(r, s, w);
 }

@@ -15,11 +15,7 @@ fn clear_row(t: &mut [u64], at: usize)
     requires { (length t.old ≡ 3072) × (at + 12 ≤ 3072) }
     ensures { Put t.old t.new at 0 }
 {
-    let mut j: usize = 0;
-    while j < 12 {
-        t[at + j] = 0;
-        j += 1;
-    }
+    t[at..at + 12].fill(0);
 }
 
 // The row at `at` is set to v.
@@ -27,10 +23,9 @@ fn put_row(t: &mut [u64], v: &[u64], at: usize)
     requires { (length t.old ≡ 3072) × (length v.now ≡ 12) × (at + 12 ≤ 3072) }
     ensures { Put t.old t.new at (value 64 v.now) }
 {
-    let mut j: usize = 0;
-    while j < v.len() {
+    // Not `copy_from_slice`: the row then goes through memory, and a write by two tables takes 5.4 µs in place of 2.4.
+    for j in 0..v.len() {
         t[at + j] = v[j];
-        j += 1;
     }
 }
 
@@ -39,10 +34,8 @@ fn add_row(v: &mut [u64], t: &[u64], at: usize)
     requires { (length v.old ≡ 12) × (length t.now ≡ 3072) × (at + 12 ≤ 3072) }
     ensures { value 64 v.new ≡ xor (value 64 v.old) (row_at t.now at) }
 {
-    let mut j: usize = 0;
-    while j < v.len() {
-        v[j] = v[j] ^ t[at + j];
-        j += 1;
+    for j in 0..v.len() {
+        v[j] ^= t[at + j];
     }
 }
 
@@ -53,10 +46,8 @@ fn add_moved(v: &mut [u64], t: &[u64], at: usize, s: usize)
         × (1 ≤ s) × (s < 64) }
     ensures { value 64 v.new ≡ xor (value 64 v.old) (row_at t.now at * 2 ^ s % 2 ^ D) }
 {
-    let mut j: usize = 0;
-    while j < v.len() {
-        v[j] = v[j] ^ (t[at + j] << s) ^ (t[at + j - 1] >> (64 - s));
-        j += 1;
+    for j in 0..v.len() {
+        v[j] ^= (t[at + j] << s) ^ (t[at + j - 1] >> (64 - s));
     }
 }
 
@@ -89,10 +80,8 @@ fn fill(t: &mut [u64], k: usize, m: usize)
     requires { Begun t.old (16 * k + m + 1) × (k < 16) × (1 ≤ m) × (m ≤ 8) × PowerOfTwo m }
     ensures { Grown t.old t.new (16 * k + m + 1) (16 * k + m + m) }
 {
-    let mut b: usize = 1;
-    while b < m {
+    for b in 1..m {
         sum_row(t, 16 * k + b, 16 * k + m, 16 * k + m + b);
-        b += 1;
     }
 }
 
@@ -101,13 +90,10 @@ fn fill_place(t: &mut [u64], k: usize)
     requires { Begun t.old (16 * k + 2) × (k < 16) }
     ensures { Grown t.old t.new (16 * k + 2) (16 * k + 16) }
 {
-    let mut m: usize = 2;
-    let mut s: usize = 1;
-    while s < 4 {
+    for s in 1..4 {
+        let m = 1 << s;
         move_row(t, 16 * k + 1, s, 16 * k + m);
         fill(t, k, m);
-        m = m * 2;
-        s += 1;
     }
 }
 
@@ -129,9 +115,7 @@ pub fn build(t: &mut [u64], g: &[u64])
     clear_row(t, 0);
     put_row(t, &g[..12], 12);
     fill_place(t, 0);
-    let mut k: usize = 1;
-    while k < 16 {
+    for k in 1..16 {
         place(t, k);
-        k += 1;
     }
 }

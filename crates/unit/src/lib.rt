@@ -2,7 +2,7 @@
 // itself in sub-words as short as the sheet's rules allow.
 #![tactic(auto)]
 
-ghost use Rattle.std.specs.Prelude.{◌≡◌, ◌+◌, ◌/◌, ◌^◌, ◌<◌, min, length, replicate};
+ghost use Rattle.std.specs.Prelude.{◌≡◌, ◌+◌, ◌/◌, ◌^◌, ◌<◌, length, replicate};
 ghost use Rattle.polynomial.specs.Digits.{value};
 ghost use Rattle.code.specs.Calls.{generators};
 ghost use Rattle.code.specs.Code.{remainder};
@@ -58,16 +58,6 @@ fn carried_word(
     encode::write_early(p, w, &none, unit, j, 64, t, acc);
 }
 
-// The smaller number.
-fn lesser(a: usize, b: usize) -> usize
-    ensures { result ≡ min a b }
-{
-    if a < b {
-        return a;
-    }
-    b
-}
-
 // The page of the data d in block i and 0 elsewhere, made in the zero page: sub-word i, and from there down those below both i and v. Tables
 // are made in t.
 fn block_page(
@@ -87,9 +77,7 @@ fn block_page(
     let n = encode::room_bytes(p);
     let acc = &mut room[..n];
     own_word(p, rows, w, unit, i, d, t);
-    let mut j = lesser(i, p.v as usize);
-    while 0 < j {
-        j -= 1;
+    for j in (0..i.min(p.v as usize)).rev() {
         carried_word(p, rows, w, unit, j, t, acc);
     }
 }
@@ -127,16 +115,7 @@ pub fn shortest_of(p: Parameters, w: &[u32]) -> Parameters
     let n = layout::length_of(p);
     let bits = layout::check_bits(p, w, 0);
     let s = n - bits - 1;
-    Parameters {
-        q: p.q,
-        m: p.m,
-        v: p.v,
-        t0: p.t0,
-        t1: p.t1,
-        t2: p.t2,
-        t3: p.t3,
-        s: s as u32,
-    }
+    Parameters { s: s as u32, ..p }
 }
 
 // The page of y's data in block i, made in the zero page of the shortest sheet q, `bits` being the check bits of sub-word i. Tables are made

@@ -1,6 +1,6 @@
 -- The loop: the first j words of the rows are added.
 use mathlib.Core.Path.{◌≡◌}
-use Prim.Native.Nat.{◌-◌, ◌*◌, ◌^◌, ◌≤◌}
+use Prim.Native.Nat.{◌*◌, ◌^◌}
 use lib.ListN.{length, take}
 use Rattle.polynomial.specs.Digits.{value}
 use Rattle.polynomial.specs.Xor.{xor}
@@ -8,7 +8,4 @@ use Rattle.bytewise.specs.Bytes.{half, sums}
 use Rattle.bytewise.proofs.add_rows.Given as goal
 
 abbrev pub invariant-loop-j : goal.invariant-loop-j
-invariant-loop-j l = (l.j ≤ 6) × (take 6 l.v ≡ take 6 l.initial.v) × (length l.v ≡ 12) × (value 64 l.v ≡ xor (value 64 l.initial.v) (sums l.b l.a l.c l.j * 2 ^ half))
-
-abbrev pub decreases-loop-j : goal.decreases-loop-j
-decreases-loop-j l = 6 - l.j
+invariant-loop-j l = (take 6 l.v ≡ take 6 l.initial.v) × (length l.v ≡ 12) × (value 64 l.v ≡ xor (value 64 l.initial.v) (sums l.b l.a l.c l.j * 2 ^ half))

@@ -1,7 +1,7 @@
 -- The loop: what stands from x^(w + 64 i) on is fed to v.
 use mathlib.Core.Path.{◌≡◌}
 use mathlib.Core.List.{List}
-use Prim.Native.Nat.{ℕ, ◌+◌, ◌*◌, ◌/◌, ◌%◌, ◌^◌, ◌≤◌}
+use Prim.Native.Nat.{ℕ, ◌+◌, ◌*◌, ◌/◌, ◌%◌, ◌^◌}
 use lib.ListN.{length}
 use Rattle.polynomial.specs.Digits.{value}
 use Rattle.kernels.specs.Row.{D}
@@ -10,7 +10,4 @@ use Rattle.bytewise.specs.Bytes.{Widened}
 use Rattle.bytewise.proofs.feed.Given as goal
 
 abbrev pub invariant-loop-i : goal.invariant-loop-i
-invariant-loop-i l = (l.i ≤ l.k) × (length l.v ≡ 13) × ((t : List ℕ) → Widened t l.b → Reduced t (value 8 l.s % 2 ^ (l.w + 64 * l.k) / 2 ^ (l.w + 64 * l.i) * 2 ^ D) (value 64 l.v))
-
-abbrev pub decreases-loop-i : goal.decreases-loop-i
-decreases-loop-i l = l.i
+invariant-loop-i l = (length l.v ≡ 13) × ((t : List ℕ) → Widened t l.b → Reduced t (value 8 l.s % 2 ^ (l.w + 64 * l.k) / 2 ^ (l.w + 64 * l.i) * 2 ^ D) (value 64 l.v))

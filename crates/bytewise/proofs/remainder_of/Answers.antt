@@ -1,5 +1,5 @@
 use mathlib.Core.Path.{◌∙◌}
-use Prim.Native.Nat.{◌+◌, ◌-◌, ◌*◌, ◌/◌, ◌≤◌}
+use Prim.Native.Nat.{◌+◌, ◌-◌, ◌*◌, ◌≤◌}
 use native.Mathlib.Nat as Nat
 use native.Mathlib.Omega.{arith}
 use lib.ListN.{length}
@@ -18,11 +18,11 @@ returns-then-n-w c =
 pub feed-requires : goal.feed-requires
 feed-requires c = (c.clear.auto.r ∙ c.requires.0, c.clear.ensures, c.requires.1, omega (arith, c.requires.4), omega (arith, c.requires.3))
 
-pub returns : goal.returns
-returns c =
+pub returns-else-n-w : goal.returns-else-n-w
+returns-else-n-w c =
     let a = c.args in
     let l = 8 * length a.s.now in
-    let n = a.w + 64 * ((l - a.w + 63) / 64) in
-    let h : l ≤ n = omega (arith, c.if-n-w.false) in
+    let n = a.w + 64 * c.div_ceil-k.result in
+    let h : l ≤ n = omega (arith, c.div_ceil-k.ensures) in
     λ t W. whole-remainder t a.s.now (768 - a.w) n _ (λ i. (c.type_inv.s i).fits) h
-    (whole-rest t (768 - a.w) n a.w (value 8 a.s.now) _ _ _ (omega (arith, c.requires.2)) (omega (arith, c.requires.3)) (omega arith) (c.feed.ensures t W) c.lower.ensures c.add_low-2.ensures)
+    (whole-rest t (768 - a.w) n a.w (value 8 a.s.now) _ _ _ (omega (arith, c.requires.2)) (omega (arith, c.requires.3)) (omega arith) (c.feed.ensures t W) c.lower.ensures c.add_low-else-n-w.ensures)

@@ -25,12 +25,12 @@ returns-then-t-eq3072 c =
     table-remainder a.p c.requires.0 a.a a.w (value 8 a.acc.now % 2 ^ (8 * length a.acc.now)) _ a.t.now c.requires.1 c.requires.2 (c.requires.3.plain c.if-t-eq3072.true) c.remainder_of.ensures
     ∙ ap (remainder a.p a.a) (Nat.mod-eq_of_lt (value-lt 8 a.acc.now (λ i. (c.type_inv.acc i).fits)))
 
-pub remainder_of-requires-2 : goal.remainder_of-requires-2
-remainder_of-requires-2 c =
+pub remainder_of-requires-else-t-eq3072 : goal.remainder_of-requires-else-t-eq3072
+remainder_of-requires-else-t-eq3072 c =
     let B = c.requires.3.bytes c.if-t-eq3072.false in
     (c.requires.4, byte-wide c.args.p c.args.a c.args.t.now B, omega (arith, c.requires.2, degree-low c.args.p c.requires.0 c.args.a c.requires.1), omega (arith, c.requires.2, B.short), c.requires.5)
 
-pub returns : goal.returns
-returns c =
+pub returns-else-t-eq3072 : goal.returns-else-t-eq3072
+returns-else-t-eq3072 c =
     let a = c.args in
-    byte-remainder a.p c.requires.0 a.a a.w (value 8 a.acc.now) _ a.t.now c.requires.1 c.requires.2 (c.requires.3.bytes c.if-t-eq3072.false) c.remainder_of-2.ensures
+    byte-remainder a.p c.requires.0 a.a a.w (value 8 a.acc.now) _ a.t.now c.requires.1 c.requires.2 (c.requires.3.bytes c.if-t-eq3072.false) c.remainder_of-else-t-eq3072.ensures

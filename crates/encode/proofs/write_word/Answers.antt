@@ -53,8 +53,8 @@ write_early-requires c =
     let a = c.args in
     (putting a.p a.w.now a.blocks.now a.page.now a.width a.acc.now c.requires.0, c.requires.1, c.requires.2, block-small (goal.at.write_early-requires c).After-block_size-size, c.if-p-i.false, c.requires.0.room)
 
-pub returns : goal.returns
-returns c =
+pub returns-else-p-i : goal.returns-else-p-i
+returns-else-p-i c =
     let a = c.args in
     let e = block-part a.p a.blocks.now a.i c.block_offset-at.result c.block_size-size.result c.requires.1 c.block_offset-at.ensures c.block_size-size.ensures in
     c.write_early.ensures ∙ ap (λ (d : ℕ). written a.p a.page.now a.i (word_from a.p d a.page.now a.i)) e

@@ -1,13 +1,11 @@
 use mathlib.Core.Path.{◌∙◌}
-use native.Mathlib.Omega.{arith}
-use Prim.Native.Nat.{zero-le}
 use Rattle.pages.specs.Filling.{passing-begun, passing-done, passing-next, passing-start, same-given}
 use Rattle.pages.proofs.write_pages.Goals as goal
 
 pub loop-k-init : goal.loop-k-init
 loop-k-init c =
     let a = c.args in
-    (passing-start a.p a.blocks.now a.list.now a.pages.now a.to, zero-le, c.requires.0.room)
+    (passing-start a.p a.blocks.now a.list.now a.pages.now a.to, c.requires.0.room)
 
 pub write_page-requires : goal.write_page-requires
 write_page-requires c =
@@ -15,7 +13,7 @@ write_page-requires c =
     let i = c.loop-k.invariant in (
       record {
         given = same-given a.p a.w.now a.blocks.now a.pages.now c.loop-k.pages a.list.now a.width i.0.exact c.requires.0.given;
-        room = i.2;
+        room = i.1;
       },
       c.loop-k-test.true,
       c.requires.1,
@@ -26,8 +24,7 @@ pub loop-k-preserved : goal.loop-k-preserved
 loop-k-preserved c =
     let a = c.args in (
       passing-next a.p a.blocks.now a.list.now a.pages.now c.loop-k.pages _ a.to c.loop-k.k c.loop-k.invariant.0 c.write_page.ensures,
-      omega (arith, c.loop-k-test.true),
-      c.acc-1.given ∙ c.loop-k.invariant.2,
+      c.acc-1.given ∙ c.loop-k.invariant.1,
     )
 
 pub returns : goal.returns

@@ -24,7 +24,7 @@ pub loop-j-init : goal.loop-j-init
 loop-j-init c =
     let a = c.args in
     let n = c.room_bytes-n.result in
-    built-start a.p c.requires.0 a.i (value 8 a.d.now) c.requires.4 c.requires.5 c.lesser-j.result _ _ _ c.lesser-j.ensures
+    built-start a.p c.requires.0 a.i (value 8 a.d.now) c.requires.4 c.requires.5 c.min-j.result _ _ _ c.min-j.ensures
     (rw c.requires.3 at c.own_word.ensures) (c.t-1.given ∙ c.requires.6) (zeros-length n 520 (room-high a.p c.requires.0 n c.room_bytes-n.ensures) ∙ c.room_bytes-n.ensures)
 
 pub carried_word-requires : goal.carried_word-requires

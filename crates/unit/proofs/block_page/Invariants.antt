@@ -4,6 +4,3 @@ use Rattle.unit.proofs.block_page.Given as goal
 
 abbrev pub invariant-loop-j : goal.invariant-loop-j
 invariant-loop-j l = Built l.p l.i (value 8 l.d) l.j l.unit l.t l.acc
-
-abbrev pub decreases-loop-j : goal.decreases-loop-j
-decreases-loop-j l = l.j

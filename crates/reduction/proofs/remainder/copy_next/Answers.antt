@@ -1,24 +1,39 @@
-use mathlib.Core.Path.{◌≡◌, refl, sym, ap, ◌∙◌}
-use Prim.Native.Nat.{◌+◌}
-use native.Mathlib.Nat as Nat
-use native.Mathlib.Omega.{arith}
-use lib.ListN.{length, length-set, take}
-use lib.Seq.{take_all, take-set-le}
+-- The words of dst up to `from` are those of src below `from`, one place higher, and src's from there to the 11th follow them.
+use Rattle.std.proofs.Common.{◌≡◌, ◌++◌, List, [], ℕ, ◌+◌, ◌-◌, ◌*◌, ◌^◌, length, take, drop, ap, ap₂, sym, ◌∙◌, arith, length-drop, length-take-le, length-append, append-nil, pow-add, take_at, drop_at}
+use Rattle.std.proofs.Math.Nat as Nat
+use Rattle.std.proofs.Math.Seq.{take-add}
+use Rattle.std.proofs.lemmas.List.{drop_all}
+use Rattle.std.proofs.lemmas.Slice.{take-put_mid_below}
 use Rattle.polynomial.specs.Digits.{value}
-use Rattle.reduction.specs.Above.{next-turn}
+use Rattle.kernels.specs.Value.{value-split}
 use Rattle.reduction.proofs.remainder.copy_next.Goals as goal
 
-pub loop-i-init : goal.loop-i-init
-loop-i-init c = (c.requires.2, Nat.le_refl _, c.requires.0, c.requires.3, refl)
+-- two parts, one above the other
+joined : (w n : ℕ) (a b : List ℕ) → length a ≡ n → value w (a ++ b) ≡ value w b * 2 ^ (w * n) + value w a
+joined w n a b e =
+    value-split w n (a ++ b) (rw (length-append a b) (omega arith))
+    ∙ ap₂ (λ (x y : List ℕ). value w x * 2 ^ (w * n) + value w y) (drop_at a b n e) (take_at a b n e)
 
-pub loop-i-preserved : goal.loop-i-preserved
-loop-i-preserved c =
-    let l = c.loop-i in
-    let a = c.args in
-    (omega arith, omega arith, length-set l.dst _ _ ∙ l.invariant.2, next-turn a.src.now l.dst l.i (omega arith) (omega arith) l.invariant.3, take-set-le (a.from + 1) l.dst (l.i + 1) _ (omega arith) ∙ l.invariant.4)
+higher : (f : ℕ) (d m a : List ℕ) → length d ≡ f + 1 → length a ≡ f → value 64 d ≡ value 64 a * 2 ^ 64
+    → value 64 (d ++ m) ≡ value 64 (a ++ m) * 2 ^ 64
+higher f d m a h l e =
+    let j : 64 * (f + 1) ≡ 64 * f + 64 = omega arith in
+    joined 64 (f + 1) d m h ∙ ap₂ (λ (x y : ℕ). value 64 m * x + y) (ap (λ (i : ℕ). 2 ^ i) j ∙ pow-add 2 (64 * f) 64) e
+    ∙ ap (λ (x : ℕ). x + value 64 a * 2 ^ 64) (sym (Nat.mul_assoc (value 64 m) (2 ^ (64 * f)) (2 ^ 64)))
+    ∙ sym (ap (λ (x : ℕ). x * 2 ^ 64) (joined 64 f a m l) ∙ Nat.add-mul (value 64 m * 2 ^ (64 * f)) (value 64 a) (2 ^ 64))
 
 pub returns : goal.returns
 returns c =
-    let l = c.loop-i in
-    let e : l.i ≡ 11 = omega arith in
-    (sym (ap (value 64) (take_all 12 l.dst (omega arith))) ∙ rw e at l.invariant.3, l.invariant.4)
+    let d = c.args.dst.now in
+    let s = c.args.src.now in
+    let f = c.args.from in
+    let k = length d - (f + 1) in
+    let ys = c.copy_from_slice.new.self in
+    let e : ys ≡ take (11 - f) (drop f s) = c.copy_from_slice.ensures.after in
+    let n : length (drop (f + 1) d) ≡ k = length-drop (f + 1) d in
+    let z : drop k (drop (f + 1) d) ≡ [] = drop_all k (drop (f + 1) d) (omega arith) in
+    let w : f + (11 - f) ≡ 11 = omega arith in (
+      rw (z, append-nil, e) (higher f (take (f + 1) d) (take (11 - f) (drop f s)) (take f s) (length-take-le (f + 1) d (omega arith)) (length-take-le f s (omega arith)) c.requires.3)
+          ∙ ap (λ (l : List ℕ). value 64 l * 2 ^ 64) (sym (take-add f (11 - f) s) ∙ ap (λ (i : ℕ). take i s) w),
+      take-put_mid_below (f + 1) k d ys (f + 1) (omega arith) (omega arith),
+    )

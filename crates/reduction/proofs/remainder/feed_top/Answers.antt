@@ -34,20 +34,20 @@ loop-q-init c =
 pub step_part-requires : goal.step_part-requires
 step_part-requires c =
     let l = c.loop-q in
-    let k = c.chunk_of-k.ensures in
-    (stepping-less _ _ c.args.p 0 (omega arith) (held l.v c.args.t.now _ c.args.p l.invariant.4 c.requires.1 c.requires.2 c.requires.6 l.invariant.5), k.0, omega (arith, k.1, l.invariant.1))
+    let k = c.min-k in
+    (stepping-less _ _ c.args.p 0 (omega arith) (held l.v c.args.t.now _ c.args.p l.invariant.4 c.requires.1 c.requires.2 c.requires.6 l.invariant.5), omega (arith, k.ensures), omega (arith, k.ensures))
 
 pub loop-q-preserved : goal.loop-q-preserved
 loop-q-preserved c =
     let x = c.step_part in
-    let k = c.chunk_of-k in
+    let k = c.min-k in
     let l = c.loop-q in (
       l.invariant.0,
       l.invariant.1,
       omega arith,
       omega arith,
       x.auto.r ∙ l.invariant.4,
-      turn-fed c.args.t.now (value 8 c.args.s.now) c.args.n l.q (l.q - k.result) k.result (value 64 l.v) _ (omega (arith, k.ensures.2)) l.invariant.2 l.invariant.5 (rw c.bits-u.ensures at x.ensures),
+      turn-fed c.args.t.now (value 8 c.args.s.now) c.args.n l.q (l.q - k.result) k.result (value 64 l.v) _ (omega (arith, k.ensures)) l.invariant.2 l.invariant.5 (rw c.bits-u.ensures at x.ensures),
     )
 
 pub copy-requires : goal.copy-requires

@@ -10,7 +10,7 @@ returns-then-n-w c =
     let a = c.args in
     short-rest a.t.now a.p a.n (value 8 a.s.now) _ _ c.requires.4 c.if-n-w.true c.clear.ensures c.add_low.ensures
 
-pub returns : goal.returns
-returns c =
+pub returns-else-n-w : goal.returns-else-n-w
+returns-else-n-w c =
     let a = c.args in
-    whole-rest a.t.now a.p a.n (768 - a.p) (value 8 a.s.now) _ _ _ c.requires.4 refl (omega (arith, c.if-n-w.false)) c.feed_top.ensures c.lower.ensures c.add_low-2.ensures
+    whole-rest a.t.now a.p a.n (768 - a.p) (value 8 a.s.now) _ _ _ c.requires.4 refl (omega (arith, c.if-n-w.false)) c.feed_top.ensures c.lower.ensures c.add_low-else-n-w.ensures

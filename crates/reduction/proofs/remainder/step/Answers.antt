@@ -28,13 +28,14 @@ pub shift-requires : goal.shift-requires
 shift-requires c = (c.requires.0.words, c.requires.1, c.requires.2, top-zero c.args.r.now c.requires.0.words c.requires.0.small)
 
 pub reduce-requires : goal.reduce-requires
-reduce-requires c = reducing-less _ _ c.args.p 384 c.if-p-ge384.true (held (goal.at.reduce-requires c).After-slice_known-3-1)
+reduce-requires c = reducing-less _ _ c.args.p 0 (omega arith) (held (goal.at.reduce-requires c).After-slice_known-3-1)
 
-pub returns-then-p-ge384 : goal.returns-then-p-ge384
-returns-then-p-ge384 c = rw (← fed (goal.at.returns-then-p-ge384 c).After-slice_known-3-1) c.reduce.ensures
+pub returns-then-p-lt384 : goal.returns-then-p-lt384
+returns-then-p-lt384 c = rw (← fed (goal.at.returns-then-p-lt384 c).After-slice_known-3-1) c.reduce.ensures
 
-pub reduce-requires-2 : goal.reduce-requires-2
-reduce-requires-2 c = reducing-less _ _ c.args.p 0 (omega arith) (held (goal.at.reduce-requires-2 c).After-slice_known-3-1)
+pub reduce-requires-else-p-lt384 : goal.reduce-requires-else-p-lt384
+reduce-requires-else-p-lt384 c =
+    reducing-less _ _ c.args.p 384 c.if-p-lt384.false (held (goal.at.reduce-requires-else-p-lt384 c).After-slice_known-3-1)
 
-pub returns : goal.returns
-returns c = rw (← fed (goal.at.returns c).After-slice_known-3-1) c.reduce-2.ensures
+pub returns-else-p-lt384 : goal.returns-else-p-lt384
+returns-else-p-lt384 c = rw (← fed (goal.at.returns-else-p-lt384 c).After-slice_known-3-1) c.reduce-else-p-lt384.ensures

@@ -37,8 +37,6 @@ loop-k-init c =
     let q = c.clear_row in
     let r = c.put_row in
     let x = c.fill_place in (
-      omega arith,
-      omega arith,
       x.auto.t ∙ r.auto.t ∙ q.auto.t ∙ c.requires.0,
       x.ensures.grow (value 64 c.args.g.now) c.requires.2
           (rows_start c.args.t.now q.new.t r.new.t c.args.g.now (λ k. (c.type_inv.g k).fits) c.requires.1 c.requires.2 q.ensures r.ensures),
@@ -47,16 +45,16 @@ loop-k-init c =
 pub place-requires : goal.place-requires
 place-requires c =
     let l = c.loop-k in
-    (record { words = l.invariant.2; G = value 64 c.args.g.now; deg = c.requires.2; rows = l.invariant.3 }, l.invariant.0, omega arith)
+    (record { words = l.invariant.0; G = value 64 c.args.g.now; deg = c.requires.2; rows = l.invariant.1 }, omega arith, omega arith)
 
 pub loop-k-preserved : goal.loop-k-preserved
 loop-k-preserved c =
     let l = c.loop-k in
     let x = c.place in
     let e : 16 * l.k + 16 ≡ 16 * (l.k + 1) = omega arith in
-    (omega arith, omega arith, x.auto.t ∙ l.invariant.2, subst (Rows (value 64 c.args.g.now) x.new.t) e (x.ensures.grow (value 64 c.args.g.now) c.requires.2 l.invariant.3))
+    (x.auto.t ∙ l.invariant.0, subst (Rows (value 64 c.args.g.now) x.new.t) e (x.ensures.grow (value 64 c.args.g.now) c.requires.2 l.invariant.1))
 
 pub returns : goal.returns
 returns c =
     let l = c.loop-k in
-    rows-done (value 64 c.args.g.now) l.t l.k c.requires.2 (omega arith) l.invariant.3
+    rows-done (value 64 c.args.g.now) l.t l.k c.requires.2 (omega arith) l.invariant.1

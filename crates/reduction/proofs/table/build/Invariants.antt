@@ -1,13 +1,10 @@
 -- The loop: the rows of k places are there.
 use mathlib.Core.Path.{◌≡◌}
-use Prim.Native.Nat.{◌-◌, ◌*◌, ◌≤◌}
+use Prim.Native.Nat.{◌*◌}
 use lib.ListN.{length}
 use Rattle.polynomial.specs.Digits.{value}
 use Rattle.reduction.specs.Build.{Rows}
 use Rattle.reduction.proofs.table.build.Given as goal
 
 abbrev pub invariant-loop-k : goal.invariant-loop-k
-invariant-loop-k l = (1 ≤ l.k) × (l.k ≤ 16) × (length l.t ≡ 3072) × Rows (value 64 l.g) l.t (16 * l.k)
-
-abbrev pub decreases-loop-k : goal.decreases-loop-k
-decreases-loop-k l = 16 - l.k
+invariant-loop-k l = (length l.t ≡ 3072) × Rows (value 64 l.g) l.t (16 * l.k)

@@ -7,12 +7,12 @@ use Rattle.reduction.specs.Build.{Grown, begun-on, grown-on, grown-start, hex-su
 use Rattle.reduction.proofs.table.fill.Goals as goal
 
 pub loop-b-init : goal.loop-b-init
-loop-b-init c = (omega arith, c.requires.2, c.requires.0.words, grown-start c.args.t.now (16 * c.args.k + c.args.m + 1))
+loop-b-init c = (c.requires.0.words, grown-start c.args.t.now (16 * c.args.k + c.args.m + 1))
 
 pub sum_row-requires : goal.sum_row-requires
 sum_row-requires c =
     let l = c.loop-b in (
-      begun-on c.args.t.now l.t _ _ c.requires.0 l.invariant.2 l.invariant.3,
+      begun-on c.args.t.now l.t _ _ c.requires.0 l.invariant.0 l.invariant.1,
       omega arith,
       omega arith,
       omega arith,
@@ -23,10 +23,8 @@ pub loop-b-preserved : goal.loop-b-preserved
 loop-b-preserved c =
     let l = c.loop-b in
     let q = c.sum_row in (
-      omega arith,
-      omega arith,
-      q.auto.t ∙ l.invariant.2,
-      grown-on c.args.t.now l.t q.new.t _ _ _ l.invariant.3
+      q.auto.t ∙ l.invariant.0,
+      grown-on c.args.t.now l.t q.new.t _ _ _ l.invariant.1
           (subst (Grown l.t q.new.t (16 * c.args.k + c.args.m + l.b)) (Nat.add_assoc (16 * c.args.k + c.args.m) l.b 1) q.ensures),
     )
 
@@ -34,4 +32,4 @@ pub returns : goal.returns
 returns c =
     let l = c.loop-b in
     let e : l.b ≡ c.args.m = omega arith in
-    rw e at l.invariant.3
+    rw e at l.invariant.1
