@@ -38,14 +38,9 @@ fn first_failing(p: Parameters, page: &[u8], t: &[u64], w: usize) -> usize
     ensures { result ≡ failing p (words_of p page.now) }
 {
     let m = p.m as usize;
-    let mut i: usize = 0;
-    while i < m {
-        if !sub_word_passes(p, page, i, t, w) {
-            return i;
-        }
-        i += 1;
-    }
-    m
+    (0..m)
+        .find(|&i| !sub_word_passes(p, page, i, t, w))
+        .unwrap_or(m)
 }
 
 // Is nested word l a multiple of g_(v−l)? The lent table and bytes are room to work in.
@@ -80,12 +75,10 @@ fn first_failing_nested(
     ensures { result ≡ failing_nested p (words_of p page.now) }
 {
     let v = p.v as usize;
-    let mut l: usize = 0;
-    while l < v {
+    for l in 0..v {
         if !nested_passes(p, page, rows, l, t, acc) {
             return l;
         }
-        l += 1;
     }
     v
 }

@@ -39,7 +39,7 @@ pub fn sub_word_bytes(p: Parameters) -> usize
     requires { Accepted p }
     ensures { result ≡ sub_word_bytes p }
 {
-    (stored_of(p) + 7) / 8
+    stored_of(p).div_ceil(8)
 }
 
 // The bytes of a nested word.
@@ -58,10 +58,7 @@ pub fn nested_places(p: Parameters) -> usize
 {
     let n = length_of(p);
     let k = 8 * sub_word_bytes(p) + 14;
-    if n < k {
-        return n;
-    }
-    k
+    n.min(k)
 }
 
 // The count at which a register is full.
@@ -113,8 +110,7 @@ pub fn block_size(p: Parameters, w: &[u32], i: usize) -> usize
     requires { Accepted p × Degrees p w.now }
     ensures { result ≡ (data_bits p i + 7) / 8 }
 {
-    let b = data_bits(p, w, i);
-    (b + 7) / 8
+    data_bits(p, w, i).div_ceil(8)
 }
 
 // Where block i begins.
@@ -122,11 +118,9 @@ pub fn block_offset(p: Parameters, w: &[u32], i: usize) -> usize
     requires { Accepted p × Degrees p w.now × (i ≤ p.m) }
     ensures { result ≡ block_offset p i }
 {
-    let mut at: usize = 0;
-    let mut j: usize = 0;
-    while j < i {
+    let mut at = 0;
+    for j in 0..i {
         at += block_size(p, w, j);
-        j += 1;
     }
     at
 }
@@ -196,29 +190,15 @@ fn words_ones(bytes: &[u8], at: usize, count: usize) -> bool
     requires { at + 8 * count ≤ length bytes.now }
     ensures { OnesFound bytes.now at (at + 8 * count) result }
 {
-    let mut k: usize = 0;
-    while k < count {
-        if kernels::bits::word_in(bytes, at + 8 * k) != 0xffffffffffffffff {
-            return false;
-        }
-        k += 1;
-    }
-    true
+    (0..count).all(|k| kernels::bits::word_in(bytes, at + 8 * k) == u64::MAX)
 }
 
 // The bytes from `at` on, up to `end`, are all 255, one by one.
 fn bytes_ones(bytes: &[u8], at: usize, end: usize) -> bool
-    requires { end ≤ length bytes.now }
+    requires { (at ≤ end) × (end ≤ length bytes.now) }
     ensures { OnesFound bytes.now at end result }
 {
-    let mut k = at;
-    while k < end {
-        if bytes[k] != 255 {
-            return false;
-        }
-        k += 1;
-    }
-    true
+    bytes[at..end].iter().all(|b| *b == 255)
 }
 
 // The same, by words as far as these go.
@@ -227,10 +207,7 @@ fn range_ones(bytes: &[u8], at: usize, end: usize) -> bool
     ensures { OnesFound bytes.now at end result }
 {
     let count = (end - at) / 8;
-    if !words_ones(bytes, at, count) {
-        return false;
-    }
-    bytes_ones(bytes, at + 8 * count, end)
+    words_ones(bytes, at, count) && bytes_ones(bytes, at + 8 * count, end)
 }
 
 // The b lowest bits of the run of bytes at `at` are all 1, whatever its unused bits.
@@ -239,12 +216,9 @@ fn run_ones(bytes: &[u8], at: usize, size: usize, b: usize) -> bool
     ensures { result ≡ run_passes ones_in bytes.now at size b }
 {
     let last = at + size - 1;
-    if !range_ones(bytes, at, last) {
-        return false;
-    }
     let bound = last_bound(size, b);
     let high = bytes[last] as usize;
-    high % bound == bound - 1
+    range_ones(bytes, at, last) && high % bound == bound - 1
 }
 
 // Which of the two tests is asked: all ones, or clear.
@@ -253,9 +227,10 @@ fn run_passes(bytes: &[u8], at: usize, size: usize, b: usize, ones: bool) -> boo
     ensures { result ≡ run_passes (test_of ones) bytes.now at size b }
 {
     if ones {
-        return run_ones(bytes, at, size, b);
+        run_ones(bytes, at, size, b)
+    } else {
+        run_clear(bytes, at, size, b)
     }
-    run_clear(bytes, at, size, b)
 }
 
 // Every sub-word of the page passes.
@@ -265,14 +240,7 @@ fn words_pass(p: Parameters, page: &[u8], ones: bool) -> bool
 {
     let n = stored_of(p);
     let b = sub_word_bytes(p);
-    let mut i: usize = 0;
-    while i < p.m as usize {
-        if !run_passes(page, i * b, b, n, ones) {
-            return false;
-        }
-        i += 1;
-    }
-    true
+    (0..p.m as usize).all(|i| run_passes(page, i * b, b, n, ones))
 }
 
 // Every block passes.
@@ -280,16 +248,14 @@ fn blocks_pass(p: Parameters, w: &[u32], blocks: &[u8], ones: bool) -> bool
     requires { Accepted p × Degrees p w.now × (length blocks.now ≡ data_bytes p) }
     ensures { result ≡ each (test_of ones) (block_bits p) (blocks_of p blocks.now) }
 {
-    let mut at: usize = 0;
-    let mut j: usize = 0;
-    while j < p.m as usize {
+    let mut at = 0;
+    for j in 0..p.m as usize {
         let b = data_bits(p, w, j);
         let size = block_size(p, w, j);
         if !run_passes(blocks, at, size, b, ones) {
             return false;
         }
         at += size;
-        j += 1;
     }
     true
 }

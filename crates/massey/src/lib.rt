@@ -9,6 +9,7 @@ ghost use Rattle.massey.specs.Loops.{Shifted, Jumped};
 ghost use Rattle.massey.specs.Steps.{Zeroed, After, Turned, Done};
 
 use element::Field;
+use std::mem;
 
 // The product of two elements.
 pub fn product(powers: &[u16], logs: &[u16], f: Field, a: u16, b: u16) -> u16
@@ -57,12 +58,9 @@ fn discrepancy(
     requires { Tables f powers.now logs.now × Below f.q sig.now × Below f.q s.now × (l < length sig.now) × (l ≤ r) × (r < length s.now) }
     ensures { Dot f.q s.now sig.now r (suc l) result }
 {
-    let mut d: u16 = 0;
-    let mut i: usize = 0;
-    while i <= l {
-        let x = product(powers, logs, f, sig[i], s[r - i]);
-        d = d ^ x;
-        i += 1;
+    let mut d = 0;
+    for i in 0..=l {
+        d ^= product(powers, logs, f, sig[i], s[r - i]);
     }
     d
 }
@@ -73,12 +71,8 @@ fn add_times(powers: &[u16], logs: &[u16], f: Field, sig: &mut [u16], old: &[u16
     ensures { Added f.q sig.old old.now d sig.new }
 {
     let k = element::log(logs, d as u32);
-    let n = old.len();
-    let mut i: usize = 0;
-    while i < n {
-        let x = multiple(powers, logs, f, k, old[i]);
-        sig[i] = sig[i] ^ x;
-        i += 1;
+    for i in 0..old.len() {
+        sig[i] ^= multiple(powers, logs, f, k, old[i]);
     }
 }
 
@@ -86,14 +80,9 @@ fn add_times(powers: &[u16], logs: &[u16], f: Field, sig: &mut [u16], old: &[u16
 fn shift(old: &mut [u16])
     ensures { Shifted old.old old.new }
 {
-    let n = old.len();
-    let mut c: u16 = 0;
-    let mut i: usize = 0;
-    while i < n {
-        let o = old[i];
-        old[i] = c;
-        c = o;
-        i += 1;
+    let mut c = 0;
+    for x in old.iter_mut() {
+        mem::swap(x, &mut c);
     }
 }
 
@@ -104,15 +93,10 @@ fn jump(powers: &[u16], logs: &[u16], f: Field, sig: &mut [u16], old: &mut [u16]
 {
     let k = element::log(logs, d as u32);
     let m = element::log(logs, e as u32);
-    let n = sig.len();
-    let mut i: usize = 0;
-    while i < n {
+    for i in 0..sig.len() {
         let w = sig[i];
-        let x = multiple(powers, logs, f, k, old[i]);
-        let y = multiple(powers, logs, f, m, w);
-        sig[i] = w ^ x;
-        old[i] = y;
-        i += 1;
+        sig[i] ^= multiple(powers, logs, f, k, old[i]);
+        old[i] = multiple(powers, logs, f, m, w);
     }
 }
 
@@ -164,15 +148,12 @@ pub fn massey(
     ensures { Done f.q s.now t result sig.new old.new }
 {
     sig[0] = 1;
-    let mut l: usize = 0;
-    let mut r: usize = 0;
-    while r < 2 * t {
-        let b = turn(powers, logs, f, s, t, sig, old, l, r);
-        if t < b {
-            return b;
+    let mut l = 0;
+    for r in 0..2 * t {
+        l = turn(powers, logs, f, s, t, sig, old, l, r);
+        if t < l {
+            return l;
         }
-        l = b;
-        r += 1;
     }
     l
 }

@@ -92,13 +92,11 @@ fn clash_at(d: u32, n: u32, last: u32) -> bool
         return false;
     }
     let mut x = d;
-    let mut j: u32 = 1;
-    while j <= last {
+    for _ in 1..=last {
         if x == 0 {
             return true;
         }
         x = element::modulo(n, x + d);
-        j += 1;
     }
     false
 }
@@ -109,15 +107,7 @@ fn clashes_at(p: Parameters, n: u32) -> bool
     ensures { result ≡ clashes p }
 {
     let t = strength_at(p, p.v);
-    let last = 2 * t;
-    let mut d: u32 = 1;
-    while d < p.m {
-        if clash_at(d, n, last) {
-            return true;
-        }
-        d += 1;
-    }
-    false
+    (1..p.m).any(|d| clash_at(d, n, 2 * t))
 }
 
 // s leaves every block a bit. The other rules hold; at s = 0 the degree w_v is not asked for.

@@ -36,13 +36,10 @@ fn places_of(places: &mut [u16], r: &[u64], w: usize) -> usize
     requires { (w ≤ 64 * length r.now) × (w ≤ length places.old) × (w ≤ 65536) }
     ensures { (result ≤ w) × (take result places.new ≡ ones w (value 64 r.now)) }
 {
-    let mut c: usize = 0;
-    let mut k: usize = 0;
-    while k < w {
-        let b = coefficient_at(r, k);
+    let mut c = 0;
+    for k in 0..w {
         places[c] = k as u16;
-        c += b;
-        k += 1;
+        c += coefficient_at(r, k);
     }
     c
 }
@@ -54,12 +51,9 @@ fn power_sum(powers: &[u16], e: &[u16]) -> u16
     requires { Places (length powers.now) (length e.now) e.now }
     ensures { result ≡ table_sum powers.now e.now }
 {
-    let n = e.len();
-    let mut x: u16 = 0;
-    let mut i: usize = 0;
-    while i < n {
-        x = x ^ powers[e[i] as usize];
-        i += 1;
+    let mut x = 0;
+    for i in e {
+        x ^= powers[*i as usize];
     }
     x
 }
@@ -69,11 +63,8 @@ fn advance(f: Field, e: &mut [u16], d: &[u16])
     requires { Sized f × (length e.old ≡ length d.now) × Places (2 ^ f.q - 1) (length e.old) e.old × Places (2 ^ f.q - 1) (length d.now) d.now }
     ensures { e.new ≡ map (λ i. (get_or e.old i 0 + get_or d.now i 0) % (2 ^ f.q - 1)) (range 0 (length e.old)) }
 {
-    let n = e.len();
-    let mut i: usize = 0;
-    while i < n {
+    for i in 0..e.len() {
         e[i] = element::add_logs(f, e[i], d[i]);
-        i += 1;
     }
 }
 
@@ -82,12 +73,7 @@ pub fn copy(to: &mut [u16], from: &[u16])
     requires { length to.old ≡ length from.now }
     ensures { to.new ≡ from.now }
 {
-    let n = to.len();
-    let mut i: usize = 0;
-    while i < n {
-        to[i] = from[i];
-        i += 1;
-    }
+    to.copy_from_slice(from);
 }
 
 // S_1, S_3, .., as many as the list has places, of the word with ones at the places that e and d hold.
@@ -97,12 +83,9 @@ fn sums_into(list: &mut [u16], powers: &[u16], f: Field, e: &mut [u16], d: &mut 
     ensures { list.new ≡ map (λ i. syndrome f.q (flips e.old) (2 * i + 1)) (range 0 (length list.old)) }
 {
     advance(f, d, e);
-    let n = list.len();
-    let mut i: usize = 0;
-    while i < n {
-        list[i] = power_sum(powers, e);
+    for x in list.iter_mut() {
+        *x = power_sum(powers, e);
         advance(f, e, d);
-        i += 1;
     }
 }
 
@@ -116,8 +99,8 @@ pub fn odd_sums(list: &mut [u16], powers: &[u16], f: Field, places: &[u16])
     let mut spare = [0u16; 768];
     let e = &mut room[..c];
     let d = &mut spare[..c];
-    copy(e, places);
-    copy(d, places);
+    e.copy_from_slice(places);
+    d.copy_from_slice(places);
     sums_into(list, powers, f, e, d);
 }
 
@@ -136,18 +119,11 @@ pub fn odd_of(list: &mut [u16], f: Field, r: &[u64], w: usize)
     requires { Sized f × (w ≤ 64 * length r.now) × (w ≤ 768) × (w ≤ 2 ^ f.q - 1) × (value 64 r.now < 2 ^ w) }
     ensures { list.new ≡ map (λ i. syndrome f.q (value 64 r.now) (2 * i + 1)) (range 0 (length list.old)) }
 {
-    if f.q == 4 {
-        let p = powers4();
-        odd_into(list, &p, f, r, w);
-        return;
+    match f.q {
+        4 => odd_into(list, &powers4(), f, r, w),
+        8 => odd_into(list, &powers8(), f, r, w),
+        _ => odd_into(list, &powers12(), f, r, w),
     }
-    if f.q == 8 {
-        let p = powers8();
-        odd_into(list, &p, f, r, w);
-        return;
-    }
-    let p = powers12();
-    odd_into(list, &p, f, r, w);
 }
 
 // ---- all from the odd ones
@@ -157,10 +133,7 @@ fn reduce_at(q: u32, g: u32, y: u32, k: u32) -> u32
     requires { Known q × (g ≡ field_polynomial q) × (q ≤ k) × (k < 16) × (y < 2 ^ (k + 1)) }
     ensures { (rem (field_polynomial q) q result ≡ rem (field_polynomial q) q y) × (result < 2 ^ k) }
 {
-    if y >> k == 0 {
-        return y;
-    }
-    y ^ (g << (k - q))
+    if y >> k == 0 { y } else { y ^ (g << (k - q)) }
 }
 
 // x modulo the field polynomial of q.
@@ -171,9 +144,7 @@ fn reduce(q: u32, x: u16) -> u32
     let f = Field::of(q);
     let g = f.polynomial;
     let mut y = x as u32;
-    let mut k: u32 = 16;
-    while q < k {
-        k -= 1;
+    for k in (q..16).rev() {
         y = reduce_at(q, g, y, k);
     }
     y
@@ -185,10 +156,7 @@ fn element_of(f: Field, x: u16) -> u32
     ensures { (result ≡ rem (field_polynomial f.q) f.q x) × (result < 2 ^ f.q) }
 {
     let y = x as u32;
-    if y < f.size {
-        return y;
-    }
-    reduce(f.q, x)
+    if y < f.size { y } else { reduce(f.q, x) }
 }
 
 // The square of any number, modulo the field polynomial.
@@ -208,9 +176,10 @@ fn next_of(list: &[u16], odd: &[u16], powers: &[u16], logs: &[u16], f: Field, j:
     ensures { result ≡ from_odd f.q (λ i. get_or odd.now i 0) (1 + j) }
 {
     if j % 2 == 0 {
-        return odd[j / 2];
+        odd[j / 2]
+    } else {
+        square(powers, logs, f, list[j / 2])
     }
-    square(powers, logs, f, list[j / 2])
 }
 
 // S_1, S_2, .. from the list of S_1, S_3, ..
@@ -218,11 +187,8 @@ pub fn all_into(list: &mut [u16], odd: &[u16], powers: &[u16], logs: &[u16], f: 
     requires { Tables f powers.now logs.now × (length list.old ≡ 2 * length odd.now) }
     ensures { list.new ≡ map (from_odd f.q (λ i. get_or odd.now i 0)) (range 1 (2 * length odd.now)) }
 {
-    let n = list.len();
-    let mut j: usize = 0;
-    while j < n {
+    for j in 0..list.len() {
         list[j] = next_of(list, odd, powers, logs, f, j);
-        j += 1;
     }
 }
 
@@ -231,19 +197,9 @@ pub fn all_of(list: &mut [u16], odd: &[u16], f: Field)
     requires { Sized f × (length list.old ≡ 2 * length odd.now) }
     ensures { list.new ≡ map (from_odd f.q (λ i. get_or odd.now i 0)) (range 1 (2 * length odd.now)) }
 {
-    if f.q == 4 {
-        let p = powers4();
-        let l = logs4();
-        all_into(list, odd, &p, &l, f);
-        return;
+    match f.q {
+        4 => all_into(list, odd, &powers4(), &logs4(), f),
+        8 => all_into(list, odd, &powers8(), &logs8(), f),
+        _ => all_into(list, odd, &powers12(), &logs12(), f),
     }
-    if f.q == 8 {
-        let p = powers8();
-        let l = logs8();
-        all_into(list, odd, &p, &l, f);
-        return;
-    }
-    let p = powers12();
-    let l = logs12();
-    all_into(list, odd, &p, &l, f);
 }

@@ -1,30 +1,29 @@
-use mathlib.Core.Bool.{not}
-use mathlib.Core.Path.{sym, ap, ◌∙◌}
+use Rattle.std.proofs.Common.{add-one, zero-le, rules, tests, arith, sym, ◌∙◌, ◌≡◌, ◌≤◌, ◌<◌, ℕ, zero, suc, Option, None, Some, Bool, true, false}
+use Rattle.std.proofs.Math.Nat as Nat
+use Rattle.std.proofs.lemmas.Iterator.{first_from_Range}
+use Rattle.std.specs.Option.{MatchOption, unwrap_or}
 use Rattle.code.specs.Layout.{words_of}
-use Rattle.judge.specs.Search.{seek-start, seek_found, seek-next, seek-done}
+use Rattle.judge.specs.Search.{first_from, Seeking, seek-start, seek_found, seek-next, seek-done}
 use Rattle.judge.specs.Judged.{fails_at, failing-eq}
 use Rattle.judge.proofs.first_failing.Goals as goal
 
-pub loop-i-init : goal.loop-i-init
-loop-i-init c = let a = c.args in seek-start (fails_at a.p (words_of a.p a.page.now)) a.p.m
+-- none of those before i
+module _ (P : ℕ → Bool) (o : ℕ) where
+  come : (i : ℕ) → i ≤ o → ((k : ℕ) → 0 ≤ k → k < i → P k ≡ false) → Seeking P o i
+  come zero h e = seek-start P o
+  come (suc i) h e =
+      rw (← add-one i)
+      (seek-next P o i (come i (omega arith) (λ k a b. e k a (omega arith))) h (e i zero-le (Nat.le_refl (suc i))))
 
-pub sub_word_passes-requires : goal.sub_word_passes-requires
-sub_word_passes-requires c = (c.requires, c.loop-i-test.true)
-
-pub returns-then-not-sub_word_passes : goal.returns-then-not-sub_word_passes
-returns-then-not-sub_word_passes c =
-    let a = c.args in
-    let P = fails_at a.p (words_of a.p a.page.now) in
-    seek_found P a.p.m c.loop-i.i c.loop-i.invariant c.loop-i-test.true (ap not (sym c.sub_word_passes.ensures ∙ c.if-not-sub_word_passes.true))
-    ∙ sym (failing-eq a.p (words_of a.p a.page.now))
-
-pub loop-i-preserved : goal.loop-i-preserved
-loop-i-preserved c =
-    let a = c.args in
-    let P = fails_at a.p (words_of a.p a.page.now) in
-    seek-next P a.p.m c.loop-i.i c.loop-i.invariant c.loop-i-test.true (ap not (sym c.sub_word_passes.ensures ∙ c.if-not-sub_word_passes.false))
+  found : (r : Option ℕ) → MatchOption r ((k : ℕ) → 0 ≤ k → k < o → P k ≡ false) (λ i. (0 ≤ i) × (i < o) × (P i ≡ true) × ((k : ℕ) → 0 ≤ k → k < i → P k ≡ false))
+      → unwrap_or r o ≡ first_from P 0 o o
+  found None m = seek-done P o o (come o (Nat.le_refl o) m) (Nat.le_refl o)
+  found (Some i) m = seek_found P o i (come i (omega (arith, m.1)) m.3) m.1 m.2
 
 pub returns : goal.returns
 returns c =
     let a = c.args in
-    seek-done (fails_at a.p (words_of a.p a.page.now)) a.p.m c.loop-i.i c.loop-i.invariant c.loop-i-test.false ∙ sym (failing-eq a.p (words_of a.p a.page.now))
+    let P = fails_at a.p (words_of a.p a.page.now) in
+    c.unwrap_or.ensures ∙ found P a.p.m c.find.result (first_from_Range _ _ _ _ (λ i. P i ≡ true) (λ i. P i ≡ false) c.find.ensures.ran
+    (λ x q k. search (rules, tests)) (λ x q k. search (rules, tests)))
+    ∙ sym (failing-eq a.p (words_of a.p a.page.now))

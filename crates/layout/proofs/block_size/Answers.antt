@@ -1,6 +1,6 @@
-use native.Mathlib.Omega.{arith}
-use Rattle.layout.specs.Sizes.{data-high}
+use Rattle.std.proofs.Common.{arith}
+use Rattle.std.proofs.lemmas.Grind.{common_steps}
 use Rattle.layout.proofs.block_size.Goals as goal
 
-pub overflow_add-result : goal.overflow_add-result
-overflow_add-result c = omega (arith, data-high _ c.requires.0 c.args.i)
+pub returns : goal.returns
+returns c = grind (arith, common_steps, c.div_ceil.ensures)

@@ -1,10 +1,6 @@
-use Prim.Native.Nat.{◌-◌}
 use Rattle.layout.specs.Tested.{BlocksPassed}
 use Rattle.layout.specs.Runs.{test_of}
 use Rattle.layout.proofs.blocks_pass.Given as goal
 
 abbrev pub invariant-loop-j : goal.invariant-loop-j
 invariant-loop-j l = BlocksPassed (test_of l.ones) l.p l.blocks l.at l.j
-
-abbrev pub decreases-loop-j : goal.decreases-loop-j
-decreases-loop-j l = l.p.m - l.j

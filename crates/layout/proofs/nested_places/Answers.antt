@@ -8,8 +8,5 @@ overflow_mul-k c = omega (arith, c.sub_word_bytes.ensures, word-high _ c.require
 pub overflow_add-k : goal.overflow_add-k
 overflow_add-k c = omega (arith, c.sub_word_bytes.ensures, word-high _ c.requires)
 
-pub returns-then-n-k : goal.returns-then-n-k
-returns-then-n-k c = omega (arith, c.sub_word_bytes.ensures, c.length_of-n.ensures, c.if-n-k.true)
-
 pub returns : goal.returns
-returns c = omega (arith, c.sub_word_bytes.ensures, c.length_of-n.ensures, c.if-n-k.false)
+returns c = omega (arith, c.sub_word_bytes.ensures, c.length_of-n.ensures, c.min.ensures)

@@ -6,5 +6,5 @@ use Rattle.layout.proofs.run_passes.Goals as goal
 pub returns-then-ones : goal.returns-then-ones
 returns-then-ones c = c.run_ones.ensures ∙ ap (λ (o : Bool). run_passes (test_of o) c.args.bytes.now c.args.at c.args.size c.args.b) (sym c.if-ones.true)
 
-pub returns : goal.returns
-returns c = c.run_clear.ensures ∙ ap (λ (o : Bool). run_passes (test_of o) c.args.bytes.now c.args.at c.args.size c.args.b) (sym c.if-ones.false)
+pub returns-else-ones : goal.returns-else-ones
+returns-else-ones c = c.run_clear.ensures ∙ ap (λ (o : Bool). run_passes (test_of o) c.args.bytes.now c.args.at c.args.size c.args.b) (sym c.if-ones.false)

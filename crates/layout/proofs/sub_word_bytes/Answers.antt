@@ -1,9 +1,6 @@
-use native.Mathlib.Omega.{arith}
-use Rattle.layout.specs.Sizes.{stored-high}
+use Rattle.std.proofs.Common.{arith}
+use Rattle.std.proofs.lemmas.Grind.{common_steps}
 use Rattle.layout.proofs.sub_word_bytes.Goals as goal
 
-pub overflow_add-result : goal.overflow_add-result
-overflow_add-result c = omega (arith, stored-high _ c.requires)
-
 pub returns : goal.returns
-returns c = omega arith
+returns c = grind (arith, common_steps, c.div_ceil.ensures)

@@ -16,11 +16,11 @@ log-k-requires c = Nat.lt_of_lt_of_le c.requires.4 (log-room c.args.f c.args.pow
 pub loop-i-init : goal.loop-i-init
 loop-i-init c = upto-first _ _ _ _ c.requires.1
 
-pub multiple-x-requires : goal.multiple-x-requires
-multiple-x-requires c = (c.requires.0, (log_is (goal.at.multiple-x-requires c).After-log-k).below, c.requires.2.lt c.loop-i.i)
+pub multiple-requires : goal.multiple-requires
+multiple-requires c = (c.requires.0, (log_is (goal.at.multiple-requires c).After-log-k).below, c.requires.2.lt c.loop-i.i)
 
 pub loop-i-preserved : goal.loop-i-preserved
-loop-i-preserved c = upto_step c.loop-i.invariant (omega arith) (product-log (log_is (goal.at.loop-i-preserved c).After-log-k) c.multiple-x.ensures)
+loop-i-preserved c = upto_step c.loop-i.invariant (omega arith) (product-log (log_is (goal.at.loop-i-preserved c).After-log-k) c.multiple.ensures)
 
 pub returns : goal.returns
 returns c = upto-last c.requires.5 c.loop-i.invariant (omega arith)

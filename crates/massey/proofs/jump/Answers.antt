@@ -23,14 +23,14 @@ log-m-requires c = Nat.lt_of_lt_of_le c.requires.6 (log-room c.args.f c.args.pow
 pub loop-i-init : goal.loop-i-init
 loop-i-init c = jump-first _ _ _ _ _ c.requires.1 c.requires.2
 
-pub multiple-x-requires : goal.multiple-x-requires
-multiple-x-requires c = (c.requires.0, (log-d (goal.at.multiple-x-requires c).After-log-m).below, c.loop-i.invariant.small.lt c.loop-i.i)
+pub multiple-requires : goal.multiple-requires
+multiple-requires c = (c.requires.0, (log-d (goal.at.multiple-requires c).After-log-m).below, c.loop-i.invariant.small.lt c.loop-i.i)
 
-pub multiple-y-requires : goal.multiple-y-requires
-multiple-y-requires c = (c.requires.0, (log-e (goal.at.multiple-y-requires c).After-log-m).below, c.loop-i.invariant.sums.small.lt c.loop-i.i)
+pub multiple-requires-in-loop-i : goal.multiple-requires-in-loop-i
+multiple-requires-in-loop-i c = (c.requires.0, (log-e (goal.at.multiple-requires-in-loop-i c).After-log-m).below, c.loop-i.invariant.sums.small.lt c.loop-i.i)
 
 pub loop-i-preserved : goal.loop-i-preserved
-loop-i-preserved c = jump-step c.loop-i.invariant (omega arith) c.requires.7 (product-log (log-d (goal.at.loop-i-preserved c).After-log-m) c.multiple-x.ensures) (product-log (log-e (goal.at.loop-i-preserved c).After-log-m) c.multiple-y.ensures)
+loop-i-preserved c = jump-step c.loop-i.invariant (omega arith) c.requires.7 (product-log (log-d (goal.at.loop-i-preserved c).After-log-m) c.multiple.ensures) (product-log (log-e (goal.at.loop-i-preserved c).After-log-m) c.multiple-in-loop-i.ensures)
 
 pub returns : goal.returns
 returns c = jump-last c.loop-i.invariant c.requires.7 (omega arith)

@@ -1,6 +1,6 @@
 use borrow.Author.Tests.{eq-eqb, ne_eqb}
 use mathlib.Core.Path.{sym, ◌∙◌}
-use Prim.Native.Nat.{◌*◌, ◌≤◌}
+use Prim.Native.Nat.{◌+◌, ◌*◌, ◌≤◌}
 use native.Mathlib.Nat as Nat
 use native.Mathlib.Omega.{arith}
 use Rattle.sheet.specs.Clashes.{hits, search-start, search-found, search-next, search-done, first-multiple, next_multiple, small-none}
@@ -15,25 +15,32 @@ overflow_mul-d c =
 pub returns-then-d-last : goal.returns-then-d-last
 returns-then-d-last c = let a = c.args in small-none a.d a.n a.last c.requires.0 c.if-d-last.true
 
-pub loop-j-init : goal.loop-j-init
-loop-j-init c =
+pub loop-init : goal.loop-init
+loop-init c =
     let a = c.args in
     (search-start (hits a.n a.d) a.last, first-multiple a.d a.n c.requires.1, c.requires.1)
 
 pub returns-then-x-eq0 : goal.returns-then-x-eq0
 returns-then-x-eq0 c =
     let a = c.args in
-    let s = c.loop-j in
-    search-found (hits a.n a.d) a.last s.j s.invariant.0 c.loop-j-test.true (eq-eqb _ _ (sym s.invariant.1 ∙ c.if-x-eq0.true))
+    let s = c.loop in
+    search-found (hits a.n a.d) a.last s.counter s.invariant.0 c.loop-test.true (eq-eqb _ _ (sym s.invariant.1 ∙ c.if-x-eq0.true))
 
-pub loop-j-preserved : goal.loop-j-preserved
-loop-j-preserved c =
+pub loop-preserved : goal.loop-preserved
+loop-preserved c =
     let a = c.args in
-    let s = c.loop-j in (
-      search-next (hits a.n a.d) a.last s.j s.invariant.0 c.loop-j-test.true (ne_eqb _ _ (λ e. c.if-x-eq0.false (s.invariant.1 ∙ e))),
-      next_multiple a.d a.n s.j s.x c.modulo-x.result s.invariant.1 c.modulo-x.ensures.0,
+    let s = c.loop in (
+      search-next (hits a.n a.d) a.last s.counter s.invariant.0 c.loop-test.true (ne_eqb _ _ (λ e. c.if-x-eq0.false (s.invariant.1 ∙ e))),
+      next_multiple a.d a.n s.counter s.x c.modulo-x.result s.invariant.1 c.modulo-x.ensures.0,
       c.modulo-x.ensures.1,
     )
 
-pub returns : goal.returns
-returns c = let a = c.args in let s = c.loop-j in search-done (hits a.n a.d) a.last s.j s.invariant.0 c.loop-j-test.false
+pub returns-else-x-eq0 : goal.returns-else-x-eq0
+returns-else-x-eq0 c =
+    let a = c.args in
+    let s = c.loop in
+    search-done (hits a.n a.d) a.last (s.counter + 1)
+    (search-next (hits a.n a.d) a.last s.counter s.invariant.0 c.loop-test.true (ne_eqb _ _ (λ e. c.if-x-eq0.false (s.invariant.1 ∙ e)))) (omega arith)
+
+pub returns-else-d-last : goal.returns-else-d-last
+returns-else-d-last c = let a = c.args in let s = c.loop in search-done (hits a.n a.d) a.last s.counter s.invariant.0 c.loop-test.false

@@ -1,12 +1,8 @@
-use mathlib.Core.Path.{◌≡◌}
-use Prim.Native.Nat.{◌+◌, ◌-◌, ◌≤◌}
-use lib.ListN.{length, get_or}
+use Prim.Native.Nat.{◌+◌}
+use lib.ListN.{get_or}
 use Rattle.field.specs.Odd.{from_odd}
 use Rattle.code.specs.Filled.{Filled}
 use Rattle.syndrome.proofs.all_into.Given as goal
 
 abbrev pub invariant-loop-j : goal.invariant-loop-j
-invariant-loop-j l = (length l.list ≡ length l.initial.list) × (l.n ≡ length l.initial.list) × (l.j ≤ l.n) × Filled (λ k. from_odd l.f.q (λ i. get_or l.odd i 0) (1 + k)) l.j l.list
-
-abbrev pub decreases-loop-j : goal.decreases-loop-j
-decreases-loop-j l = l.n - l.j
+invariant-loop-j l = Filled (λ k. from_odd l.f.q (λ i. get_or l.odd i 0) (1 + k)) l.j l.list

@@ -13,5 +13,5 @@ returns-then-y-f c =
 pub reduce-requires : goal.reduce-requires
 reduce-requires c = c.requires.known
 
-pub returns : goal.returns
-returns c = c.reduce.ensures
+pub returns-else-y-f : goal.returns-else-y-f
+returns-else-y-f c = c.reduce.ensures

@@ -5,7 +5,4 @@ use Rattle.field.specs.Fields.{field_polynomial}
 use Rattle.syndrome.proofs.reduce.Given as goal
 
 abbrev pub invariant-loop-k : goal.invariant-loop-k
-invariant-loop-k l = (l.q ≤ l.k) × (l.k ≤ 16) × (l.y < 2 ^ l.k) × (rem (field_polynomial l.q) l.q l.y ≡ rem (field_polynomial l.q) l.q l.x)
-
-abbrev pub decreases-loop-k : goal.decreases-loop-k
-decreases-loop-k l = l.k
+invariant-loop-k l = (l.q ≤ l.k) × (l.y < 2 ^ l.k) × (rem (field_polynomial l.q) l.q l.y ≡ rem (field_polynomial l.q) l.q l.x)

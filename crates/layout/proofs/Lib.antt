@@ -1,0 +1,2 @@
+-- Lemmas of the layout's own proofs.
+mod Ranges
