@@ -5,7 +5,6 @@ use native.Mathlib.Omega.{arith}
 use lib.Dec.{leb, lit<}
 use lib.ListN.{length, get_or, take}
 use Rattle.polynomial.specs.Digits.{value}
-use Rattle.field.specs.Flips.{flips}
 use Rattle.locator.specs.Locate.{kept}
 use Rattle.code.proofs.Accepted.{accepted, rising}
 use Rattle.code.specs.Code.{nearest}
@@ -14,7 +13,6 @@ use Rattle.code.proofs.Mend.{word_low}
 use Rattle.code.specs.Parameters.{stored, strength}
 use Rattle.code.proofs.Placement.{word_at}
 use Rattle.layout.specs.SubWords.{part-is}
-use Rattle.layout.specs.Written.{written}
 use Rattle.mend.specs.Call.{found-flips, found-long, found_none, found-places, found_some, mend-made, mend-nowhere, written-flipped}
 use Rattle.mend.proofs.mend_word.Goals as goal
 use Rattle.mend.proofs.mend_word.Goals.{After-find-c, Else-t-c, Start}
