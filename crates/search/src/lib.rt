@@ -16,8 +16,8 @@ ghost use Rattle.search.specs.Zeros.{Collected, Keeps, Rooted};
 
 use element::Field;
 
-// A term that the search runs through: α^e x^i, at x = 1/α^k for rising k, plus w. One whose coefficient is 0 has e = i = 0 and w = 1: so the
-// loop over the places asks no Option. specs/Slots reads its fields.
+// A term that the search runs through: α^e x^i, at x = 1/α^k for rising k, plus w. One whose coefficient is 0 has e = i = 0 and
+// w = 1: so the loop over the places asks no Option. specs/Slots reads its fields.
 #[derive(Clone, Copy)]
 struct Slot {
     e: usize,
