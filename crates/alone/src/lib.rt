@@ -37,9 +37,10 @@ fn find(
     let mut r = [0u64; 13];
     levels::remainder_at(&mut r, t, s, z, p, 0, w);
     if kernels::row::is_zero(&r) {
-        return 0;
+        0
+    } else {
+        mend::locate_by(powers, logs, f, &r, w, p.t0 as usize, z, list)
     }
-    mend::locate_by(powers, logs, f, &r, w, p.t0 as usize, z, list)
 }
 
 // Sub-word i mended, if it can be: whether it could.
@@ -76,13 +77,10 @@ fn mend_words(
     requires { Lent p f powers.now logs.now × Prepared p 0 t.now × (w ≡ degree p 0) × IsPage p page.old × (length broken.old ≡ 8) }
     ensures { Held p (start p (words_of p page.old)) page.new broken.new result }
 {
-    let m = p.m as usize;
     let mut b: usize = 0;
-    let mut i: usize = 0;
-    while i < m {
+    for i in 0..p.m as usize {
         let found = mend_word(p, f, powers, logs, t, w, page, i);
         b = numbers::note(broken, b, i as u16, found);
-        i += 1;
     }
     b
 }

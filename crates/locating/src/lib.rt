@@ -20,16 +20,8 @@ fn agrees(powers: &[u16], f: Field, odd: &[u16], list: &[u16], c: usize, t: usiz
     ensures { result ≡ agree f.q (from_list f.q odd.now) (take c list.now) (2 * t) }
 {
     let mut room = [0u16; 64];
-    let sums = &mut room[..t];
-    syndrome::odd_sums(sums, powers, f, &list[..c]);
-    let mut k: usize = 0;
-    while k < t {
-        if sums[k] != odd[k] {
-            return false;
-        }
-        k += 1;
-    }
-    true
+    syndrome::odd_sums(&mut room[..t], powers, f, &list[..c]);
+    room[..t] == odd[..t]
 }
 
 // In rooms of more than t entries, all 0; s are all syndromes.
@@ -55,13 +47,11 @@ fn locate_in(
         return t + 1;
     }
     let c = search::roots(powers, logs, f, sig, l, z, list);
-    if t < c {
-        return t + 1;
+    if c <= t && agrees(powers, f, odd, list, c, t) {
+        c
+    } else {
+        t + 1
     }
-    if agrees(powers, f, odd, list, c, t) {
-        return c;
-    }
-    t + 1
 }
 
 // The places, rising and below z, of the error of at most t places with the odd syndromes S_1, S_3, .., t of them: their number, and they

@@ -17,7 +17,6 @@ ghost use Rattle.element.specs.Lent.{Tables};
 ghost use Rattle.layout.specs.Written.{written};
 ghost use Rattle.syndrome.specs.Places.{Places};
 ghost use Rattle.refusal.specs.Indexed.{Unrefused};
-ghost use Rattle.mend.specs.Left.{place_at};
 ghost use Rattle.mend.specs.Settled.{Settled};
 
 use code::{Outcome, Parameters, Refusal};
@@ -79,9 +78,10 @@ fn find(p: Parameters, s: &[u8], t: usize, list: &mut [u16]) -> usize
     let mut r = [0u64; 13];
     let w = level_remainder(&mut r, p, 0, s);
     if kernels::row::is_zero(&r) {
-        return 0;
+        0
+    } else {
+        locate_in(p, &r, w, t, list)
     }
-    locate_in(p, &r, w, t, list)
 }
 
 // ---- what is left in the lent page and list
@@ -91,10 +91,8 @@ fn flip_all(s: &mut [u8], list: &[u16], c: usize)
     requires { (c ≤ length list.now) × Places (8 * length s.old) c list.now }
     ensures { value 8 s.new ≡ xor (value 8 s.old) (flips (take c list.now)) }
 {
-    let mut j: usize = 0;
-    while j < c {
-        layout::flip(s, list[j] as usize);
-        j += 1;
+    for &e in &list[..c] {
+        layout::flip(s, usize::from(e));
     }
 }
 
@@ -121,27 +119,13 @@ pub fn settle(p: Parameters, page: &mut [u8], i: usize, list: &[u16], c: usize, 
     true
 }
 
-// Place j of the list, of which c count, or 65535.
-fn place_at(list: &[u16], c: usize, j: usize) -> u16
-    requires { c ≤ length list.now }
-    ensures { result ≡ place_at list.now c j }
-{
-    if j < c {
-        return list[j];
-    }
-    65535
-}
-
 // The first c places of the list, and 65535 after them.
 fn list_into(places: &mut [u16], list: &[u16], c: usize)
     requires { (c ≤ length list.now) × (c ≤ length places.old) }
     ensures { places.new ≡ place_list (length places.old) (take c list.now) }
 {
-    let mut j: usize = 0;
-    while j < places.len() {
-        places[j] = place_at(list, c, j);
-        j += 1;
-    }
+    places[..c].copy_from_slice(&list[..c]);
+    places[c..].fill(65535);
 }
 
 // Sub-word i mended, all being lent as it must be, t being t_0. Nothing is written before the places are known.

@@ -27,11 +27,7 @@ fn is_member(p: Parameters, rows: [[u64; 13]; 4], page: &[u8]) -> bool
     requires { Accepted p × (rows ≡ generators p) × IsPage p page.now }
     ensures { result ≡ (eqb (failing_number p (words_of p page.now)) 0 && not (blank p page.now)) }
 {
-    if layout::page_blank(p, page) {
-        return false;
-    }
-    let r = judge::verdict_of(p, rows, page);
-    says_member(r)
+    !layout::page_blank(p, page) && says_member(judge::verdict_of(p, rows, page))
 }
 
 // Rounds until none is broken, the first b numbers of the list being those of the broken sub-words: whether a member comes of it, and then the page
@@ -52,6 +48,7 @@ fn mend_rounds(
     let v = p.v as usize;
     let mut left = [0u16; 8];
     let mut n = b;
+    // n falls by the sub-words that a round mends
     while 0 < n {
         if v < n {
             return false;
@@ -60,7 +57,7 @@ fn mend_rounds(
         if n <= c {
             return false;
         }
-        syndrome::copy(broken, &left);
+        broken.copy_from_slice(&left);
         n = c;
     }
     is_member(p, rows, page)

@@ -55,12 +55,8 @@ fn put_row(rows: &mut [u16], row: &[u16], l: usize)
     requires { (length rows.old ≡ 192) × (l < 3) × (length row.now ≤ 64) }
     ensures { PutRow row.now l rows.old rows.new }
 {
-    let n = row.len();
-    let mut k: usize = 0;
-    while k < n {
-        rows[64 * l + k] = row[k];
-        k += 1;
-    }
+    let at = 64 * l;
+    rows[at..at + row.len()].copy_from_slice(row);
 }
 
 // The syndromes of the first b nested words, a row each.
@@ -82,11 +78,9 @@ fn sums_into(
     let k = sheet::strength_at(p, a as u32) as usize;
     let mut room = [0u16; 64];
     let row = &mut room[..k];
-    let mut l: usize = 0;
-    while l < b {
+    for l in 0..b {
         nested_sums(row, p, f, powers, t, a, w, page, l);
         put_row(rows, row, l);
-        l += 1;
     }
 }
 
@@ -159,17 +153,13 @@ fn mend_words(
         × (1 ≤ length ks.now) × (length ks.now ≤ p.v) × Rising 0 p.m ks.now × (length left.old ≡ 8) }
     ensures { Held p (round p (record { words = words_of p page.old; broken = ks.now })) page.new left.new result }
 {
-    let b = ks.len();
     let k = sheet::strength_at(p, a as u32) as usize;
     let mut rows = [0u16; 192];
-    sums_into(&mut rows, p, f, powers, t, a, w, page, b);
+    sums_into(&mut rows, p, f, powers, t, a, w, page, ks.len());
     let mut n: usize = 0;
-    let mut c: usize = 0;
-    while c < b {
-        let i = ks[c];
+    for &i in ks {
         let found = mend_word(p, f, powers, logs, &rows, ks, a, k, page, i);
         n = numbers::note(left, n, i, found);
-        c += 1;
     }
     n
 }

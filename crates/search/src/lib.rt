@@ -16,7 +16,8 @@ ghost use Rattle.search.specs.Zeros.{Collected, Keeps, Rooted};
 
 use element::Field;
 
-// A term that the search runs through: α^e x^i, at x = 1/α^k for rising k, plus w. One whose coefficient is 0 has e = i = 0 and w = 1.
+// A term that the search runs through: α^e x^i, at x = 1/α^k for rising k, plus w. One whose coefficient is 0 has e = i = 0 and
+// w = 1: so the loop over the places asks no Option. specs/Slots reads its fields.
 #[derive(Clone, Copy)]
 struct Slot {
     e: usize,
@@ -38,15 +39,11 @@ fn slot_of(logs: &[u16], f: Field, sig: &[u16], l: usize, i: usize) -> Slot
     requires { Sized f × Logs f.q (take (2 ^ f.q) logs.now) × Below f.q sig.now × (l < length sig.now) × (l < 2 ^ f.q - 1) }
     ensures { Holds f.q result (λ k. nth f.q sig.now l i k) }
 {
-    if l < i {
+    if l < i || sig[i] == 0 {
         return Slot { e: 0, i: 0, w: 1 };
     }
-    let d = sig[i];
-    if d == 0 {
-        return Slot { e: 0, i: 0, w: 1 };
-    }
-    let e = element::log(logs, d as u32) as usize;
-    Slot { e: e, i: i, w: 0 }
+    let e = element::log(logs, u32::from(sig[i])) as usize;
+    Slot { e, i, w: 0 }
 }
 
 // The sum of five powers.
@@ -82,16 +79,14 @@ fn add_five(
     let mut r = c.e;
     let mut s = d.e;
     let mut t = e.e;
-    let mut k: usize = 0;
-    while k < z {
+    for k in 0..z {
         let x = powers_sum(powers, p, q, r, s, t);
-        acc[k] = acc[k] ^ (w ^ x);
+        acc[k] ^= w ^ x;
         p = next(f, p, a.i);
         q = next(f, q, b.i);
         r = next(f, r, c.i);
         s = next(f, s, d.i);
         t = next(f, t, e.i);
-        k += 1;
     }
 }
 
@@ -133,14 +128,12 @@ fn values(
         × (c < 3) × Zeroed acc.old × (z ≤ length acc.old) }
     ensures { Values f.q (every f.q sig.now l c) (5 * (l / 15 + 1)) z acc.new }
 {
-    let mut j: usize = 0;
-    while 3 * j <= l {
-        add_group(powers, logs, f, sig, l, c + 3 * j, acc, z);
-        j += 5;
+    for g in 0..l / 15 + 1 {
+        add_group(powers, logs, f, sig, l, c + 15 * g, acc, z);
     }
 }
 
-// Values at three places.
+// Values at three places; no array, since `Turned` (Thirds) reads its fields.
 #[derive(Clone, Copy)]
 struct Three {
     x: u16,
@@ -154,7 +147,7 @@ fn three_of(powers: &[u16], logs: &[u16], f: Field, w: u16, a: u16, b: u16, c: u
     ensures { Turned f.q w a b c result }
 {
     let s = b ^ c;
-    let p = element::times_lent(powers, logs, f, w as u32, s as u32) as u16;
+    let p = element::times_lent(powers, logs, f, u32::from(w), u32::from(s)) as u16;
     Three {
         x: a ^ s,
         y: a ^ (p ^ b),
@@ -179,13 +172,11 @@ fn combine(
     ensures { Filled f.q (power f.q h) a.now b.now c.now h h acc.new }
 {
     let w = powers[h];
-    let mut k: usize = 0;
-    while k < h {
+    for k in 0..h {
         let r = three_of(powers, logs, f, w, a[k], b[k], c[k]);
         acc[k] = r.x;
         acc[h + k] = r.y;
         acc[2 * h + k] = r.z;
-        k += 1;
     }
 }
 
@@ -199,7 +190,6 @@ fn keep(list: &mut [u16], c: usize, k: usize, x: u16) -> usize
     }
     if c < list.len() {
         list[c] = k as u16;
-        return c + 1;
     }
     c + 1
 }
@@ -210,10 +200,8 @@ fn collect(acc: &[u16], z: usize, list: &mut [u16]) -> usize
     ensures { Collected acc.now z result list.old list.new }
 {
     let mut c: usize = 0;
-    let mut k: usize = 0;
-    while k < z {
+    for k in 0..z {
         c = keep(list, c, k, acc[k]);
-        k += 1;
     }
     c
 }

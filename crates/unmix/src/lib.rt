@@ -19,15 +19,12 @@ pub fn others_into(list: &mut [u16], ks: &[u16], i: u16) -> usize
     requires { length ks.now ≤ length list.old }
     ensures { (result ≤ length ks.now) × (take result list.new ≡ others i ks.now) }
 {
-    let n = ks.len();
     let mut c: usize = 0;
-    let mut k: usize = 0;
-    while k < n {
-        if ks[k] != i {
-            list[c] = ks[k];
+    for &k in ks {
+        if k != i {
+            list[c] = k;
             c += 1;
         }
-        k += 1;
     }
     c
 }
@@ -63,12 +60,9 @@ fn take_out(sums: &mut [u16], powers: &[u16], logs: &[u16], f: Field, y: u16)
     ensures { TakenOut f.q y sums.old sums.new }
 {
     let k = element::log(logs, y as u32);
-    let n = sums.len();
-    let mut l: usize = 0;
-    while l + 1 < n {
-        let x = multiple(powers, logs, f, k, sums[l]);
-        sums[l] = sums[l + 1] ^ x;
-        l += 1;
+    for l in 1..sums.len() {
+        let x = multiple(powers, logs, f, k, sums[l - 1]);
+        sums[l - 1] = sums[l] ^ x;
     }
 }
 
@@ -87,14 +81,11 @@ fn weight_of(
     ensures { result ≡ weight_at f.q j i others.now (λ l. get_or sums.old l 0) }
 {
     let x = node(powers, logs, f, j, i);
-    let n = others.len();
     let mut d: u16 = 1;
-    let mut c: usize = 0;
-    while c < n {
-        let y = node(powers, logs, f, j, others[c] as usize);
+    for &k in others {
+        let y = node(powers, logs, f, j, usize::from(k));
         take_out(sums, powers, logs, f, y);
         d = product(powers, logs, f, d, x ^ y);
-        c += 1;
     }
     quotient(powers, logs, f, sums[0], d)
 }
@@ -104,11 +95,8 @@ fn column(sums: &mut [u16], rows: &[u16], k: usize)
     requires { (k < 64) × (64 * length sums.old ≤ length rows.now) × (length sums.old ≤ 3) }
     ensures { sums.new ≡ map (λ l. get_or rows.now (64 * l + k) 0) (range 0 (length sums.old)) }
 {
-    let n = sums.len();
-    let mut l: usize = 0;
-    while l < n {
-        sums[l] = rows[64 * l + k];
-        l += 1;
+    for (l, sum) in sums.iter_mut().enumerate() {
+        *sum = rows[64 * l + k];
     }
 }
 
@@ -147,10 +135,7 @@ pub fn error_into(
         × All (λ j. j < 8) others.now × Apart f.q (length odd.old) i others.now }
     ensures { odd.new ≡ map (unmixed_at f.q rows.now others.now i) (range 0 (length odd.old)) }
 {
-    let n = odd.len();
-    let mut k: usize = 0;
-    while k < n {
-        odd[k] = error_at(rows, others, powers, logs, f, i, k);
-        k += 1;
+    for (k, s) in odd.iter_mut().enumerate() {
+        *s = error_at(rows, others, powers, logs, f, i, k);
     }
 }

@@ -52,9 +52,7 @@ pub fn quotient(q: &mut [u64], f: &[u64], u: usize, g: &[u64], w: usize)
     add(&mut r, &a);
     clear(q);
     insert(q, 1, 0);
-    let mut j: usize = 0;
-    while j < u - w {
+    for _ in 0..u - w {
         divide_step(q, &mut r, &a);
-        j += 1;
     }
 }

@@ -32,11 +32,7 @@ fn places_in(p: Parameters, bytes: usize) -> usize
     requires { Accepted p }
     ensures { result ≡ min (len p) (8 * bytes) }
 {
-    let n = layout::length_of(p);
-    if n / 8 < bytes {
-        return n;
-    }
-    8 * bytes
+    layout::length_of(p).min(bytes.saturating_mul(8))
 }
 
 // The remainder of s by level a's generator, and that generator's degree.

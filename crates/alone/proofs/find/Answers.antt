@@ -65,8 +65,8 @@ locate_by-requires c =
       rw c.requires.5 b.0,
     )
 
-pub returns : goal.returns
-returns c =
+pub returns-else-is_zero : goal.returns-else-is_zero
+returns-else-is_zero c =
     let A = c.requires.0.accepts in
-    nearest-remainder c.args.p A ((get_or (words_of c.args.p c.args.page.now) c.args.i 0)) (low (goal.at.returns c).After-remainder_at) (value 64 c.remainder_at.new.r) (is (goal.at.returns c).After-remainder_at) c.args.p.t0 _ refl
+    nearest-remainder c.args.p A ((get_or (words_of c.args.p c.args.page.now) c.args.i 0)) (low (goal.at.returns-else-is_zero c).After-remainder_at) (value 64 c.remainder_at.new.r) (is (goal.at.returns-else-is_zero c).After-remainder_at) c.args.p.t0 _ refl
     (sheet-located c.args.p A c.args.f c.requires.0.field c.stored_of-z.result c.stored_of-z.ensures (value 64 c.remainder_at.new.r) c.args.p.t0 _ c.locate_by.ensures)

@@ -1,50 +1,43 @@
-use mathlib.Core.Path.{◌≡◌, sym, ◌∙◌}
-use Prim.Native.Nat.{ℕ, ◌+◌, ◌*◌, ◌<◌}
-use native.Mathlib.Nat as Nat
-use native.Mathlib.Omega.{arith}
-use lib.ListN.{length, get_or, take}
-use lib.Seq.{length-take-le}
-use Rattle.code.proofs.Pages.{zeros-length}
+use Rattle.std.specs.Prelude.{◌≡◌, refl, Bool, true, false, List, ◌++◌, ℕ, ◌+◌, ◌*◌, ◌≤◌, ◌<◌, eqb, length, get_or, take}
+use Rattle.std.specs.Bool.{Decides}
+use lib.Pointwise.{pointwise}
+use Rattle.std.proofs.Common.{sym, ap, ◌∙◌, ext_get_or}
+use Rattle.std.proofs.lemmas.Bool.Decides.{Decides-eqb, same_from_decides}
+use Rattle.std.proofs.lemmas.List.{get_or-take, length-take-le, take_at}
+use Rattle.std.proofs.lemmas.Slice.Eq.{slice_eq-Decides}
 use Rattle.field.specs.Elements.{syndrome}
+use Rattle.field.specs.Fields.{Known}
 use Rattle.field.specs.Flips.{flips}
-use Rattle.syndrome.specs.Places.{places-take}
 use Rattle.code.proofs.Filled.{map_at, map-length}
-use Rattle.locating.specs.Look.{agree-not-odd, agree-odd, one_more}
+use Rattle.code.proofs.Pages.{zeros-length}
+use Rattle.locator.specs.Locate.{agree}
+use Rattle.locating.specs.Look.{agree-not-odd, agree-odd, from_list}
 use Rattle.locating.proofs.agrees.Goals as goal
-use Rattle.locating.proofs.agrees.Goals.{After-odd_sums}
 
--- the sums
-module _ (o : After-odd_sums) where
-  size : length o.odd_sums.new.list ≡ o.args.t
-  size = map-length _ _ o.odd_sums.new.list o.odd_sums.ensures ∙ zeros-length o.args.t 64 o.requires.5
+-- the odd sums s of the places R are the first t of o just where all syndromes agree
+looked : (q : ℕ) → Known q → (o R s : List ℕ) (t : ℕ) → t ≤ length o → length s ≡ t → ((i : ℕ) → i < t → get_or s i 0 ≡ syndrome q (flips R) (2 * i + 1))
+    → Decides (agree q (from_list q o) R (2 * t)) (s ≡ take t o)
+looked q known o R s t h e f = (same, λ w. sym (agree-odd q known o R t (λ i b. sym (ap (λ (l : List ℕ). get_or l i 0) w ∙ get_or-take t o i 0 b) ∙ f i b)))
+  where
+    same : agree q (from_list q o) R (2 * t) ≡ true → s ≡ take t o
+    same a = ext_get_or 0 s (take t o) (e ∙ sym (length-take-le t o h)) (λ i k. let b : i < t = rw e at k in go i b (eqb (get_or s i 0) (get_or o i 0)) refl ∙ sym (get_or-take t o i 0 b))
+      where
+        differ : false ≡ true → ⊥
+        differ w = (cc)
 
-  summed : (i : ℕ) → i < o.args.t → get_or o.odd_sums.new.list i 0 ≡ syndrome o.args.f.q (flips (take o.args.c o.args.list.now)) (2 * i + 1)
-  summed i h = map_at _ _ o.odd_sums.new.list o.odd_sums.ensures i (rw (zeros-length o.args.t 64 o.requires.5) h)
+        go : (i : ℕ) → i < t → (b : Bool) → eqb (get_or s i 0) (get_or o i 0) ≡ b → get_or s i 0 ≡ get_or o i 0
+        go i h true w = (Decides-eqb (get_or s i 0) (get_or o i 0)).0 w
+        go i h false w = absurd (differ (agree-not-odd q o R i t (get_or s i 0) h (f i h) (λ z. differ (sym w ∙ (Decides-eqb (get_or s i 0) (get_or o i 0)).1 z)) ∙ a))
 
-pub slice_bounds-sums-end : goal.slice_bounds-sums-end
-slice_bounds-sums-end c = sym (zeros-length c.args.t 64 c.requires.5)
-
-pub slice_bounds-odd_sums-end : goal.slice_bounds-odd_sums-end
-slice_bounds-odd_sums-end c = sym (length-take-le c.args.c c.args.list.now c.requires.1)
-
-pub odd_sums-requires : goal.odd_sums-requires
-odd_sums-requires c = (c.requires.0, omega (arith, length-take-le c.args.c c.args.list.now c.requires.1, c.requires.2), places-take c.requires.3 c.requires.1)
-
-pub loop-k-init : goal.loop-k-init
-loop-k-init c =
-    let size : length c.odd_sums.new.list ≡ c.args.t = map-length _ _ c.odd_sums.new.list c.odd_sums.ensures ∙ zeros-length c.args.t 64 c.requires.5 in
-    (size, omega arith, (λ i h. absurd (Nat.not-suc-le-zero h)))
-
-pub returns-then-sums-k : goal.returns-then-sums-k
-returns-then-sums-k c =
-    let k = c.loop-k.k in
-    let b = c.loop-k-test.true in
-    agree-not-odd c.args.f.q c.args.odd.now (take c.args.c c.args.list.now) k c.args.t (get_or c.odd_sums.new.list k 0) b (summed (goal.at.returns-then-sums-k c).After-odd_sums k b) c.if-sums-k.true
-
-pub loop-k-preserved : goal.loop-k-preserved
-loop-k-preserved c = (c.loop-k.invariant.0, omega arith, one_more c.odd_sums.new.list c.args.odd.now c.loop-k.k c.loop-k.invariant.2 c.if-sums-k.false)
+-- what `==` says of a list that was written before z
+front : (s z l : List ℕ) (t : ℕ) (r : Bool) → length s ≡ t → r ≡ pointwise eqb (take t (s ++ z)) l → Decides r (s ≡ l)
+front s z l t r e p = slice_eq-Decides Decides-eqb s l r (rw (take_at s z t e) at p)
 
 pub returns : goal.returns
 returns c =
-    agree-odd c.args.f.q c.requires.0.field.known c.args.odd.now (take c.args.c c.args.list.now) c.args.t
-    (λ i h. sym (c.loop-k.invariant.2 i (omega (arith, h, c.loop-k-test.false))) ∙ summed (goal.at.returns c).After-odd_sums i h)
+    let a = c.args in
+    let n = c.odd_sums.new.list in
+    let z = zeros-length a.t 64 c.requires.5 in
+    let long : length n ≡ a.t = map-length _ _ n c.odd_sums.ensures ∙ z in
+    let D = looked a.f.q c.requires.0.field.known a.odd.now (take a.c a.list.now) n a.t c.requires.4 long (λ i h. map_at _ _ n c.odd_sums.ensures i (rw z h)) in
+    same_from_decides _ _ (front n _ _ a.t _ long c.eq.ensures) D

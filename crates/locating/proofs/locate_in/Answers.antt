@@ -7,18 +7,17 @@ use Rattle.locating.specs.Look.{listed, agree_same, from_list, listed-is}
 use Rattle.locating.specs.Whole.{Candidates, candidates, places, whole-far, whole-found, whole-many, whole-none}
 use Rattle.syndrome.specs.Sum.{table-roots}
 use Rattle.locating.proofs.locate_in.Goals as goal
-use Rattle.locating.proofs.locate_in.Goals.{After-agrees, After-roots-c}
+use Rattle.locating.proofs.locate_in.Goals.{After-roots-c, else-c-t-via-else-c-t, else-c-t-via-then-c-t+else-agrees}
 
 -- what is found
 module _ (c : After-roots-c) where
   given : Candidates c.args.f.q c.args.s.now c.args.t c.args.z c.roots-c.result c.args.list.now c.roots-c.new.list
   given = candidates c.args.f.q c.args.s.now c.args.t c.args.z c.massey-l.result _ _ (c.massey-l.ensures.found c.if-t-l.false) (omega arith) c.roots-c.ensures
 
-looked : (a : After-agrees) → (a.agrees.result ≡ agree a.args.f.q (listed a.args.s.now) (take a.roots-c.result a.roots-c.new.list) (2 * a.args.t))
-looked a =
-    let o = a.args.odd.now in
-    let e = listed-is a.args.f.q a.requires.0.field.known o a.args.s.now a.args.t a.requires.12 in
-    a.agrees.ensures ∙ sym (agree_same a.args.f.q (listed a.args.s.now) _ (from_list a.args.f.q o) (2 * a.args.t) e)
+  looked : agree c.args.f.q (from_list c.args.f.q c.args.odd.now) (take c.roots-c.result c.roots-c.new.list) (2 * c.args.t) ≡ agree c.args.f.q (listed c.args.s.now) (take c.roots-c.result c.roots-c.new.list) (2 * c.args.t)
+  looked =
+      let e = listed-is c.args.f.q c.requires.0.field.known c.args.odd.now c.args.s.now c.args.t c.requires.12 in
+      sym (agree_same c.args.f.q (listed c.args.s.now) _ (from_list c.args.f.q c.args.odd.now) (2 * c.args.t) e)
 
 pub returns-then-t-l : goal.returns-then-t-l
 returns-then-t-l c = whole-far c.args.f.q c.args.s.now c.args.t c.args.z c.requires.0.field.known c.requires.5 c.massey-l.result _ _ _ c.massey-l.ensures c.if-t-l.true
@@ -26,21 +25,25 @@ returns-then-t-l c = whole-far c.args.f.q c.args.s.now c.args.t c.args.z c.requi
 pub roots-c-requires : goal.roots-c-requires
 roots-c-requires c = (c.requires.0, (c.massey-l.ensures.found c.if-t-l.false).locators.small, omega arith, omega (arith, c.requires.4), c.requires.5)
 
-pub returns-then-t-c : goal.returns-then-t-c
-returns-then-t-c c = whole-many c.args.f.q c.args.s.now c.args.t c.args.z (given (goal.at.returns-then-t-c c).After-roots-c) c.if-t-c.true
-
 pub agrees-requires : goal.agrees-requires
 agrees-requires c = (
   table-roots c.requires.0,
   omega (arith, c.requires.6),
   omega (arith, c.requires.2),
-  places c.args.f.q c.args.s.now c.args.t c.args.z (given (goal.at.agrees-requires c).After-roots-c) c.if-t-c.false c.requires.6 c.requires.5,
+  places c.args.f.q c.args.s.now c.args.t c.args.z (given (goal.at.agrees-requires c).After-roots-c) c.if-c-t.true c.requires.6 c.requires.5,
   omega (arith, c.requires.11),
   omega (arith, c.requires.2),
 )
 
 pub returns-then-agrees : goal.returns-then-agrees
-returns-then-agrees c = whole-found c.args.f.q c.args.s.now c.args.t c.args.z (given (goal.at.returns-then-agrees c).After-roots-c) c.if-t-c.false c.requires.6 (sym c.if-agrees.true ∙ looked (goal.at.returns-then-agrees c).After-agrees)
+returns-then-agrees c =
+    let o = (goal.at.returns-then-agrees c).After-roots-c in
+    whole-found c.args.f.q c.args.s.now c.args.t c.args.z (given o) c.if-c-t.true c.requires.6 (sym c.if-agrees.true ∙ c.agrees.ensures ∙ looked o)
 
-pub returns : goal.returns
-returns c = whole-none c.args.f.q c.args.s.now c.args.t c.args.z (given (goal.at.returns c).After-roots-c) c.if-t-c.false c.requires.6 (sym c.if-agrees.false ∙ looked (goal.at.returns c).After-agrees)
+pub returns-else-c-t : goal.returns-else-c-t
+returns-else-c-t c =
+    let o = (goal.at.returns-else-c-t c).After-roots-c in
+    elim c.else-c-t.branch [
+      | else-c-t-via-else-c-t w ↦ whole-many c.args.f.q c.args.s.now c.args.t c.args.z (given o) w.if-c-t.false
+      | else-c-t-via-then-c-t+else-agrees w ↦ whole-none c.args.f.q c.args.s.now c.args.t c.args.z (given o) w.if-c-t.true c.requires.6 (sym w.if-agrees.false ∙ w.agrees.ensures ∙ looked o)
+    ]

@@ -23,5 +23,5 @@ locate_in-requires c =
     let d = degree-few c.args.p c.requires.0 0 zero-le _ w in
     (c.requires.0, omega (arith, w, degree-high c.args.p (accepted c.args.p c.requires.0) 0 zero-le), d.0, d.1, level-lt c.args.p c.requires.0 0 zero-le (value 8 c.args.s.now) _ _ w c.level_remainder-w.ensures.1, c.requires.2, c.requires.3)
 
-pub returns : goal.returns
-returns c = nearest-remainder c.args.p c.requires.0 (value 8 c.args.s.now) c.requires.1 _ c.level_remainder-w.ensures.1 c.args.t _ c.requires.2 c.locate_in.ensures
+pub returns-else-is_zero : goal.returns-else-is_zero
+returns-else-is_zero c = nearest-remainder c.args.p c.requires.0 (value 8 c.args.s.now) c.requires.1 _ c.level_remainder-w.ensures.1 c.args.t _ c.requires.2 c.locate_in.ensures

@@ -1,24 +1,17 @@
-use mathlib.Core.Path.{◌≡◌}
-use native.Mathlib.Nat as Nat
+use mathlib.Core.Path.{ap, ◌∙◌}
+use Prim.Native.Nat.{ℕ, ◌^◌}
 use native.Mathlib.Omega.{arith}
-use lib.Dec.{lit≤}
-use lib.Pow.{pow_mono}
+use lib.Seq.{length-take-le}
+use Rattle.std.proofs.lemmas.List.{get_or-take}
+use Rattle.polynomial.specs.Xor.{xor}
+use Rattle.polynomial.specs.Digits.{value}
 use Rattle.mend.specs.Left.{flip-first, flip-next}
 use Rattle.mend.proofs.flip_all.Goals as goal
 
-pub loop-j-init : goal.loop-j-init
-loop-j-init c = (flip-first c.args.s.now c.args.list.now, omega arith)
+pub loop-e-init : goal.loop-e-init
+loop-e-init c = flip-first c.args.s.now c.args.list.now
 
-pub overflow_cast-list : goal.overflow_cast-list
-overflow_cast-list c = record { fits = Nat.lt_of_lt_of_le (c.type_inv.list c.loop-j.j).fits (pow_mono {i = 16} {j = 64} (lit≤ {m = 16} {n = 64} tt)) }
-
-pub flip-requires : goal.flip-requires
-flip-requires c = omega (arith, c.requires.1.below c.loop-j.j c.loop-j-test.true, c.loop-j.invariant.0.size)
-
-pub loop-j-preserved : goal.loop-j-preserved
-loop-j-preserved c = (flip-next c.args.s.now c.args.list.now c.loop-j.s _ c.loop-j.j c.loop-j.invariant.0 (omega (arith, c.requires.0, c.loop-j-test.true)) c.s-1.given c.flip.ensures, omega (arith, c.loop-j-test.true))
-
-pub returns : goal.returns
-returns c =
-    let e : c.loop-j.j ≡ c.args.c = omega (arith, c.loop-j.invariant.1, c.loop-j-test.false) in
-    rw e at c.loop-j.invariant.0.made
+pub loop-e-preserved : goal.loop-e-preserved
+loop-e-preserved c =
+    flip-next c.args.s.now c.args.list.now c.loop-e.s _ c.loop-e.e-index c.loop-e.invariant (omega (arith, length-take-le c.args.c c.args.list.now c.requires.0, c.loop-e-test.true, c.requires.0)) c.flip.auto.s
+    (c.flip.ensures ∙ ap (λ (n : ℕ). xor (value 8 c.loop-e.s) (2 ^ n)) (c.from.ensures ∙ get_or-take c.args.c c.args.list.now c.loop-e.e-index 0 (omega (arith, length-take-le c.args.c c.args.list.now c.requires.0, c.loop-e-test.true))))

@@ -1,18 +1,24 @@
-use native.Mathlib.Omega.{arith}
-use Rattle.mend.specs.Left.{list-first, list-last, list-next}
+use Rattle.std.specs.Prelude.{◌≡◌, List, ◌++◌, ℕ, ◌-◌, ◌≤◌, length, take}
+use Rattle.std.proofs.Common.{sym, ap, ◌∙◌, arith, append-nil, length-append, length-drop}
+use Rattle.std.proofs.Math.ListN.{drop, drop_of_length-le, replicate}
+use Rattle.std.proofs.lemmas.List.{drop_at, length-take-le, take_at}
+use borrow.Rule.Slice.PartMut.{put_mid}
+use Rattle.code.proofs.Mend.{places-eq}
+use Rattle.code.specs.Layout.{no_place, place_list}
 use Rattle.mend.proofs.list_into.Goals as goal
 
-pub loop-j-init : goal.loop-j-init
-loop-j-init c = list-first c.args.places.now c.args.list.now c.args.c
-
-pub place_at-requires : goal.place_at-requires
-place_at-requires c = c.requires.0
-
-pub loop-j-smaller : goal.loop-j-smaller
-loop-j-smaller c = omega (arith, c.loop-j-test.true, c.loop-j.invariant.size)
-
-pub loop-j-preserved : goal.loop-j-preserved
-loop-j-preserved c = list-next c.args.places.now c.args.list.now c.args.c c.loop-j.j c.loop-j.places _ c.loop-j.invariant (omega (arith, c.loop-j-test.true, c.loop-j.invariant.size)) c.place_at.ensures
+-- a list p in which l is written first, and then f in what is left
+written : (p l f : List ℕ) (c : ℕ) → length l ≡ c → c ≤ length p → f ≡ replicate (length (take (length (l ++ drop c p) - c) (drop c (l ++ drop c p)))) no_place
+    → put_mid c (length (l ++ drop c p) - c) (l ++ drop c p) f ≡ place_list (length p) l
+written p l f c e h w =
+    let d : drop c (l ++ drop c p) ≡ drop c p = drop_at l (drop c p) c e in
+    let n : length (drop c p) ≡ length p - c = length-drop c p in
+    let k : length (l ++ drop c p) ≡ length p = omega (arith, length-append l (drop c p), n, e, h) in
+    let v : f ≡ replicate (length p - length l) no_place = rw (d, k) at w ∙ ap (λ (z : ℕ). replicate z no_place) (length-take-le (length p - c) (drop c p) (omega (arith, n)) ∙ ap (λ (z : ℕ). length p - z) (sym e)) in
+    rw (take_at l (drop c p) c e, d, k, v, drop_of_length-le (drop c p) {i = length p - c} (omega (arith, n)), append-nil (replicate (length p - length l) no_place)) (sym (places-eq (length p) l))
 
 pub returns : goal.returns
-returns c = list-last c.args.places.now c.args.list.now c.args.c c.loop-j.j c.loop-j.places c.loop-j.invariant (omega (arith, c.loop-j-test.false, c.loop-j.invariant.size)) c.requires.0 c.requires.1
+returns c =
+    let a = c.args in
+    let n = c.copy_from_slice.ensures.after in
+    rw (← n) (written a.places.now c.copy_from_slice.new.self c.fill.new.self a.c (ap length n ∙ length-take-le a.c a.list.now c.requires.0) c.requires.1 (c.fill.ensures.after (λ y h. h)))

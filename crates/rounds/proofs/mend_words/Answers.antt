@@ -1,9 +1,7 @@
 use borrow.Author.Rules.{rules}
 use mathlib.Core.Path.{refl}
-use Prim.Native.Nat.{◌≤◌, zero-le}
-use native.Mathlib.Nat as Nat
+use Prim.Native.Nat.{◌≤◌}
 use native.Mathlib.Omega.{arith}
-use lib.Dec.{lit<, lit≤}
 use lib.ListN.{get_or}
 use Rattle.code.proofs.Accepted.{accepted}
 use Rattle.code.specs.Layout.{words_of}
@@ -19,9 +17,6 @@ use Rattle.rounds.proofs.mend_words.Goals.{Start}
 level : (s : Start) → s.args.a ≤ s.args.p.v
 level s = omega (arith, s.requires.3, s.requires.5, s.requires.6)
 
-pub overflow_cast-a : goal.overflow_cast-a
-overflow_cast-a c = record { fits = Nat.lt_of_le_of_lt (Nat.le_trans (level (goal.at.overflow_cast-a c).Start) (accepted c.args.p c.requires.0.accepts).v_high) (lit≤ tt) }
-
 pub sums_into-requires : goal.sums_into-requires
 sums_into-requires c = (
   c.requires.0.accepts,
@@ -36,35 +31,30 @@ sums_into-requires c = (
   below-zeros c.args.p.q 192,
 )
 
-pub loop-c-init : goal.loop-c-init
-loop-c-init c =
+pub loop-i-init : goal.loop-i-init
+loop-i-init c =
     let a = c.args in
-    (pass-first a.p (found_by a.p a.a c.sums_into.new.rows a.ks.now) a.ks.now (words_of a.p a.page.now) a.page.now a.left.now c.requires.4 refl c.requires.8, zero-le)
+    (pass-first a.p (found_by a.p a.a c.sums_into.new.rows a.ks.now) a.ks.now (words_of a.p a.page.now) a.page.now a.left.now c.requires.4 refl c.requires.8)
 
 pub mend_word-found-requires : goal.mend_word-found-requires
 mend_word-found-requires c = (
   c.requires.0,
   record { level = level (goal.at.mend_word-found-requires c).Start; strength = c.strength_at-k.ensures; size = c.sums_into.ensures.size; below = c.sums_into.ensures.below; few = c.requires.6; rising = c.requires.7 },
-  mem-at c.args.ks.now c.loop-c.c c.loop-c-test.true,
-  c.loop-c.invariant.0.page,
+  mem-at c.args.ks.now c.loop-i.i-index c.loop-i-test.true,
+  c.loop-i.invariant.page,
 )
 
 pub note-n-requires : goal.note-n-requires
-note-n-requires c = omega (arith, c.loop-c-test.true, c.requires.6, (accepted c.args.p c.requires.0.accepts).v_high, c.loop-c.invariant.0.room, c.loop-c.invariant.0.size)
+note-n-requires c = omega (arith, c.loop-i-test.true, c.requires.6, (accepted c.args.p c.requires.0.accepts).v_high, c.loop-i.invariant.room, c.loop-i.invariant.size)
 
-pub overflow_add-c : goal.overflow_add-c
-overflow_add-c c = record { fits = Nat.lt_of_le_of_lt (omega (arith, c.loop-c-test.true, c.requires.6, (accepted c.args.p c.requires.0.accepts).v_high)) (lit< {m = 3} tt) }
-
-pub loop-c-preserved : goal.loop-c-preserved
-loop-c-preserved c =
-    let g = found_by c.args.p c.args.a c.sums_into.new.rows c.args.ks.now in (
-      pass-next c.args.p g c.args.ks.now (words_of c.args.p c.args.page.now) c.loop-c.page c.loop-c.left c.loop-c.c c.loop-c.n c.loop-c.invariant.0 c.loop-c-test.true c.requires.7 (g (get_or c.args.ks.now c.loop-c.c 0)) _ _ _ _
-          refl c.mend_word-found.ensures.0 c.mend_word-found.ensures.1 c.note-n.ensures.0 c.left-1.given c.note-n.ensures.1,
-      omega (arith, c.loop-c-test.true),
-    )
+pub loop-i-preserved : goal.loop-i-preserved
+loop-i-preserved c =
+    let g = found_by c.args.p c.args.a c.sums_into.new.rows c.args.ks.now in
+    (pass-next c.args.p g c.args.ks.now (words_of c.args.p c.args.page.now) c.loop-i.page c.loop-i.left c.loop-i.i-index c.loop-i.n c.loop-i.invariant c.loop-i-test.true c.requires.7 (g (get_or c.args.ks.now c.loop-i.i-index 0)) _ _ _ _
+    refl c.mend_word-found.ensures.0 c.mend_word-found.ensures.1 c.note-n.ensures.0 c.note-n.auto.list c.note-n.ensures.1)
 
 pub returns : goal.returns
 returns c =
     let W : Work = record { words = (words_of c.args.p c.args.page.now); broken = c.args.ks.now } in
-    round-held c.args.p c.requires.0.accepts W c.requires.6 c.requires.5 c.requires.7 c.args.a c.requires.3 c.sums_into.new.rows c.sums_into.ensures c.loop-c.page c.loop-c.left c.loop-c.c c.loop-c.n c.loop-c.invariant.0
-    (omega (arith, c.loop-c-test.false)) (omega (arith, c.loop-c.invariant.1, c.requires.6, (accepted c.args.p c.requires.0.accepts).v_high))
+    round-held c.args.p c.requires.0.accepts W c.requires.6 c.requires.5 c.requires.7 c.args.a c.requires.3 c.sums_into.new.rows c.sums_into.ensures c.loop-i.page c.loop-i.left c.loop-i.i-index c.loop-i.n c.loop-i.invariant
+    (omega (arith, c.loop-i-test.false)) (omega (arith, c.loop-i.auto.i-index-end, c.requires.6, (accepted c.args.p c.requires.0.accepts).v_high))

@@ -1,5 +1,4 @@
 use mathlib.Core.Path.{◌≡◌}
-use Prim.Native.Nat.{◌-◌, ◌≤◌}
 use lib.ListN.{length}
 use Rattle.code.specs.Layout.{words_of}
 use Rattle.code.specs.Parameters.{strength}
@@ -7,7 +6,4 @@ use Rattle.rounds.specs.Rows.{Sums}
 use Rattle.rounds.proofs.sums_into.Given as goal
 
 abbrev pub invariant-loop-l : goal.invariant-loop-l
-invariant-loop-l l = Sums l.p l.a (words_of l.p l.page) l.l l.rows × (length l.row ≡ strength l.p l.a) × (l.l ≤ l.b)
-
-abbrev pub decreases-loop-l : goal.decreases-loop-l
-decreases-loop-l l = l.b - l.l
+invariant-loop-l l = Sums l.p l.a (words_of l.p l.page) l.l l.rows × (length l.row ≡ strength l.p l.a)

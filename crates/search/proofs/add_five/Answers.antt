@@ -1,7 +1,7 @@
 use mathlib.Core.Path.{refl}
 use native.Mathlib.Omega.{arith}
-use Rattle.search.specs.Slots.{five, five-is, five-lt, run-first, run-next}
-use Rattle.search.specs.Values.{adding-first, adding-last, adding-next, chain-room}
+use Rattle.search.specs.Slots.{five-is, five-lt, run-first, run-next}
+use Rattle.search.specs.Values.{adding-first, adding-next}
 use Rattle.search.proofs.add_five.Goals as goal
 
 pub loop-k-init : goal.loop-k-init
@@ -11,31 +11,7 @@ loop-k-init c =
     let h = c.requires in (
       adding-first q _ _ h.1,
       record { first = run-first q k _ h.3; second = run-first q k _ h.4; third = run-first q k _ h.5; fourth = run-first q k _ h.6; fifth = run-first q k _ h.7 },
-      omega arith,
     )
-
-pub powers_sum-x-requires : goal.powers_sum-x-requires
-powers_sum-x-requires c =
-    let r = c.loop-k.invariant.1 in
-    (chain-room c.args.f c.args.powers.now c.args.logs.now c.requires.0 r.first, chain-room c.args.f c.args.powers.now c.args.logs.now c.requires.0 r.second, chain-room c.args.f c.args.powers.now c.args.logs.now c.requires.0 r.third, chain-room c.args.f c.args.powers.now c.args.logs.now c.requires.0 r.fourth, chain-room c.args.f c.args.powers.now c.args.logs.now c.requires.0 r.fifth)
-
-pub next-p-requires : goal.next-p-requires
-next-p-requires c = (c.requires.0.field, c.loop-k.invariant.1.first.below, c.requires.3.index)
-
-pub next-q-requires : goal.next-q-requires
-next-q-requires c = (c.requires.0.field, c.loop-k.invariant.1.second.below, c.requires.4.index)
-
-pub next-r-requires : goal.next-r-requires
-next-r-requires c = (c.requires.0.field, c.loop-k.invariant.1.third.below, c.requires.5.index)
-
-pub next-s-requires : goal.next-s-requires
-next-s-requires c = (c.requires.0.field, c.loop-k.invariant.1.fourth.below, c.requires.6.index)
-
-pub next-t-requires : goal.next-t-requires
-next-t-requires c = (c.requires.0.field, c.loop-k.invariant.1.fifth.below, c.requires.7.index)
-
-pub overflow_add-k : goal.overflow_add-k
-overflow_add-k c = omega (arith, c.loop-k-test.true, c.ranges.z)
 
 pub loop-k-preserved : goal.loop-k-preserved
 loop-k-preserved c =
@@ -53,8 +29,4 @@ loop-k-preserved c =
         fourth = run-next k _ h.6 i.1.fourth c.next-s.ensures;
         fifth = run-next k _ h.7 i.1.fifth c.next-t.ensures;
       },
-      omega (arith, g),
     )
-
-pub returns : goal.returns
-returns c = adding-last _ (omega arith) c.loop-k.invariant.0

@@ -1,9 +1,6 @@
-use Prim.Native.Nat.{◌-◌, ◌≤◌}
+use Prim.Native.Nat.{◌≤◌}
 use Rattle.search.specs.Zeros.{Collected}
 use Rattle.search.proofs.collect.Given as goal
 
 abbrev pub invariant-loop-k : goal.invariant-loop-k
-invariant-loop-k l = Collected l.acc l.k l.c l.initial.list l.list × (l.c ≤ l.k) × (l.k ≤ l.z)
-
-abbrev pub decreases-loop-k : goal.decreases-loop-k
-decreases-loop-k l = l.z - l.k
+invariant-loop-k l = Collected l.acc l.k l.c l.initial.list l.list × (l.c ≤ l.k)

@@ -1,13 +1,12 @@
-use mathlib.Core.Path.{◌≡◌, refl}
+use mathlib.Core.Path.{◌≡◌}
 use Prim.Native.Nat.{◌-◌, ◌^◌, ◌<◌}
-use native.Mathlib.Nat as Nat
 use native.Mathlib.Omega.{arith}
-use lib.ListN.{get_or, length, length-set}
+use lib.ListN.{get_or, length-set}
 use Rattle.field.specs.Elements.{power}
 use Rattle.tables.specs.Powers.{power-lt}
 use Rattle.element.specs.Fields.{size-least}
-use Rattle.element.specs.Lent.{power-room, root_in}
-use Rattle.search.specs.Thirds.{filled-first, filled-last, filled_next}
+use Rattle.element.specs.Lent.{root_in}
+use Rattle.search.specs.Thirds.{filled_next}
 use Rattle.search.proofs.combine.Goals as goal
 use Rattle.search.proofs.combine.Goals.{Start}
 
@@ -19,30 +18,14 @@ module _ (b : Start) where
   root : get_or b.args.powers.now b.args.h 0 ≡ power b.args.f.q b.args.h
   root = (root_in b.args.powers.now b.args.h).root b.args.f.q b.requires.0.powers below
 
-pub bounds-powers-h : goal.bounds-powers-h
-bounds-powers-h c = Nat.lt_of_lt_of_le (below (goal.at.bounds-powers-h c).Start) (power-room c.args.f c.args.powers.now c.args.logs.now c.requires.0)
-
-pub loop-k-init : goal.loop-k-init
-loop-k-init c = (filled-first c.args.f.q _ _ _ _ _ _ c.requires.8, refl, omega arith)
-
 pub three_of-r-requires : goal.three_of-r-requires
 three_of-r-requires c =
     let k = c.loop-k.k in
     (c.requires.0, rw (root (goal.at.three_of-r-requires c).Start) (power-lt c.args.f.q c.requires.0.field.known c.args.h), c.requires.1.lt k, c.requires.2.lt k, c.requires.3.lt k)
-
-pub bounds-acc-h : goal.bounds-acc-h
-bounds-acc-h c = simp length-set (omega (arith, c.loop-k-test.true, c.loop-k.invariant.1, c.requires.9))
-
-pub bounds-acc-h-in-loop-k : goal.bounds-acc-h-in-loop-k
-bounds-acc-h-in-loop-k c = simp length-set (omega (arith, c.loop-k-test.true, c.loop-k.invariant.1, c.requires.9))
 
 pub loop-k-preserved : goal.loop-k-preserved
 loop-k-preserved c =
     let i = c.loop-k.invariant in (
       filled_next _ (omega arith) (omega (arith, i.1, c.requires.9)) i.0 (rw (root (goal.at.loop-k-preserved c).Start) at c.three_of-r.ensures),
       simp length-set i.1,
-      omega arith,
     )
-
-pub returns : goal.returns
-returns c = filled-last (omega arith) c.loop-k.invariant.0
