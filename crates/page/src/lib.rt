@@ -43,11 +43,8 @@ fn take_blocks(p: Parameters, w: &[u32], page: &[u8], blocks: &mut [u8])
     requires { Taking p w.now page.now blocks.old }
     ensures { blocks.new ≡ data_of p page.now }
 {
-    let m = p.m as usize;
-    let mut i: usize = 0;
-    while i < m {
+    for i in 0..p.m as usize {
         take_block(p, w, page, blocks, i);
-        i += 1;
     }
 }
 
@@ -81,13 +78,7 @@ pub fn judge(p: Parameters, page: &[u8]) -> Verdict
 fn refused(r: Verdict) -> bool
     ensures { result ≡ is_refused r }
 {
-    match r {
-        Verdict::Member => false,
-        Verdict::Blank => false,
-        Verdict::SubWord(_) => false,
-        Verdict::NestedWord(_) => false,
-        Verdict::Refused(_) => true,
-    }
+    matches!(r, Verdict::Refused(_))
 }
 
 // Read out, for accepted parameters.
@@ -166,10 +157,8 @@ fn list_pages(p: Parameters, w: &[u32], width: u32, blocks: &[u8], list: &mut [u
     requires { Accepted p × Degrees p w.now × (length list.old ≤ 16) × (length blocks.now ≡ length list.old * data_bytes p) }
     ensures { list.new ≡ statuses p width (length list.old) blocks.now }
 {
-    let mut k: usize = 0;
-    while k < list.len() {
-        list[k] = status_at(p, w, width, blocks, k);
-        k += 1;
+    for (k, status) in list.iter_mut().enumerate() {
+        *status = status_at(p, w, width, blocks, k);
     }
 }
 
