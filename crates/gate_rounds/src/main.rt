@@ -5,7 +5,7 @@
 // from what the calls promise and the theorems on the promises, and nothing of how a page is made.
 #![tactic(auto)]
 
-ghost use Rattle.std.specs.Prelude.{◌≡◌, [], ◌∷◌, true, ◌&&◌, ◌*◌, ◌≤◌, ◌<◌, length, get_or};
+ghost use Rattle.std.specs.Prelude.{◌≡◌, [], ◌∷◌, true, ◌*◌, ◌≤◌, ◌<◌, length, get_or};
 ghost use Rattle.polynomial.specs.Sums.{add};
 ghost use Rattle.code.specs.Calls.{Written, judge_answer, outcome, outcome_number, statuses};
 ghost use Rattle.code.specs.Demands.{QuotedPage};
