@@ -38,11 +38,8 @@ fn add_words(p: Parameters, sum: &mut [u8], q: Parameters, short: &[u8])
         × (q.m ≡ p.m) × (sub_word_bytes q ≤ sub_word_bytes p) }
     ensures { Spread p sum.old (words_of q short.now) p.m sum.new }
 {
-    let m = p.m as usize;
-    let mut k: usize = 0;
-    while k < m {
+    for k in 0..p.m as usize {
         add_word(p, sum, q, short, k);
-        k += 1;
     }
 }
 

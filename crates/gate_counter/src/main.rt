@@ -6,141 +6,88 @@
 use code::{Outcome, Parameters, Verdict};
 use sizes::Size;
 use std::io;
-use std::io::Write;
 
 // ---- lines
 
-fn text(rt: &impl Print, s: &[u8]) -> io::Result<()> {
-    io::writer(rt).write_all(s)
-}
-
-fn end(rt: &impl Print) -> io::Result<()> {
-    text(rt, b"\n")
-}
-
-fn number(rt: &impl Print, n: u64) -> io::Result<()> {
-    print!(rt; " {n}")
-}
-
 fn numbers(rt: &impl Print, list: &[u16]) -> io::Result<()> {
-    let mut k: usize = 0;
-    while k < list.len() {
-        number(rt, list[k] as u64)?;
-        k += 1;
+    for n in list {
+        print!(rt; " {n}")?;
     }
     Ok(())
 }
 
-fn hex_digit(d: u8) -> u8 {
-    if d < 10 {
-        return 48 + d;
-    }
-    if d < 16 {
-        return 55 + d;
-    }
-    63
-}
-
-fn byte(rt: &impl Print, b: u8) -> io::Result<()> {
-    let s = [32, hex_digit(b / 16), hex_digit(b % 16)];
-    text(rt, &s)
-}
-
-fn bytes(rt: &impl Print, s: &[u8]) -> io::Result<()> {
-    let mut k: usize = 0;
-    while k < s.len() {
-        byte(rt, s[k])?;
-        k += 1;
+fn bytes(rt: &impl Print, list: &[u8]) -> io::Result<()> {
+    for b in list {
+        print!(rt; " {b:02X}")?;
     }
     Ok(())
-}
-
-fn refused(rt: &impl Print, k: u8) -> io::Result<()> {
-    text(rt, b" refused")?;
-    number(rt, k as u64)
 }
 
 fn size(rt: &impl Print, r: Size) -> io::Result<()> {
-    let Size::Is(n) = r else {
-        if let Size::Refused(k) = r {
-            refused(rt, k)?;
-        }
-        return Ok(());
-    };
-    number(rt, n as u64)
+    match r {
+        Size::Is(n) => print!(rt; " {n}"),
+        Size::Refused(k) => print!(rt; " refused {k}"),
+    }
 }
 
 fn outcome(rt: &impl Print, r: Outcome) -> io::Result<()> {
-    if let Outcome::Refused(k) = r {
-        return refused(rt, k);
+    match r {
+        Outcome::Done => print!(rt; " done"),
+        Outcome::Refused(k) => print!(rt; " refused {k}"),
     }
-    text(rt, b" done")
 }
 
 fn verdict(rt: &impl Print, r: Verdict) -> io::Result<()> {
     match r {
-        Verdict::Member => text(rt, b" member")?,
-        Verdict::SubWord(i) => {
-            text(rt, b" sub-word")?;
-            number(rt, i as u64)?;
-        }
-        Verdict::NestedWord(l) => {
-            text(rt, b" nested word")?;
-            number(rt, l as u64)?;
-        }
-        Verdict::Blank => text(rt, b" blank")?,
-        Verdict::Refused(k) => refused(rt, k)?,
+        Verdict::Member => print!(rt; " member"),
+        Verdict::SubWord(i) => print!(rt; " sub-word {i}"),
+        Verdict::NestedWord(l) => print!(rt; " nested word {l}"),
+        Verdict::Blank => print!(rt; " blank"),
+        Verdict::Refused(k) => print!(rt; " refused {k}"),
     }
-    Ok(())
 }
 
-// What is called, its first number, and the bytes that it reads.
-fn given(rt: &impl Print, name: &[u8], n: u64, read: &[u8]) -> io::Result<()> {
-    text(rt, name)?;
-    number(rt, n)?;
-    text(rt, b":")?;
+// The bytes that a call reads.
+fn given(rt: &impl Print, read: &[u8]) -> io::Result<()> {
+    print!(rt; ":")?;
     bytes(rt, read)?;
-    text(rt, b":")
+    print!(rt; ":")
 }
 
 fn sheet(rt: &impl Print, p: Parameters) -> io::Result<()> {
-    text(rt, b"sheet")?;
-    number(rt, p.q as u64)?;
-    number(rt, p.m as u64)?;
-    number(rt, p.v as u64)?;
-    number(rt, p.t0 as u64)?;
-    number(rt, p.t1 as u64)?;
-    number(rt, p.t2 as u64)?;
-    number(rt, p.t3 as u64)?;
-    number(rt, p.s as u64)?;
-    end(rt)
+    let Parameters {
+        q,
+        m,
+        v,
+        t0,
+        t1,
+        t2,
+        t3,
+        s,
+    } = p;
+    println!(rt; "sheet {q} {m} {v} {t0} {t1} {t2} {t3} {s}")
 }
 
 // ---- calls
 
 fn degrees(rt: &impl Print, p: Parameters) -> io::Result<()> {
-    text(rt, b"degrees")?;
-    let mut a: u32 = 0;
-    while a < 4 {
-        let r = sizes::degree(p, a);
-        size(rt, r)?;
-        a += 1;
+    print!(rt; "degrees")?;
+    for level in 0..4 {
+        size(rt, sizes::degree(p, level))?;
     }
-    end(rt)
+    println!(rt)
 }
 
 fn measured(rt: &impl Print, p: Parameters) -> io::Result<()> {
     sheet(rt, p)?;
     degrees(rt, p)?;
-    text(rt, b"data")?;
+    print!(rt; "data")?;
     size(rt, sizes::data_bytes(p))?;
-    end(rt)?;
-    text(rt, b"page")?;
+    print!(rt; "\npage")?;
     size(rt, sizes::page_bytes(p))?;
-    end(rt)?;
-    text(rt, b"distance")?;
+    print!(rt; "\ndistance")?;
     size(rt, sizes::distance(p))?;
-    end(rt)
+    println!(rt)
 }
 
 fn write(
@@ -150,39 +97,35 @@ fn write(
     blocks: &[u8],
     page: &mut [u8],
 ) -> io::Result<()> {
-    given(rt, b"write at", width as u64, blocks)?;
-    let r = page::write(p, width, blocks, page);
-    outcome(rt, r)?;
+    print!(rt; "write at {width}")?;
+    given(rt, blocks)?;
+    outcome(rt, page::write(p, width, blocks, page))?;
     bytes(rt, page)?;
-    end(rt)
+    println!(rt)
 }
 
 fn judge(rt: &impl Print, p: Parameters, page: &[u8]) -> io::Result<()> {
-    text(rt, b"judge:")?;
-    bytes(rt, page)?;
-    text(rt, b":")?;
-    let r = page::judge(p, page);
-    verdict(rt, r)?;
-    end(rt)
+    print!(rt; "judge")?;
+    given(rt, page)?;
+    verdict(rt, page::judge(p, page))?;
+    println!(rt)
 }
 
 fn read_out(rt: &impl Print, p: Parameters, page: &[u8], blocks: &mut [u8]) -> io::Result<()> {
-    text(rt, b"read out:")?;
-    bytes(rt, page)?;
-    text(rt, b":")?;
-    let r = page::read_out(p, page, blocks);
-    verdict(rt, r)?;
+    print!(rt; "read out")?;
+    given(rt, page)?;
+    verdict(rt, page::read_out(p, page, blocks))?;
     bytes(rt, blocks)?;
-    end(rt)
+    println!(rt)
 }
 
 fn nested_word(rt: &impl Print, p: Parameters, l: usize, page: &[u8]) -> io::Result<()> {
-    given(rt, b"nested word", l as u64, page)?;
+    print!(rt; "nested word {l}")?;
+    given(rt, page)?;
     let mut out = [0xAAu8; 2];
-    let r = oneword::nested_word(p, page, l, &mut out);
-    outcome(rt, r)?;
+    outcome(rt, oneword::nested_word(p, page, l, &mut out))?;
     bytes(rt, &out)?;
-    end(rt)
+    println!(rt)
 }
 
 // Of nested word l of that level: the odd ones, and all from these.
@@ -193,29 +136,29 @@ fn nested_syndromes(
     level: u32,
     page: &[u8],
 ) -> io::Result<()> {
-    given(rt, b"syndromes of nested word", l as u64, page)?;
+    print!(rt; "syndromes of nested word {l}")?;
+    given(rt, page)?;
     let mut odd = [0u16; 2];
-    let r = oneword::nested_syndromes(p, page, l, &mut odd);
-    outcome(rt, r)?;
+    outcome(rt, oneword::nested_syndromes(p, page, l, &mut odd))?;
     numbers(rt, &odd)?;
-    end(rt)?;
-    given(rt, b"all syndromes of nested word", l as u64, page)?;
+    println!(rt)?;
+    print!(rt; "all syndromes of nested word {l}")?;
+    given(rt, page)?;
     let mut list = [0u16; 4];
-    let r = oneword::all_syndromes(p, level, &odd, &mut list);
-    outcome(rt, r)?;
+    outcome(rt, oneword::all_syndromes(p, level, &odd, &mut list))?;
     numbers(rt, &list)?;
-    end(rt)
+    println!(rt)
 }
 
 // The short remainder as the first word of a page that has no other, and the syndromes of that page's nested word 0.
 fn short_remainder(rt: &impl Print, p: Parameters, page: &[u8]) -> io::Result<()> {
-    given(rt, b"short remainder of nested word", 0, page)?;
+    print!(rt; "short remainder of nested word 0")?;
+    given(rt, page)?;
     let mut out = [0xAAu8; 96];
-    let r = oneword::short_remainder(p, page, 0, &mut out);
-    outcome(rt, r)?;
+    outcome(rt, oneword::short_remainder(p, page, 0, &mut out))?;
     let rest = [out[0], out[1], 0, 0];
     bytes(rt, &rest)?;
-    end(rt)?;
+    println!(rt)?;
     nested_syndromes(rt, p, 0, 1, &rest)
 }
 
@@ -266,7 +209,7 @@ fn large(rt: &impl Print, s: u32) -> io::Result<()> {
             t1: 32,
             t2: 39,
             t3: 58,
-            s: s,
+            s,
         },
     )
 }

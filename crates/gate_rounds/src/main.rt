@@ -5,7 +5,7 @@
 // from what the calls promise and the theorems on the promises, and nothing of how a page is made.
 #![tactic(auto)]
 
-ghost use Rattle.std.specs.Prelude.{◌≡◌, [], ◌∷◌, true, ◌&&◌, ◌*◌, ◌≤◌, ◌<◌, length, get_or};
+ghost use Rattle.std.specs.Prelude.{◌≡◌, [], ◌∷◌, true, ◌*◌, ◌≤◌, ◌<◌, length, get_or};
 ghost use Rattle.polynomial.specs.Sums.{add};
 ghost use Rattle.code.specs.Calls.{Written, judge_answer, outcome, outcome_number, statuses};
 ghost use Rattle.code.specs.Demands.{QuotedPage};
@@ -27,52 +27,28 @@ use code::{Outcome, Parameters, Verdict};
 fn number(r: Outcome) -> u8
     ensures { result ≡ outcome_number r }
 {
-    if let Outcome::Refused(k) = r {
-        return k;
+    match r {
+        Outcome::Done => 0,
+        Outcome::Refused(k) => k,
     }
-    0
 }
 
 fn done(r: Outcome) -> bool
     ensures { result ≡ is_done r }
 {
-    if let Outcome::Done = r {
-        return true;
-    }
-    false
+    matches!(r, Outcome::Done)
 }
 
 fn member(r: Verdict) -> bool
     ensures { result ≡ is_member r }
 {
-    match r {
-        Verdict::Member => true,
-        Verdict::Blank => false,
-        Verdict::SubWord(_) => false,
-        Verdict::NestedWord(_) => false,
-        Verdict::Refused(_) => false,
-    }
+    matches!(r, Verdict::Member)
 }
 
 fn blank(r: Verdict) -> bool
     ensures { result ≡ is_blank r }
 {
-    match r {
-        Verdict::Member => false,
-        Verdict::Blank => true,
-        Verdict::SubWord(_) => false,
-        Verdict::NestedWord(_) => false,
-        Verdict::Refused(_) => false,
-    }
-}
-
-fn both(a: bool, b: bool) -> bool
-    ensures { result ≡ (a && b) }
-{
-    if a {
-        return b;
-    }
-    false
+    matches!(r, Verdict::Blank)
 }
 
 // The sum of two lists of bytes, byte by byte.
@@ -80,10 +56,8 @@ fn add_bytes(a: &[u8], b: &[u8], sum: &mut [u8])
     requires { (length a.now ≡ length b.now) × (length sum.old ≡ length a.now) }
     ensures { sum.new ≡ add a.now b.now }
 {
-    let mut i: usize = 0;
-    while i < sum.len() {
+    for i in 0..sum.len() {
         sum[i] = a[i] ^ b[i];
-        i += 1;
     }
 }
 
@@ -179,8 +153,7 @@ fn rewrites(p: Parameters, l: u32, page: &[u8], blocks: &mut [u8], again: &mut [
     let j = page::judge(p, page);
     let r = page::read_out(p, page, blocks);
     let w = page::write(p, l, blocks, again);
-    let made = done(w);
-    let same = both(made, check::same(again, page));
+    let same = done(w) && check::same(again, page);
     let judged = member(j);
     check::expect(judged == same);
     check::expect(member(r) == same);
@@ -206,7 +179,7 @@ fn erased(p: Parameters, l: u32, page: &[u8], blocks: &mut [u8], again: &mut [u8
 fn scratched(p: Parameters, page: &mut [u8], k: usize, e: u8)
     requires { Accepted p × IsPage p page.old × (judge_answer p page.old ≡ Verdict.Member) × (k < length page.old) × (1 ≤ e) }
 {
-    page[k] = page[k] ^ e;
+    page[k] ^= e;
     let j = page::judge(p, page);
     check::expect(!member(j));
 }
@@ -289,13 +262,7 @@ fn mended(
 fn listable(n: u8) -> bool
     ensures { Listable n → result ≡ true }
 {
-    if n == 0 {
-        return true;
-    }
-    if n == 8 {
-        return true;
-    }
-    n == 13
+    matches!(n, 0 | 8 | 13)
 }
 
 // A page of such a call and its listed byte, beside a single call over the same bytes: the same number, the same page, and where it is
@@ -349,10 +316,8 @@ fn single_rooms(
 fn singles(p: Parameters, l: u32, blocks: &[u8], pages: &[u8], list: &[u8], b: usize, n: usize)
     requires { Each p l blocks.now pages.now list.now × (b ≡ data_bytes p) × (n ≡ page_bytes p) × (b ≤ 1024) × (n ≤ 1024) }
 {
-    let mut k: usize = 0;
-    while k < list.len() {
+    for k in 0..list.len() {
         single_rooms(p, l, k, blocks, pages, list, b, n);
-        k += 1;
     }
 }
 
@@ -619,7 +584,7 @@ fn bits() {
     };
     let a = [0x02u8, 0x01, 0x00];
     let mut b = a;
-    b[0] = b[0] ^ 0x40;
+    b[0] ^= 0x40;
     altered_rooms(p, &a, &b, 0, 6, 1, 0, 4);
     // sheet B
     let p = Parameters {
@@ -634,7 +599,7 @@ fn bits() {
     };
     let a = [0x00u8, 0x08, 0x01, 0x00];
     let mut b = a;
-    b[1] = b[1] ^ 0x08;
+    b[1] ^= 0x08;
     altered_rooms(p, &a, &b, 1, 3, 0, 1, 6);
     // sheet A with s 3
     let p = Parameters {
@@ -649,7 +614,7 @@ fn bits() {
     };
     let a = [0x02u8, 0x01];
     let mut b = a;
-    b[1] = b[1] ^ 0x80;
+    b[1] ^= 0x80;
     altered_rooms(p, &a, &b, 1, 7, 1, 0, 4);
     // q = 8
     let p = Parameters {
@@ -664,7 +629,7 @@ fn bits() {
     };
     let a = [0x06u8; 61];
     let mut b = a;
-    b[40] = b[40] ^ 0x10;
+    b[40] ^= 0x10;
     altered_rooms(p, &a, &b, 1, 84, 1, 0, 64);
 }
 

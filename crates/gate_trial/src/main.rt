@@ -19,176 +19,124 @@ use std::io::{Read, Write};
 
 // ---- numbers, low byte first
 
-fn pair(low: u8, high: u8) -> usize {
-    low as usize + 256 * high as usize
-}
-
-fn number(b: &[u8]) -> u64 {
-    let mut n: u64 = 0;
-    let mut k: usize = b.len();
-    while k > 0 {
-        k -= 1;
-        n = n << 8 | b[k] as u64;
-    }
-    n
-}
-
 fn put(rt: &impl Print, n: u8) -> io::Result<()> {
-    let out = [n];
-    io::writer(rt).write_all(&out)
+    io::writer(rt).write_all(&[n])
 }
 
 fn put_number(rt: &impl Print, n: u64) -> io::Result<()> {
-    let mut rest = n;
-    let mut k: u32 = 0;
-    while k < 8 {
-        put(rt, (rest % 256) as u8)?;
-        rest = rest / 256;
-        k += 1;
-    }
-    Ok(())
+    io::writer(rt).write_all(&n.to_le_bytes())
 }
 
-fn put_numbers(rt: &impl Print, r: &[u64]) -> io::Result<()> {
-    let mut k: usize = 0;
-    while k < r.len() {
-        put_number(rt, r[k])?;
-        k += 1;
+fn put_numbers(rt: &impl Print, list: &[u64]) -> io::Result<()> {
+    for n in list {
+        put_number(rt, *n)?;
     }
     Ok(())
 }
 
 fn put_outcome(rt: &impl Print, r: Outcome) -> io::Result<()> {
-    if let Outcome::Refused(k) = r {
-        return put(rt, k);
+    match r {
+        Outcome::Done => put(rt, 0),
+        Outcome::Refused(k) => put(rt, k),
     }
-    put(rt, 0)
 }
 
 // ---- the calls
 
 fn test(rt: &impl Print, p: Parameters) -> io::Result<()> {
-    let tested = sheet::test(p);
-    let Tested::Accepted {
-        q,
-        m,
-        v,
-        t0,
-        t1,
-        t2,
-        t3,
-        s,
-    } = tested
-    else {
-        if let Tested::Refused(k) = tested {
-            put(rt, k)?;
+    match sheet::test(p) {
+        Tested::Accepted {
+            q,
+            m,
+            v,
+            t0,
+            t1,
+            t2,
+            t3,
+            s,
+        } => {
+            put(rt, 0)?;
+            put_numbers(rt, &[q, m, v, t0, t1, t2, t3, s].map(u64::from))
         }
-        return Ok(());
-    };
-    put(rt, 0)?;
-    let r = [
-        q as u64, m as u64, v as u64, t0 as u64, t1 as u64, t2 as u64, t3 as u64, s as u64,
-    ];
-    put_numbers(rt, &r)
+        Tested::Refused(k) => put(rt, k),
+    }
 }
 
 fn nesting(rt: &impl Print, i: usize, l: usize) -> io::Result<()> {
-    let n = sheet::nesting_coefficient(i, l);
-    let Nesting::Coefficient(c) = n else {
-        if let Nesting::Refused(k) = n {
-            put(rt, k)?;
+    match sheet::nesting_coefficient(i, l) {
+        Nesting::Coefficient(c) => {
+            put(rt, 0)?;
+            put_number(rt, c)
         }
-        return Ok(());
-    };
-    put(rt, 0)?;
-    put_number(rt, c)
+        Nesting::Refused(k) => put(rt, k),
+    }
 }
 
 // The number of the sheet's refusal, 0 for none.
 fn sheet_number(p: Parameters) -> u8 {
-    let Tested::Refused(k) = sheet::test(p) else {
-        return 0;
-    };
-    k
+    match sheet::test(p) {
+        Tested::Accepted { .. } => 0,
+        Tested::Refused(k) => k,
+    }
 }
 
 fn generator_rows(rt: &impl Print, p: Parameters) -> io::Result<()> {
     put(rt, sheet_number(p))?;
-    let rows = levels::generators_of(p);
-    let mut k: usize = 0;
-    while k < 4 {
-        let r = rows[k];
-        put_numbers(rt, &r)?;
-        k += 1;
+    for row in levels::generators_of(p) {
+        put_numbers(rt, &row)?;
     }
     Ok(())
 }
 
 fn put_computed(rt: &impl Print, r: Computed) -> io::Result<()> {
-    let Computed::Element(e) = r else {
-        if let Computed::Refused(k) = r {
-            put(rt, k)?;
+    match r {
+        Computed::Element(e) => {
+            put(rt, 0)?;
+            put_number(rt, u64::from(e.0))
         }
-        return Ok(());
-    };
-    put(rt, 0)?;
-    put_number(rt, e.0 as u64)
+        Computed::Refused(k) => put(rt, k),
+    }
 }
 
 fn elements(rt: &impl Print, q: u32, a: u16, b: u16, k: u32) -> io::Result<()> {
-    let made = Field::make(q);
-    let Made::Field(f) = made else {
-        if let Made::Refused(n) = made {
-            put(rt, n)?;
+    match Field::make(q) {
+        Made::Field(f) => {
+            put_computed(rt, f.sum(Element(a), Element(b)))?;
+            put_computed(rt, f.product(Element(a), Element(b)))?;
+            put_computed(rt, f.power(Element(a), k))?;
+            put_computed(rt, f.alpha_power(k))
         }
-        return Ok(());
-    };
-    put_computed(rt, f.sum(Element(a), Element(b)))?;
-    put_computed(rt, f.product(Element(a), Element(b)))?;
-    put_computed(rt, f.power(Element(a), k))?;
-    put_computed(rt, f.alpha_power(k))
+        Made::Refused(k) => put(rt, k),
+    }
 }
 
+// The first twelve numbers of eight bytes each; all 0 where there are fewer.
 fn words_of(b: &[u8]) -> [u64; 12] {
-    let mut r = [0u64; 12];
-    if b.len() < 96 {
-        return r;
+    let mut words = [0u64; 12];
+    if b.len() >= 96 {
+        for (word, bytes) in words.iter_mut().zip(b.as_chunks().0) {
+            *word = u64::from_le_bytes(*bytes);
+        }
     }
-    let mut k: usize = 0;
-    while k < 12 {
-        let at = 8 * k;
-        let end = at + 8;
-        r[k] = number(&b[at..end]);
-        k += 1;
-    }
-    r
+    words
 }
 
 // Numbers of two bytes each.
 fn take_pairs(b: &[u8], list: &mut [u16]) {
-    let count = b.len() / 2;
-    let mut k: usize = 0;
-    while k < count && k < list.len() {
-        let at = 2 * k;
-        let end = at + 2;
-        list[k] = (number(&b[at..end]) % 65536) as u16;
-        k += 1;
+    for (n, bytes) in list.iter_mut().zip(b.as_chunks().0) {
+        *n = u16::from_le_bytes(*bytes);
     }
 }
 
 fn put_fed(rt: &impl Print, f: Fed) -> io::Result<()> {
-    let outcome = f.outcome;
-    put_outcome(rt, outcome)?;
-    let r = f.register;
-    put_number(rt, r.level as u64)?;
-    put_number(rt, r.count)?;
-    let words = r.remainder;
-    put_numbers(rt, &words)
+    put_outcome(rt, f.outcome)?;
+    put_number(rt, u64::from(f.register.level))?;
+    put_number(rt, f.register.count)?;
+    put_numbers(rt, &f.register.remainder)
 }
 
 fn open(rt: &impl Print, p: Parameters, level: u32) -> io::Result<()> {
-    let f = Register::open(p, level);
-    put_fed(rt, f)
+    put_fed(rt, Register::open(p, level))
 }
 
 fn feed(
@@ -201,28 +149,23 @@ fn feed(
     u: u64,
 ) -> io::Result<()> {
     let r = Register {
-        level: level,
-        count: count,
+        level,
+        count,
         remainder: words_of(rest),
     };
-    let f = r.feed(p, width, u);
-    put_fed(rt, f)
+    put_fed(rt, r.feed(p, width, u))
 }
 
 fn put_pairs(rt: &impl Print, list: &[u16]) -> io::Result<()> {
-    let mut k: usize = 0;
-    while k < list.len() {
-        let n = list[k];
-        put(rt, (n % 256) as u8)?;
-        put(rt, (n / 256 % 256) as u8)?;
-        k += 1;
+    for n in list {
+        io::writer(rt).write_all(&n.to_le_bytes())?;
     }
     Ok(())
 }
 
 fn put_bytes(rt: &impl Print, r: Outcome, out: &[u8]) -> io::Result<()> {
     put_outcome(rt, r)?;
-    io::writer(rt).write_all(&out)
+    io::writer(rt).write_all(out)
 }
 
 fn put_list(rt: &impl Print, r: Outcome, list: &[u16]) -> io::Result<()> {
@@ -231,26 +174,23 @@ fn put_list(rt: &impl Print, r: Outcome, list: &[u16]) -> io::Result<()> {
 }
 
 fn put_verdict(rt: &impl Print, r: Verdict) -> io::Result<()> {
-    if let Verdict::Refused(k) = r {
-        return put(rt, k);
+    match r {
+        Verdict::Member => put(rt, 0),
+        Verdict::SubWord(i) => {
+            put(rt, 32)?;
+            put_number(rt, i as u64)
+        }
+        Verdict::NestedWord(l) => {
+            put(rt, 64)?;
+            put_number(rt, l as u64)
+        }
+        Verdict::Blank => put(rt, 96),
+        Verdict::Refused(k) => put(rt, k),
     }
-    if let Verdict::SubWord(i) = r {
-        put(rt, 32)?;
-        return put_number(rt, i as u64);
-    }
-    if let Verdict::NestedWord(l) = r {
-        put(rt, 64)?;
-        return put_number(rt, l as u64);
-    }
-    if let Verdict::Blank = r {
-        return put(rt, 96);
-    }
-    put(rt, 0)
 }
 
 fn judge(rt: &impl Print, p: Parameters, page: &[u8]) -> io::Result<()> {
-    let r = page::judge(p, page);
-    put_verdict(rt, r)
+    put_verdict(rt, page::judge(p, page))
 }
 
 // The calls that fill lent bytes.
@@ -263,25 +203,16 @@ fn bytes_call(
     width: u32,
     out: &mut [u8],
 ) -> io::Result<()> {
-    if call == 6 {
-        let r = oneword::remainder(p, page, i, out);
-        return put_bytes(rt, r, out);
+    match call {
+        6 => put_bytes(rt, oneword::remainder(p, page, i, out), out),
+        7 => put_bytes(rt, oneword::short_remainder(p, page, i, out), out),
+        8 => put_bytes(rt, oneword::nested_word(p, page, i, out), out),
+        12 => {
+            put_verdict(rt, page::read_out(p, page, out))?;
+            io::writer(rt).write_all(out)
+        }
+        _ => put_bytes(rt, page::write(p, width, page, out), out),
     }
-    if call == 7 {
-        let r = oneword::short_remainder(p, page, i, out);
-        return put_bytes(rt, r, out);
-    }
-    if call == 8 {
-        let r = oneword::nested_word(p, page, i, out);
-        return put_bytes(rt, r, out);
-    }
-    if call == 12 {
-        let r = page::read_out(p, page, out);
-        put_verdict(rt, r)?;
-        return io::writer(rt).write_all(out);
-    }
-    let r = page::write(p, width, page, out);
-    put_bytes(rt, r, out)
 }
 
 // Many pages, and the list.
@@ -319,12 +250,13 @@ fn mend_call(
     page: &mut [u8],
     i: usize,
     list: &mut [u16],
-    flips: &mut u8,
+    old: u8,
 ) -> io::Result<()> {
-    let r = mend::mend(p, page, i, list, flips);
+    let mut flips = old;
+    let r = mend::mend(p, page, i, list, &mut flips);
     put_bytes(rt, r, page)?;
     put_pairs(rt, list)?;
-    put(rt, *flips)
+    put(rt, flips)
 }
 
 // The page through its nested words.
@@ -342,15 +274,11 @@ fn list_call(
     i: usize,
     list: &mut [u16],
 ) -> io::Result<()> {
-    if call == 14 {
-        let r = sizes::quote(p, list);
-        return put_list(rt, r, list);
-    }
-    if call == 9 {
-        let r = oneword::syndromes(p, page, i, list);
-        return put_list(rt, r, list);
-    }
-    let r = oneword::nested_syndromes(p, page, i, list);
+    let r = match call {
+        14 => sizes::quote(p, list),
+        9 => oneword::syndromes(p, page, i, list),
+        _ => oneword::nested_syndromes(p, page, i, list),
+    };
     put_list(rt, r, list)
 }
 
@@ -378,10 +306,10 @@ fn lend_bytes(
     size: usize,
 ) -> io::Result<()> {
     let mut room = [165u8; 8192];
-    if size <= 8192 {
-        bytes_call(rt, call, p, page, i, width, &mut room[..size])?;
-    }
-    Ok(())
+    let Some(out) = room.get_mut(..size) else {
+        return Ok(());
+    };
+    bytes_call(rt, call, p, page, i, width, out)
 }
 
 fn lend_many(
@@ -395,20 +323,10 @@ fn lend_many(
 ) -> io::Result<()> {
     let mut room = [165u8; 8192];
     let mut list = [165u8; 32];
-    if size <= 8192 {
-        if length <= 32 {
-            many_call(
-                rt,
-                p,
-                width,
-                count,
-                blocks,
-                &mut room[..size],
-                &mut list[..length],
-            )?;
-        }
-    }
-    Ok(())
+    let (Some(pages), Some(list)) = (room.get_mut(..size), list.get_mut(..length)) else {
+        return Ok(());
+    };
+    many_call(rt, p, width, count, blocks, pages, list)
 }
 
 fn lend_list(
@@ -420,22 +338,19 @@ fn lend_list(
     size: usize,
 ) -> io::Result<()> {
     let mut room = [42405u16; 256];
-    if size <= 256 {
-        list_call(rt, call, p, page, i, &mut room[..size])?;
-    }
-    Ok(())
+    let Some(list) = room.get_mut(..size) else {
+        return Ok(());
+    };
+    list_call(rt, call, p, page, i, list)
 }
 
 fn lend_all(rt: &impl Print, p: Parameters, level: u32, b: &[u8], size: usize) -> io::Result<()> {
     let mut odd = [0u16; 128];
     let mut room = [42405u16; 256];
-    let count = b.len() / 2;
-    if count <= 128 {
-        if size <= 256 {
-            all_call(rt, p, level, b, &mut odd[..count], &mut room[..size])?;
-        }
-    }
-    Ok(())
+    let (Some(odd), Some(list)) = (odd.get_mut(..b.len() / 2), room.get_mut(..size)) else {
+        return Ok(());
+    };
+    all_call(rt, p, level, b, odd, list)
 }
 
 fn lend_mending(
@@ -447,11 +362,10 @@ fn lend_mending(
     old: u8,
 ) -> io::Result<()> {
     let mut room = [42405u16; 256];
-    let mut flips = old;
-    if size <= 256 {
-        mend_call(rt, p, page, i, &mut room[..size], &mut flips)?;
-    }
-    Ok(())
+    let Some(list) = room.get_mut(..size) else {
+        return Ok(());
+    };
+    mend_call(rt, p, page, i, list, old)
 }
 
 // The calls that change the page.
@@ -464,133 +378,83 @@ fn change(
     u: u64,
     count: u64,
 ) -> io::Result<()> {
-    if call == 16 {
-        alter_call(
-            rt,
-            p,
-            page,
-            (u % 4294967296) as u32,
-            (u / 4294967296 % 4294967296) as u32,
-            (count % 4294967296) as u32,
-        )?;
-        return Ok(());
+    match call {
+        16 => alter_call(rt, p, page, low_half(u), (u >> 32) as u32, low_half(count)),
+        19 => mend_page_call(rt, p, page),
+        _ => lend_mending(rt, p, page, u as usize, size, (count & 0xff) as u8),
     }
-    if call == 19 {
-        return mend_page_call(rt, p, page);
-    }
-    lend_mending(rt, p, page, u as usize, size, (count % 256) as u8)
 }
 
-// Byte k of a record, 0 past its end.
-fn byte(h: &[u8], k: usize) -> u32 {
-    if k < h.len() {
-        return h[k] as u32;
-    }
-    0
+fn low_half(n: u64) -> u32 {
+    (n & 0xffff_ffff) as u32
 }
 
-fn run(rt: &impl Print, h: &[u8], page: &mut [u8], size: usize) -> io::Result<()> {
-    if h.len() < 36 {
-        return Ok(());
-    }
-    let s = number(&h[32..36]);
+fn run(rt: &impl Print, h: &[u8; 36], page: &mut [u8], size: usize) -> io::Result<()> {
     let p = Parameters {
-        q: byte(h, 1),
-        m: byte(h, 2),
-        v: byte(h, 3),
-        t0: byte(h, 4),
-        t1: byte(h, 5),
-        t2: byte(h, 6),
-        t3: byte(h, 7),
-        s: (s % 4294967296) as u32,
+        q: u32::from(h[1]),
+        m: u32::from(h[2]),
+        v: u32::from(h[3]),
+        t0: u32::from(h[4]),
+        t1: u32::from(h[5]),
+        t2: u32::from(h[6]),
+        t3: u32::from(h[7]),
+        s: u32::from_le_bytes([h[32], h[33], h[34], h[35]]),
     };
-    let i = byte(h, 8) as usize;
-    let l = byte(h, 9) as usize;
-    let width = byte(h, 10);
-    let u = number(&h[16..24]);
-    let count = number(&h[24..32]);
+    let i = usize::from(h[8]);
+    let l = usize::from(h[9]);
+    let width = u32::from(h[10]);
+    let (words, _) = h.as_chunks();
+    let u = u64::from_le_bytes(words[2]);
+    let count = u64::from_le_bytes(words[3]);
     let call = h[0];
-    if call == 0 {
-        test(rt, p)?;
-    }
-    if call == 1 {
-        nesting(rt, i, l)?;
-    }
-    if call == 2 {
-        generator_rows(rt, p)?;
-    }
-    if call == 3 {
-        elements(rt, p.q, (u % 65536) as u16, (count % 65536) as u16, width)?;
-    }
-    if call == 4 {
-        open(rt, p, byte(h, 8))?;
-    }
-    if call == 5 {
-        feed(rt, p, byte(h, 8), count, page, width, u)?;
-    }
-    if 6 <= call && call <= 8 || 12 <= call && call <= 13 {
-        lend_bytes(rt, call, p, page, i, width, size)?;
-    }
-    if 9 <= call && call <= 10 || call == 14 {
-        lend_list(rt, call, p, page, i, size)?;
-    }
-    if call == 11 {
-        judge(rt, p, page)?;
-    }
-    if call == 15 {
-        lend_many(
+    match call {
+        0 => test(rt, p),
+        1 => nesting(rt, i, l),
+        2 => generator_rows(rt, p),
+        3 => elements(rt, p.q, (u & 0xffff) as u16, (count & 0xffff) as u16, width),
+        4 => open(rt, p, u32::from(h[8])),
+        5 => feed(rt, p, u32::from(h[8]), count, page, width, u),
+        6..=8 | 12 | 13 => lend_bytes(rt, call, p, page, i, width, size),
+        9 | 10 | 14 => lend_list(rt, call, p, page, i, size),
+        11 => judge(rt, p, page),
+        15 => lend_many(
             rt,
             p,
             width,
-            (count % 4294967296) as u32,
+            low_half(count),
             page,
             size,
-            (u % 65536) as usize,
-        )?;
+            (u & 0xffff) as usize,
+        ),
+        16 | 17 | 19 => change(rt, call, p, page, size, u, count),
+        18 => lend_all(rt, p, low_half(u), page, size),
+        _ => Ok(()),
     }
-    if call == 18 {
-        lend_all(rt, p, (u % 4294967296) as u32, page, size)?;
-    }
-    if call == 16 || call == 17 || call == 19 {
-        change(rt, call, p, page, size, u, count)?;
-    }
-    Ok(())
-}
-
-// The page of a record is read, and its call is made.
-fn rest<R: Read>(
-    rt: &impl Print,
-    input: &mut R,
-    head: &[u8],
-    page: &mut [u8],
-    size: usize,
-) -> io::Result<()> {
-    given::read_full(input, page)?;
-    run(rt, head, page, size)
 }
 
 // One record; is there another?
 fn record<R: Read>(rt: &impl Print, input: &mut R) -> io::Result<bool> {
     let mut head = [0u8; 36];
-    let got = given::read_full(input, &mut head)?;
-    if got < 36 {
+    if given::read_full(input, &mut head)? < head.len() {
         return Ok(false);
     }
+    let length = u16::from_le_bytes([head[12], head[13]]);
+    let size = u16::from_le_bytes([head[14], head[15]]);
     let mut room = [0u8; 8192];
-    let k = pair(head[12], head[13]);
-    let size = pair(head[14], head[15]);
-    if k > 8192 {
+    let Some(page) = room.get_mut(..usize::from(length)) else {
         return Ok(false);
-    }
-    rest(rt, input, &head, &mut room[..k], size)?;
+    };
+    given::read_full(input, page)?;
+    run(rt, &head, page, usize::from(size))?;
     Ok(true)
 }
 
 fn main(rt: HostRuntime) -> io::Result<()> {
     let mut input = rt.reader();
-    let mut turns: u64 = u64::MAX;
-    while turns > 0 && record(&rt, &mut input)? {
-        turns -= 1;
+    for _ in 0..u64::MAX {
+        if !record(&rt, &mut input)? {
+            break;
+        }
     }
     Ok(())
 }

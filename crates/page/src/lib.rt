@@ -42,11 +42,8 @@ fn take_blocks(p: Parameters, w: &[u32], page: &[u8], blocks: &mut [u8])
     requires { Taking p w.now page.now blocks.old }
     ensures { blocks.new ≡ data_of p page.now }
 {
-    let m = p.m as usize;
-    let mut i: usize = 0;
-    while i < m {
+    for i in 0..p.m as usize {
         take_block(p, w, page, blocks, i);
-        i += 1;
     }
 }
 
@@ -135,10 +132,8 @@ fn list_pages(p: Parameters, w: &[u32], width: u32, blocks: &[u8], list: &mut [u
     requires { Accepted p × Degrees p w.now × (length list.old ≤ 16) × (length blocks.now ≡ length list.old * data_bytes p) }
     ensures { list.new ≡ statuses p width (length list.old) blocks.now }
 {
-    let mut k: usize = 0;
-    while k < list.len() {
-        list[k] = status_at(p, w, width, blocks, k);
-        k += 1;
+    for (k, status) in list.iter_mut().enumerate() {
+        *status = status_at(p, w, width, blocks, k);
     }
 }
 

@@ -36,11 +36,7 @@ fn low_words(r: &[u64]) -> [u64; 12]
     ensures { result ≡ digits 64 12 (value 64 r.now) }
 {
     let mut low = [0u64; 12];
-    let mut i: usize = 0;
-    while i < 12 {
-        low[i] = r[i];
-        i += 1;
-    }
+    low.copy_from_slice(&r[..12]);
     low
 }
 
@@ -72,7 +68,7 @@ impl Register {
         ensures { value_of result ≡ empty level }
     {
         Register {
-            level: level,
+            level,
             count: 0,
             remainder: [0u64; 12],
         }

@@ -2,7 +2,7 @@
 // Each call takes any numbers.
 #![tactic(auto)]
 
-ghost use Rattle.std.specs.Prelude.{◌≡◌, ◌+◌, ◌*◌, ◌≤◌, ◌<◌, min, length, get_or};
+ghost use Rattle.std.specs.Prelude.{◌≡◌, ◌+◌, ◌*◌, ◌≤◌, ◌<◌, length, get_or};
 ghost use Rattle.code.specs.Calls.{quote as Calls·quote, QuoteMade};
 ghost use Rattle.code.specs.Code.{degree as Code·degree, distance as Code·distance};
 ghost use Rattle.code.specs.Layout.{data_bytes, page_bytes};
@@ -53,15 +53,6 @@ fn weight(b: u32, t: u32) -> u32
     b * (2 * t + 1)
 }
 
-fn smaller(a: u32, b: u32) -> u32
-    ensures { result ≡ min a b }
-{
-    if a <= b {
-        return a;
-    }
-    b
-}
-
 // The least of (v + 1)(2 t_0 + 1) and b (2 t_(v-b+1) + 1), b from 1 to v.
 fn least(p: Parameters) -> u32
     requires { Accepted p }
@@ -70,12 +61,9 @@ fn least(p: Parameters) -> u32
     let v = p.v;
     let t = sheet::strength_at(p, 0);
     let mut d = weight(v + 1, t);
-    let mut b: u32 = 1;
-    while b <= v {
+    for b in 1..=v {
         let s = sheet::strength_at(p, v - b + 1);
-        let e = weight(b, s);
-        d = smaller(e, d);
-        b += 1;
+        d = weight(b, s).min(d);
     }
     d
 }
@@ -101,10 +89,10 @@ fn quoted_at(p: Parameters, w: &[u32], k: usize) -> u16
     }
     let i = k - 4;
     if i < p.m as usize {
-        let b = layout::data_bits(p, w, i);
-        return b as u16;
+        layout::data_bits(p, w, i) as u16
+    } else {
+        0
     }
-    0
 }
 
 // The 12 numbers of the quote.
@@ -112,10 +100,8 @@ fn quote_into(list: &mut [u16], p: Parameters, w: &[u32])
     requires { Accepted p × Degrees p w.now × (length list.old ≡ 12) }
     ensures { list.new ≡ Calls·quote p }
 {
-    let mut k: usize = 0;
-    while k < 12 {
-        list[k] = quoted_at(p, w, k);
-        k += 1;
+    for (k, n) in list.iter_mut().enumerate() {
+        *n = quoted_at(p, w, k);
     }
 }
 

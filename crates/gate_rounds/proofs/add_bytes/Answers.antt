@@ -1,3 +1,4 @@
+use native.Mathlib.Omega.{arith}
 use Rattle.gate_rounds.specs.Sum.{summed-start, summed-next, summed-all}
 use Rattle.gate_rounds.proofs.add_bytes.Goals as goal
 
@@ -7,9 +8,9 @@ loop-i-init c = summed-start _ _ _ c.requires.1
 pub loop-i-preserved : goal.loop-i-preserved
 loop-i-preserved c =
     let l = c.loop-i in
-    summed-next _ _ l.sum l.i c.loop-i-test.true l.invariant
+    summed-next _ _ l.sum l.i (omega arith) l.invariant
 
 pub returns : goal.returns
 returns c =
     let l = c.loop-i in
-    summed-all _ _ l.sum l.i c.requires.0 c.loop-i-test.false l.invariant
+    summed-all _ _ l.sum l.i c.requires.0 (omega arith) l.invariant

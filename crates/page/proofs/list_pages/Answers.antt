@@ -12,22 +12,19 @@ loop-k-init c = let a = c.args in listing_start a.p a.width a.blocks.now a.list.
 pub status_at-requires : goal.status_at-requires
 status_at-requires c =
     let a = c.args in
-    let h : c.loop-k.k < length a.list.now = rw c.loop-k.invariant.exact at c.loop-k-test.true in (
+    let h : c.loop-k.k < length a.list.now = omega (arith, c.loop-k.invariant.exact) in (
       c.requires.0,
       c.requires.1,
       omega (arith, c.requires.2),
       rw c.requires.3 (part_room (data_bytes a.p) (length a.list.now) c.loop-k.k h),
     )
 
-pub loop-k-smaller : goal.loop-k-smaller
-loop-k-smaller c = omega (arith, c.loop-k-test.true, c.loop-k.invariant.exact)
-
 pub loop-k-preserved : goal.loop-k-preserved
 loop-k-preserved c =
     let a = c.args in
-    listing-next a.p a.width a.blocks.now c.loop-k.k c.status_at.result a.list.now c.loop-k.list c.loop-k-test.true c.loop-k.invariant c.status_at.ensures
+    listing-next a.p a.width a.blocks.now c.loop-k.k c.status_at.result a.list.now c.loop-k.list (omega arith) c.loop-k.invariant c.status_at.ensures
 
 pub returns : goal.returns
 returns c =
     let a = c.args in
-    listing-done a.p a.width a.blocks.now c.loop-k.k a.list.now c.loop-k.list c.loop-k-test.false c.loop-k.invariant
+    listing-done a.p a.width a.blocks.now c.loop-k.k a.list.now c.loop-k.list (omega arith) c.loop-k.invariant

@@ -1,21 +1,17 @@
--- The loop: the i lowest words are copied.
-use mathlib.Core.Path.{refl}
-use native.Mathlib.Nat.{not-suc-le-zero}
 use native.Mathlib.Omega.{arith}
-use lib.ListN.{length-set}
-use Rattle.reduction.specs.Sum.{copy_start, copy-turn}
+use Rattle.std.proofs.Common.{rules}
+use mathlib.Core.Path.{◌≡◌, refl, ap, ◌∙◌}
+use Prim.Native.Nat.{ℕ}
+use lib.ListN.{length, take}
+use Rattle.std.proofs.lemmas.List.{take-take}
+use Rattle.kernels.specs.Value.{Bounded}
 use Rattle.register.specs.Advance.{copied-digits}
 use Rattle.register.proofs.low_words.Goals as goal
 
-pub loop-i-init : goal.loop-i-init
-loop-i-init c = (refl, omega arith, copy_start _ _, (λ h. absurd (not-suc-le-zero h)))
-
-pub loop-i-preserved : goal.loop-i-preserved
-loop-i-preserved c =
-    let l = c.loop-i in
-    (simp length-set l.invariant.0, omega arith, copy-turn _ l.low c.args.r.now l.i (omega arith) (omega arith) l.invariant.2, (λ h k. (c.type_inv.r k).fits))
-
 pub returns : goal.returns
 returns c =
-    let l = c.loop-i in
-    copied-digits _ l.low c.args.r.now l.i l.invariant.0 c.requires (omega arith) l.invariant.2 (l.invariant.3 (omega arith))
+    let r = c.args.r.now in
+    let low = c.copy_from_slice.new.self in
+    let e : low ≡ take 12 r = c.copy_from_slice.ensures.after in
+    let b : Bounded 64 r = λ k. (c.type_inv.r k).fits in
+    copied-digits low low r 12 (search rules) c.requires refl (record { left = refl; done = ap (take 12) e ∙ take-take 12 12 r (omega arith) }) b

@@ -13,14 +13,14 @@ overflow_cast-result c = omega (arith, level-fits c.args.p c.requires.0 c.args.w
 pub returns-then-k-lt4 : goal.returns-then-k-lt4
 returns-then-k-lt4 c = level-number _ _ _ c.requires.1 c.if-k-lt4.true
 
-pub data_bits-b-requires : goal.data_bits-b-requires
-data_bits-b-requires c = (c.requires.0, c.requires.1)
+pub data_bits-requires : goal.data_bits-requires
+data_bits-requires c = (c.requires.0, c.requires.1)
 
 pub overflow_cast-result-then-i-p : goal.overflow_cast-result-then-i-p
-overflow_cast-result-then-i-p c = omega (arith, c.data_bits-b.ensures, data-high c.args.p c.requires.0 (c.args.k - 4))
+overflow_cast-result-then-i-p c = omega (arith, c.data_bits.ensures, data-high c.args.p c.requires.0 (c.args.k - 4))
 
 pub returns-then-i-p : goal.returns-then-i-p
-returns-then-i-p c = block-number _ _ _ c.if-k-lt4.false c.requires.2 c.if-i-p.true c.data_bits-b.ensures
+returns-then-i-p c = block-number _ _ _ c.if-k-lt4.false c.requires.2 c.if-i-p.true c.data_bits.ensures
 
-pub returns : goal.returns
-returns c = spare-number _ _ c.if-k-lt4.false c.requires.2 c.if-i-p.false
+pub returns-else-i-p : goal.returns-else-i-p
+returns-else-i-p c = spare-number _ _ c.if-k-lt4.false c.requires.2 c.if-i-p.false

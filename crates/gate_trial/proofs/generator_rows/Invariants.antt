@@ -1,8 +1,0 @@
-use Prim.Native.Nat.{◌-◌, ◌≤◌}
-use Rattle.gate_trial.proofs.generator_rows.Given as goal
-
-abbrev pub invariant-loop-k : goal.invariant-loop-k
-invariant-loop-k g l = l.k ≤ 4
-
-abbrev pub decreases-loop-k : goal.decreases-loop-k
-decreases-loop-k g l = 4 - l.k
