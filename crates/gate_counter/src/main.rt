@@ -3,8 +3,7 @@
 // A line says what was called and gives the answer, then the lent buffer; tools/counter.py works out what the lines must be.
 #![tactic(auto)]
 
-use code::{Outcome, Parameters, Verdict};
-use sizes::Size;
+use code::{Judgement, Outcome, Parameters, Refusal, Verdict};
 use std::io;
 
 // ---- lines
@@ -23,27 +22,31 @@ fn bytes(rt: &impl Print, list: &[u8]) -> io::Result<()> {
     Ok(())
 }
 
-fn size(rt: &impl Print, r: Size) -> io::Result<()> {
+fn refused(rt: &impl Print, e: Refusal) -> io::Result<()> {
+    print!(rt; " refused {}", e.number())
+}
+
+fn size(rt: &impl Print, r: Result<usize, Refusal>) -> io::Result<()> {
     match r {
-        Size::Is(n) => print!(rt; " {n}"),
-        Size::Refused(k) => print!(rt; " refused {k}"),
+        Ok(n) => print!(rt; " {n}"),
+        Err(e) => refused(rt, e),
     }
 }
 
 fn outcome(rt: &impl Print, r: Outcome) -> io::Result<()> {
     match r {
-        Outcome::Done => print!(rt; " done"),
-        Outcome::Refused(k) => print!(rt; " refused {k}"),
+        Ok(()) => print!(rt; " done"),
+        Err(e) => refused(rt, e),
     }
 }
 
-fn verdict(rt: &impl Print, r: Verdict) -> io::Result<()> {
+fn verdict(rt: &impl Print, r: Judgement) -> io::Result<()> {
     match r {
-        Verdict::Member => print!(rt; " member"),
-        Verdict::SubWord(i) => print!(rt; " sub-word {i}"),
-        Verdict::NestedWord(l) => print!(rt; " nested word {l}"),
-        Verdict::Blank => print!(rt; " blank"),
-        Verdict::Refused(k) => print!(rt; " refused {k}"),
+        Ok(Verdict::Member) => print!(rt; " member"),
+        Ok(Verdict::SubWord(i)) => print!(rt; " sub-word {i}"),
+        Ok(Verdict::NestedWord(l)) => print!(rt; " nested word {l}"),
+        Ok(Verdict::Blank) => print!(rt; " blank"),
+        Err(e) => refused(rt, e),
     }
 }
 

@@ -11,8 +11,8 @@
 //            a verdict 0, 32 or 64, then the word's index; 96 for blank
 #![tactic(auto)]
 
-use code::{Nesting, Outcome, Parameters, Tested, Verdict};
-use element::{Computed, Element, Field, Made};
+use code::{Judgement, Outcome, Parameters, Verdict};
+use element::{Element, Field, FieldError};
 use register::{Fed, Register};
 use std::io;
 use std::io::{Read, Write};
@@ -35,78 +35,58 @@ fn put_numbers(rt: &impl Print, list: &[u64]) -> io::Result<()> {
 }
 
 fn put_outcome(rt: &impl Print, r: Outcome) -> io::Result<()> {
-    match r {
-        Outcome::Done => put(rt, 0),
-        Outcome::Refused(k) => put(rt, k),
-    }
+    put(rt, code::number_of(&r))
 }
 
 // ---- the calls
 
 fn test(rt: &impl Print, p: Parameters) -> io::Result<()> {
     match sheet::test(p) {
-        Tested::Accepted {
-            q,
-            m,
-            v,
-            t0,
-            t1,
-            t2,
-            t3,
-            s,
-        } => {
+        Ok(p) => {
             put(rt, 0)?;
-            put_numbers(rt, &[q, m, v, t0, t1, t2, t3, s].map(u64::from))
+            put_numbers(rt, &[p.q, p.m, p.v, p.t0, p.t1, p.t2, p.t3, p.s].map(u64::from))
         }
-        Tested::Refused(k) => put(rt, k),
+        Err(e) => put(rt, e.number()),
     }
 }
 
 fn nesting(rt: &impl Print, i: usize, l: usize) -> io::Result<()> {
     match sheet::nesting_coefficient(i, l) {
-        Nesting::Coefficient(c) => {
+        Ok(c) => {
             put(rt, 0)?;
             put_number(rt, c)
         }
-        Nesting::Refused(k) => put(rt, k),
-    }
-}
-
-// The number of the sheet's refusal, 0 for none.
-fn sheet_number(p: Parameters) -> u8 {
-    match sheet::test(p) {
-        Tested::Accepted { .. } => 0,
-        Tested::Refused(k) => k,
+        Err(e) => put(rt, e.number()),
     }
 }
 
 fn generator_rows(rt: &impl Print, p: Parameters) -> io::Result<()> {
-    put(rt, sheet_number(p))?;
+    put(rt, code::number_of(&sheet::test(p)))?;
     for row in levels::generators_of(p) {
         put_numbers(rt, &row)?;
     }
     Ok(())
 }
 
-fn put_computed(rt: &impl Print, r: Computed) -> io::Result<()> {
+fn put_computed(rt: &impl Print, r: Result<Element, FieldError>) -> io::Result<()> {
     match r {
-        Computed::Element(e) => {
+        Ok(e) => {
             put(rt, 0)?;
             put_number(rt, u64::from(e.0))
         }
-        Computed::Refused(k) => put(rt, k),
+        Err(e) => put(rt, e.number()),
     }
 }
 
 fn elements(rt: &impl Print, q: u32, a: u16, b: u16, k: u32) -> io::Result<()> {
     match Field::make(q) {
-        Made::Field(f) => {
+        Ok(f) => {
             put_computed(rt, f.sum(Element(a), Element(b)))?;
             put_computed(rt, f.product(Element(a), Element(b)))?;
             put_computed(rt, f.power(Element(a), k))?;
             put_computed(rt, f.alpha_power(k))
         }
-        Made::Refused(k) => put(rt, k),
+        Err(e) => put(rt, e.number()),
     }
 }
 
@@ -173,19 +153,19 @@ fn put_list(rt: &impl Print, r: Outcome, list: &[u16]) -> io::Result<()> {
     put_pairs(rt, list)
 }
 
-fn put_verdict(rt: &impl Print, r: Verdict) -> io::Result<()> {
+fn put_verdict(rt: &impl Print, r: Judgement) -> io::Result<()> {
     match r {
-        Verdict::Member => put(rt, 0),
-        Verdict::SubWord(i) => {
+        Ok(Verdict::Member) => put(rt, 0),
+        Ok(Verdict::SubWord(i)) => {
             put(rt, 32)?;
             put_number(rt, i as u64)
         }
-        Verdict::NestedWord(l) => {
+        Ok(Verdict::NestedWord(l)) => {
             put(rt, 64)?;
             put_number(rt, l as u64)
         }
-        Verdict::Blank => put(rt, 96),
-        Verdict::Refused(k) => put(rt, k),
+        Ok(Verdict::Blank) => put(rt, 96),
+        Err(e) => put(rt, e.number()),
     }
 }
 
