@@ -1,6 +1,6 @@
 -- The theorems' hypotheses hold of something, and ten statements that go further than the theorems are false. All by computation.
 -- Those on mended sub-words and pages stand in `cases_mended`.
-use Rattle.std.specs.Prelude.{◌≡◌, refl, ◌≢◌, ◌⊎◌, Bool, true, false, not, ◌&&◌, ◌||◌, List, [], ◌∷◌, ℕ, zero, suc, ◌+◌, ◌-◌, ◌≤◌, ◌<◌, T, eqb, ltb, get_or, replicate}
+use Rattle.std.specs.Prelude.{Ok, Err, ◌≡◌, refl, ◌≢◌, ◌⊎◌, Bool, true, false, not, ◌&&◌, ◌||◌, List, [], ◌∷◌, ℕ, zero, suc, ◌+◌, ◌-◌, ◌≤◌, ◌<◌, T, eqb, ltb, get_or, replicate}
 use Rattle.std.proofs.Common.{sym, ap, ◌∙◌, inl, inr, zero-le, le_of_suc-le-suc, not-suc-le-zero, lt_irrefl, zero-add, arith, eqb→eq, lit<, lit≤, ltb→lt}
 use Rattle.polynomial.specs.Clmul.{clmul}
 use Rattle.polynomial.specs.Division.{rem}
@@ -9,7 +9,8 @@ use Rattle.polynomial.specs.Sums.{All}
 use Rattle.polynomial.specs.Xor.{xor}
 use Rattle.field.specs.Field.{pow}
 use Rattle.field.specs.Irreducible.{both}
-use Rattle.code.specs.declared.Outcome.{Outcome}
+use Rattle.code.specs.Answers.{Judgement}
+use Rattle.code.specs.declared.Refusal.{Refusal}
 use Rattle.code.specs.declared.Parameters.{Parameters}
 use Rattle.code.specs.declared.Verdict.{Verdict}
 use Rattle.code.proofs.Accepted.{accepted, any_none}
@@ -24,7 +25,7 @@ use Rattle.code.specs.Code.{all_syndromes, odd_syndromes}
 use Rattle.code.specs.Layout.{data_bytes, page_bytes, blocks_clear, blocks_full, page_clear, page_of, blank, words_of, Fits, IsBlank, IsPage, Bytes}
 use Rattle.code.specs.Layout.{altered, block_bit, block_offset, coefficient_of, differences}
 use Rattle.code.specs.Calls.{AllMade, Altered, Judged, NestedSyndromesMade, ReadOut, SyndromesMade, Written, WrittenMany}
-use Rattle.code.specs.Calls.{judge_answer, nested_syndrome_list, pages_by, read_answer, read_leaves, statuses, syndrome_list, verdict_number}
+use Rattle.code.specs.Calls.{judge_answer, nested_syndrome_list, pages_by, read_answer, read_leaves, statuses, syndrome_list, judgement_number}
 use Rattle.code.specs.Refusals.{all_refusal, alter_refusal, many_refusal, word_refusal, write_refusal}
 use Rattle.cases.specs.Sheets.{A, B}
 
@@ -77,12 +78,12 @@ bytes-zeros : Bytes zeros
 bytes-zeros = (lit< tt, (lit< tt, (lit< tt, (lit< tt, tt))))
 
 -- judge calls the first a member
-pub light-member : judge_answer A light ≡ Verdict.Member
+pub light-member : judge_answer A light ≡ Ok Verdict.Member
 unfolding judge_answer pow
 light-member = refl
 
 -- and the other
-pub zeros-member : judge_answer A zeros ≡ Verdict.Member
+pub zeros-member : judge_answer A zeros ≡ Ok Verdict.Member
 unfolding judge_answer pow
 zeros-member = refl
 
@@ -96,7 +97,7 @@ unfolding differences distance
 light-distance = refl
 
 -- so a distance one larger is false
-pub not-farther : ((x y : List ℕ) → Bytes x → Bytes y → judge_answer A x ≡ Verdict.Member → judge_answer A y ≡ Verdict.Member → x ≢ y
+pub not-farther : ((x y : List ℕ) → Bytes x → Bytes y → judge_answer A x ≡ Ok Verdict.Member → judge_answer A y ≡ Ok Verdict.Member → x ≢ y
     → suc (distance A) ≤ differences A x y) → ⊥
 not-farther h =
     let far : suc (distance A) ≤ differences A light zeros =
@@ -130,7 +131,7 @@ burst-A j k l b d =
     let t = both (eqb j 0) (ltb k 8) (only-where A zeros (0x13 ∷ 0x00 ∷ 0x00 ∷ 0x00 ∷ []) (λ j k. eqb j 0 && ltb k 8) tt j k l b d) in
     (eqb→eq j 0 t.0, inl (zero-le, ltb→lt k 8 t.1))
 
-pub burst-nested : judge_answer A (0x13 ∷ 0x00 ∷ 0x00 ∷ 0x00 ∷ []) ≡ Verdict.NestedWord 0
+pub burst-nested : judge_answer A (0x13 ∷ 0x00 ∷ 0x00 ∷ 0x00 ∷ []) ≡ Ok (Verdict.NestedWord 0)
 unfolding judge_answer pow
 burst-nested = refl
 
@@ -146,16 +147,16 @@ burst-around j k l b d =
     place (inl u) = inr (refl, omega (arith, eqb→eq k 0 u))
     place (inr u) = inl (ltb→lt 13 k u, omega arith)
 
-pub burst-sub-word : judge_answer A (0x01 ∷ 0x40 ∷ 0x00 ∷ 0x00 ∷ []) ≡ Verdict.SubWord 0
+pub burst-sub-word : judge_answer A (0x01 ∷ 0x40 ∷ 0x00 ∷ 0x00 ∷ []) ≡ Ok (Verdict.SubWord 0)
 unfolding judge_answer pow
 burst-sub-word = refl
 
 -- the two members differ at places 0, 4, 6, 7 and 8: so w_v + 1 neighbouring places are too many
 pub not-longer :
-    ((x y : List ℕ) (i a : ℕ) → Bytes x → Bytes y → i < A.m → a < stored A → judge_answer A x ≡ Verdict.Member
+    ((x y : List ℕ) (i a : ℕ) → Bytes x → Bytes y → i < A.m → a < stored A → judge_answer A x ≡ Ok Verdict.Member
     → ((j k : ℕ) → j < A.m → k < stored A → coefficient_of A x j k ≢ coefficient_of A y j k
     → (j ≡ i) × (a ≤ k) × (k < a + (degree A A.v + 1)))
-    → x ≢ y → judge_answer A y ≢ Verdict.Member)
+    → x ≢ y → judge_answer A y ≢ Ok Verdict.Member)
     → ⊥
 unfolding any range degree
 not-longer h =
@@ -208,15 +209,15 @@ cleared-words : verdict A (words_of A cleared) ≡ Verdict.Member
 unfolding verdict words_of pow
 cleared-words = refl
 
-cleared-blank : judge_answer A cleared ≡ Verdict.Blank
+cleared-blank : judge_answer A cleared ≡ Ok Verdict.Blank
 unfolding judge_answer pow
 cleared-blank = refl
 
 -- so that words which pass make a member of every page is false
-pub not-by-words : ((x : List ℕ) → IsPage A x → verdict A (words_of A x) ≡ Verdict.Member → judge_answer A x ≡ Verdict.Member) → ⊥
+pub not-by-words : ((x : List ℕ) → IsPage A x → verdict A (words_of A x) ≡ Verdict.Member → judge_answer A x ≡ Ok Verdict.Member) → ⊥
 not-by-words h =
-    let e : Verdict.Blank ≡ Verdict.Member = sym cleared-blank ∙ h cleared is_page-cleared cleared-words in
-    let z : ◌≡◌ {A = ℕ} 96 0 = ap verdict_number e in omega arith
+    let e : ◌≡◌ {A = Judgement} (Ok Verdict.Blank) (Ok Verdict.Member) = sym cleared-blank ∙ h cleared is_page-cleared cleared-words in
+    let z : ◌≡◌ {A = ℕ} 96 0 = ap judgement_number e in omega arith
 
 -- and that blocks which fit are always written
 fits_ones : Fits A (0x7F ∷ 0xFF ∷ 0x07 ∷ [])
@@ -256,19 +257,19 @@ unfolding blocks_full
 not-at-every-s h = let z : ◌≡◌ {A = ℕ} 0 13 = sym short-written ∙ h short (0x01 ∷ 0x1F ∷ []) accepted-short fits-short tt in omega arith
 
 -- the two members again: they differ within places 2 to 8 and 0, so at s > 0 no burst may pass from place n - s - 1 to place 0
-short-member : judge_answer short light ≡ Verdict.Member
+short-member : judge_answer short light ≡ Ok Verdict.Member
 unfolding judge_answer pow
 short-member = refl
 
-short-zeros : judge_answer short zeros ≡ Verdict.Member
+short-zeros : judge_answer short zeros ≡ Ok Verdict.Member
 unfolding judge_answer pow
 short-zeros = refl
 
 pub not-around-short :
-    ((x y : List ℕ) (i a : ℕ) → Bytes x → Bytes y → i < short.m → a < stored short → judge_answer short x ≡ Verdict.Member
+    ((x y : List ℕ) (i a : ℕ) → Bytes x → Bytes y → i < short.m → a < stored short → judge_answer short x ≡ Ok Verdict.Member
     → ((j k : ℕ) → j < short.m → k < stored short → coefficient_of short x j k ≢ coefficient_of short y j k
     → (j ≡ i) × (((a ≤ k) × (k < a + degree short short.v)) ⊎ (k + stored short < a + degree short short.v)))
-    → x ≢ y → judge_answer short y ≢ Verdict.Member)
+    → x ≢ y → judge_answer short y ≢ Ok Verdict.Member)
     → ⊥
 unfolding any range degree
 not-around-short h =
@@ -285,22 +286,22 @@ not-around-short h =
 -- blocks that fit, stray ones, and ones: done, the first page is written and the others are left
 pub many-mixed :
     WrittenMany A 8 3 (0x01 ∷ 0x01 ∷ 0x00 ∷ 0x80 ∷ 0x01 ∷ 0x00 ∷ 0x7F ∷ 0xFF ∷ 0x07 ∷ []) (replicate 12 0xA5)
-    (0xC2 ∷ 0x01 ∷ 0x13 ∷ 0x00 ∷ replicate 8 0xA5) (replicate 3 0xFF) (0 ∷ 8 ∷ 13 ∷ []) Outcome.Done
+    (0xC2 ∷ 0x01 ∷ 0x13 ∷ 0x00 ∷ replicate 8 0xA5) (replicate 3 0xFF) (0 ∷ 8 ∷ 13 ∷ []) (Ok tt)
 unfolding many_refusal statuses pages_by pow
 many-mixed = (made-done _ _ _ _ refl refl, made-done _ _ _ _ refl refl)
 
 -- every page refused, and still done
 pub many-left :
     WrittenMany A 64 2 (0x7F ∷ 0xFF ∷ 0x07 ∷ 0x00 ∷ 0x00 ∷ 0x08 ∷ []) (replicate 8 0xA5) (replicate 8 0xA5) (replicate 2 0xFF)
-    (13 ∷ 8 ∷ []) Outcome.Done
+    (13 ∷ 8 ∷ []) (Ok tt)
 unfolding many_refusal statuses pages_by pow
 many-left = (made-done _ _ _ _ refl refl, made-done _ _ _ _ refl refl)
 
 -- a call refused whole: its list has a byte too few
 pub many-refused :
-    WrittenMany A 8 2 (replicate 6 0x00) (replicate 8 0xA5) (replicate 8 0xA5) (0xFF ∷ []) (0xFF ∷ []) (Outcome.Refused 10)
+    WrittenMany A 8 2 (replicate 6 0x00) (replicate 8 0xA5) (replicate 8 0xA5) (0xFF ∷ []) (0xFF ∷ []) (Err Refusal.List)
 unfolding many_refusal
-many-refused = (made-refused _ 10 _ _ refl (lit< tt) (lit≤ tt), made-refused _ 10 _ _ refl (lit< tt) (lit≤ tt))
+many-refused = (made-refused _ Refusal.List _ _ refl (lit≤ tt), made-refused _ Refusal.List _ _ refl (lit≤ tt))
 
 -- ---- one bit altered: bit 0 of block 0 of the page of blocks 01 01 00
 abbrev blocks-1 : List ℕ
@@ -316,28 +317,28 @@ abbrev page-0 : List ℕ
 page-0 = 0x13 ∷ 0x00 ∷ 0x13 ∷ 0x00 ∷ []
 
 -- made 0
-pub alter-other : Altered A page-1 0 0 0 page-0 Outcome.Done
+pub alter-other : Altered A page-1 0 0 0 page-0 (Ok tt)
 unfolding alter_refusal altered pow
 alter-other = made-done _ _ _ _ refl refl
 
 -- as it was
-pub alter-same : Altered A page-1 0 0 1 page-1 Outcome.Done
+pub alter-same : Altered A page-1 0 0 1 page-1 (Ok tt)
 unfolding alter_refusal altered pow
 alter-same = made-done _ _ _ _ refl refl
 
 -- a blank page, whose bit is 1 already
-pub alter-blank : Altered A cleared 0 0 1 cleared (Outcome.Refused 13)
+pub alter-blank : Altered A cleared 0 0 1 cleared (Err Refusal.Blank)
 unfolding alter_refusal pow
-alter-blank = made-refused _ 13 _ _ refl (lit< tt) (lit≤ tt)
+alter-blank = made-refused _ Refusal.Blank _ _ refl (lit≤ tt)
 
 -- what the law on members supposes: judged and read out, the blocks set, and written
-pub alter-judged : Judged A page-1 Verdict.Member
+pub alter-judged : Judged A page-1 (Ok Verdict.Member)
 unfolding judge_answer pow
-alter-judged = judged A page-1 Verdict.Member refl
+alter-judged = judged A page-1 (Ok Verdict.Member) refl
 
-pub alter-read : ReadOut A page-1 (replicate 3 0xA5) blocks-1 Verdict.Member
+pub alter-read : ReadOut A page-1 (replicate 3 0xA5) blocks-1 (Ok Verdict.Member)
 unfolding read_answer read_leaves pow
-alter-read = read A page-1 (replicate 3 0xA5) Verdict.Member blocks-1 refl refl
+alter-read = read A page-1 (replicate 3 0xA5) (Ok Verdict.Member) blocks-1 refl refl
 
 pub alter-names : NamesBit A 0 0 0
 unfolding degree
@@ -374,7 +375,7 @@ alter-set = record {
     go false true n u = absurd (n tt)
     go false false n u = absurd u
 
-pub alter-written : Written A 8 blocks-0 (replicate 4 0xA5) page-0 Outcome.Done
+pub alter-written : Written A 8 blocks-0 (replicate 4 0xA5) page-0 (Ok tt)
 unfolding write_refusal page_of pow
 alter-written = made-done _ _ _ _ refl refl
 
@@ -383,37 +384,37 @@ abbrev page-10 : List ℕ
 page-10 = 0x10 ∷ 0x00 ∷ 0x00 ∷ 0x00 ∷ []
 
 -- what the laws on odd syndromes suppose: lists of a sub-word and of a nested word, and all from them
-pub odd-sub-word : SyndromesMade A page-10 0 (7 ∷ []) (3 ∷ []) Outcome.Done
+pub odd-sub-word : SyndromesMade A page-10 0 (7 ∷ []) (3 ∷ []) (Ok tt)
 unfolding word_refusal syndrome_list
 odd-sub-word = made-done _ _ _ _ refl refl
 
-pub odd-nested-word : NestedSyndromesMade A page-10 0 (7 ∷ 7 ∷ []) (3 ∷ 15 ∷ []) Outcome.Done
+pub odd-nested-word : NestedSyndromesMade A page-10 0 (7 ∷ 7 ∷ []) (3 ∷ 15 ∷ []) (Ok tt)
 unfolding word_refusal nested_syndrome_list
 odd-nested-word = made-done _ _ _ _ refl refl
 
-pub all-sub-word : AllMade A 0 (3 ∷ []) (7 ∷ 7 ∷ []) (3 ∷ 5 ∷ []) Outcome.Done
+pub all-sub-word : AllMade A 0 (3 ∷ []) (7 ∷ 7 ∷ []) (3 ∷ 5 ∷ []) (Ok tt)
 unfolding all_refusal all_syndromes
 all-sub-word = made-done _ _ _ _ refl refl
 
-pub all-nested-word : AllMade A 1 (3 ∷ 15 ∷ []) (replicate 4 7) (3 ∷ 5 ∷ 15 ∷ 2 ∷ []) Outcome.Done
+pub all-nested-word : AllMade A 1 (3 ∷ 15 ∷ []) (replicate 4 7) (3 ∷ 5 ∷ 15 ∷ 2 ∷ []) (Ok tt)
 unfolding all_refusal all_syndromes
 all-nested-word = made-done _ _ _ _ refl refl
 
 -- the sub-word's list at the nested word's level
-pub all-refused : AllMade A 1 (3 ∷ []) (7 ∷ 7 ∷ []) (7 ∷ 7 ∷ []) (Outcome.Refused 10)
+pub all-refused : AllMade A 1 (3 ∷ []) (7 ∷ 7 ∷ []) (7 ∷ 7 ∷ []) (Err Refusal.List)
 unfolding all_refusal
-all-refused = made-refused _ 10 _ _ refl (lit< tt) (lit≤ tt)
+all-refused = made-refused _ Refusal.List _ _ refl (lit≤ tt)
 
 -- that even ones are odd ones again, and no squares, is false
-pub not-doubled : ((odd old after : List ℕ) → AllMade A 0 odd old after Outcome.Done → get_or after 1 0 ≡ get_or odd 0 0) → ⊥
+pub not-doubled : ((odd old after : List ℕ) → AllMade A 0 odd old after (Ok tt) → get_or after 1 0 ≡ get_or odd 0 0) → ⊥
 not-doubled h = let e : ◌≡◌ {A = ℕ} 5 3 = h (3 ∷ []) (7 ∷ 7 ∷ []) (3 ∷ 5 ∷ []) all-sub-word in omega arith
 
 -- that all are elements: an odd one that is none stays as it is
-all-no-element : AllMade A 0 (16 ∷ []) (7 ∷ 7 ∷ []) (16 ∷ 5 ∷ []) Outcome.Done
+all-no-element : AllMade A 0 (16 ∷ []) (7 ∷ 7 ∷ []) (16 ∷ 5 ∷ []) (Ok tt)
 unfolding all_refusal all_syndromes
 all-no-element = made-done _ _ _ _ refl refl
 
-pub not-elements : ((odd old after : List ℕ) → AllMade A 0 odd old after Outcome.Done → All (λ x. x < 16) after) → ⊥
+pub not-elements : ((odd old after : List ℕ) → AllMade A 0 odd old after (Ok tt) → All (λ x. x < 16) after) → ⊥
 not-elements h = lt_irrefl 16 (h (16 ∷ []) (7 ∷ 7 ∷ []) (16 ∷ 5 ∷ []) all-no-element).0
 
 -- and that a word's remainder by g_0 has its syndromes past 2t_0: S_3 is another

@@ -10,7 +10,7 @@ use Rattle.code.specs.Parameters.{sheet, sheet_refusal}
 use Rattle.code.specs.Code.{all_syndromes, odd_syndromes, syndromes}
 use Rattle.code.specs.Refusals.{write_refusal}
 use Rattle.code.specs.Layout.{page_of}
-use Rattle.code.specs.Calls.{verdict_number, judge_answer, quote}
+use Rattle.code.specs.Calls.{judgement_number, judge_answer, quote}
 use Rattle.code.specs.Writer.{writer}
 use Rattle.cases.specs.Sheets.{Row, A, B, page}
 
@@ -24,9 +24,9 @@ table =
     ∷ (page A 4 (0x00 ∷ 0x01 ∷ 0x00 ∷ []), 0x13 ∷ 0x00 ∷ 0x13 ∷ 0x00 ∷ [])
     ∷ (page A 4 (0x01 ∷ 0x01 ∷ 0x00 ∷ []), 0xC2 ∷ 0x01 ∷ 0x13 ∷ 0x00 ∷ [])
     ∷ (page B 6 (0x00 ∷ 0x00 ∷ 0x01 ∷ 0x00 ∷ []), 0x26 ∷ 0x00 ∷ 0x35 ∷ 0x00 ∷ 0x13 ∷ 0x00 ∷ [])
-    ∷ (verdict_number (judge_answer A (0xFF ∷ 0x7F ∷ 0xFF ∷ 0x7F ∷ [])) ∷ [], 96 ∷ [])
-    ∷ (verdict_number (judge_answer A (0x01 ∷ 0x00 ∷ 0x00 ∷ 0x00 ∷ [])) ∷ [], 32 ∷ [])
-    ∷ (verdict_number (judge_answer A (0x13 ∷ 0x00 ∷ 0x00 ∷ 0x00 ∷ [])) ∷ [], 64 ∷ [])
+    ∷ (judgement_number (judge_answer A (0xFF ∷ 0x7F ∷ 0xFF ∷ 0x7F ∷ [])) ∷ [], 96 ∷ [])
+    ∷ (judgement_number (judge_answer A (0x01 ∷ 0x00 ∷ 0x00 ∷ 0x00 ∷ [])) ∷ [], 32 ∷ [])
+    ∷ (judgement_number (judge_answer A (0x13 ∷ 0x00 ∷ 0x00 ∷ 0x00 ∷ [])) ∷ [], 64 ∷ [])
     ∷ (syndromes A 4 (value 8 (0x02 ∷ 0x00 ∷ [])), 2 ∷ 4 ∷ 8 ∷ 3 ∷ [])
     ∷ (odd_syndromes A 2 (value 8 (0x02 ∷ 0x00 ∷ [])), 2 ∷ 8 ∷ [])
     ∷ (all_syndromes A (2 ∷ 8 ∷ []), 2 ∷ 4 ∷ 8 ∷ 3 ∷ [])

@@ -1,5 +1,5 @@
 -- What the theorems on mending suppose holds of something, and three statements that go further than they do are false. All by computation.
-use Rattle.std.specs.Prelude.{◌≡◌, refl, ◌≢◌, List, [], ◌∷◌, ℕ, zero, suc, ◌+◌, ◌-◌, ◌*◌, ◌≤◌, ◌<◌, length, get_or, replicate}
+use Rattle.std.specs.Prelude.{Ok, Err, ◌≡◌, refl, ◌≢◌, List, [], ◌∷◌, ℕ, zero, suc, ◌+◌, ◌-◌, ◌*◌, ◌≤◌, ◌<◌, length, get_or, replicate}
 use Rattle.std.proofs.Common.{ap, ◌∙◌, inl, inr, zero-le, le_of_suc-le-suc, not-suc-le-zero, arith, lit<, lit≤}
 use Rattle.polynomial.specs.Clmul.{clmul}
 use Rattle.polynomial.specs.Division.{rem}
@@ -7,7 +7,10 @@ use Rattle.polynomial.specs.Xor.{xor}
 use Rattle.field.specs.Bch.{weight}
 use Rattle.field.specs.Field.{pow}
 use Rattle.field.specs.Flips.{flips}
-use Rattle.code.specs.declared.Outcome.{Outcome}
+use Rattle.code.specs.Answers.{Judgement}
+use Rattle.code.specs.declared.Refusal.{Refusal}
+use Rattle.code.specs.Answers.{answer_number}
+use Rattle.code.specs.Answers.{Outcome}
 use Rattle.code.specs.declared.Parameters.{Parameters}
 use Rattle.code.specs.declared.Verdict.{Verdict}
 use Rattle.code.proofs.Answers.{judged, made-done, made-refused}
@@ -17,7 +20,7 @@ use Rattle.code.specs.Parameters.{Accepted, sheet_refusal, sheet, strength}
 use Rattle.code.specs.Code.{gen, Flips, Near, distance}
 use Rattle.code.specs.Layout.{page_clear, words_of, IsPage, differences, flipped, flips_in, mended_page, mending, place_list}
 use Rattle.code.specs.Nest.{Mem, Work, after, after-suc, round}
-use Rattle.code.specs.Calls.{Judged, Mended, PageMended, judge_answer, outcome_number, sub_word_of, verdict_number}
+use Rattle.code.specs.Calls.{Judged, Mended, PageMended, judge_answer, sub_word_of, judgement_number}
 use Rattle.code.specs.Refusals.{mend_page_refusal, mend_refusal}
 
 -- ---- the requirement's sheet B with 12 stored places, and the page of bit 0 of block 2
@@ -31,30 +34,30 @@ accepted-B3 = refl
 abbrev whole : List ℕ
 whole = 0x26 ∷ 0x00 ∷ 0x35 ∷ 0x00 ∷ 0x13 ∷ 0x00 ∷ []
 
-pub whole-member : Judged B3 whole Verdict.Member
+pub whole-member : Judged B3 whole (Ok Verdict.Member)
 unfolding judge_answer pow
-whole-member = judged B3 whole Verdict.Member refl
+whole-member = judged B3 whole (Ok Verdict.Member) refl
 
 -- ---- one sub-word mended: place 3 of sub-word 0 flipped
 abbrev one-flip : List ℕ
 one-flip = 0x2E ∷ 0x00 ∷ 0x35 ∷ 0x00 ∷ 0x13 ∷ 0x00 ∷ []
 
-pub mend-done : Mended B3 one-flip whole 0 (7 ∷ []) (3 ∷ []) 9 1 Outcome.Done
+pub mend-done : Mended B3 one-flip whole 0 (7 ∷ []) (3 ∷ []) 9 1 (Ok tt)
 unfolding mend_refusal mending flipped place_list pow
 mend-done = (made-done _ _ _ _ refl refl, made-done _ _ _ _ refl refl, made-done _ _ _ _ refl refl)
 
 -- free of faults
-pub mend-clean : Mended B3 whole whole 0 (7 ∷ []) (65535 ∷ []) 9 0 Outcome.Done
+pub mend-clean : Mended B3 whole whole 0 (7 ∷ []) (65535 ∷ []) 9 0 (Ok tt)
 unfolding mend_refusal mending flipped place_list pow
 mend-clean = (made-done _ _ _ _ refl refl, made-done _ _ _ _ refl refl, made-done _ _ _ _ refl refl)
 
 -- places 0 and 3 of the zero page flipped: no multiple is near that is 0 in its top places
-pub mend-nowhere : Mended B3 (0x09 ∷ replicate 5 0x00) (0x09 ∷ replicate 5 0x00) 0 (7 ∷ []) (7 ∷ []) 9 9 (Outcome.Refused 15)
+pub mend-nowhere : Mended B3 (0x09 ∷ replicate 5 0x00) (0x09 ∷ replicate 5 0x00) 0 (7 ∷ []) (7 ∷ []) 9 9 (Err Refusal.Unmended)
 unfolding mend_refusal pow
 mend-nowhere = (
-  made-refused _ 15 _ _ refl (lit< tt) (lit≤ tt),
-  made-refused _ 15 _ _ refl (lit< tt) (lit≤ tt),
-  made-refused _ 15 _ _ refl (lit< tt) (lit≤ tt),
+  made-refused _ Refusal.Unmended _ _ refl (lit≤ tt),
+  made-refused _ Refusal.Unmended _ _ refl (lit≤ tt),
+  made-refused _ Refusal.Unmended _ _ refl (lit≤ tt),
 )
 
 -- what the law on members supposes, beside the judged page above: flips in one sub-word, and what mend is to be lent
@@ -95,20 +98,20 @@ two-flips = 0x03 ∷ replicate 5 0x00
 abbrev other : List ℕ
 other = 0x13 ∷ replicate 5 0x00
 
-none-member : Judged B3 none Verdict.Member
+none-member : Judged B3 none (Ok Verdict.Member)
 unfolding judge_answer pow
-none-member = judged B3 none Verdict.Member refl
+none-member = judged B3 none (Ok Verdict.Member) refl
 
 -- another multiple is near
-pub mend-other : Mended B3 two-flips other 0 (7 ∷ []) (4 ∷ []) 9 1 Outcome.Done
+pub mend-other : Mended B3 two-flips other 0 (7 ∷ []) (4 ∷ []) 9 1 (Ok tt)
 unfolding mend_refusal mending flipped place_list pow
 mend-other = (made-done _ _ _ _ refl refl, made-done _ _ _ _ refl refl, made-done _ _ _ _ refl refl)
 
 -- so that a member with t_0 + 1 bits of a sub-word flipped comes back is false
 pub not_back :
-    ((z x after : List ℕ) (i : ℕ) (l listed : List ℕ) (n counted : ℕ) → Judged B3 z Verdict.Member
+    ((z x after : List ℕ) (i : ℕ) (l listed : List ℕ) (n counted : ℕ) → Judged B3 z (Ok Verdict.Member)
     → ((j : ℕ) → j < B3.m → j ≢ i → part 2 j x ≡ part 2 j z) → differences B3 x z ≤ strength B3 0 + 1
-    → Mended B3 x after i l listed n counted Outcome.Done → after ≡ z)
+    → Mended B3 x after i l listed n counted (Ok tt) → after ≡ z)
     → ⊥
 unfolding differences
 not_back h =
@@ -122,17 +125,17 @@ not_back h =
     go (suc (suc (suc j))) h n = absurd (not-suc-le-zero (le_of_suc-le-suc (le_of_suc-le-suc (le_of_suc-le-suc h))))
 
 -- and that a page with its one faulty sub-word mended is a member: nested word 0 fails
-other-nested : Verdict.NestedWord 0 ≡ judge_answer B3 other
+other-nested : Ok (Verdict.NestedWord 0) ≡ judge_answer B3 other
 unfolding judge_answer pow
 other-nested = refl
 
 pub not-member-mended :
-    ((x after : List ℕ) (i : ℕ) (l listed : List ℕ) (n counted : ℕ) → Mended B3 x after i l listed n counted Outcome.Done
-    → judge_answer B3 after ≡ Verdict.Member)
+    ((x after : List ℕ) (i : ℕ) (l listed : List ℕ) (n counted : ℕ) → Mended B3 x after i l listed n counted (Ok tt)
+    → judge_answer B3 after ≡ Ok Verdict.Member)
     → ⊥
 not-member-mended h =
-    let e : Verdict.NestedWord 0 ≡ Verdict.Member = other-nested ∙ h two-flips other 0 (7 ∷ []) (4 ∷ []) 9 1 mend-other in
-    let z : ◌≡◌ {A = ℕ} 64 0 = ap verdict_number e in omega arith
+    let e : ◌≡◌ {A = Judgement} (Ok (Verdict.NestedWord 0)) (Ok Verdict.Member) = other-nested ∙ h two-flips other 0 (7 ∷ []) (4 ∷ []) 9 1 mend-other in
+    let z : ◌≡◌ {A = ℕ} 64 0 = ap judgement_number e in omega arith
 
 -- ---- the page mended through its nested words
 -- with one flip in sub-word 0, three in sub-word 1 and two in sub-word 2
@@ -189,7 +192,7 @@ hurt-recoverable = record { few = lit≤ tt; right = right; light = light }
     light (suc zero) = rw work-1 (λ o. (1, inl refl, lit≤ tt))
     light (suc (suc k)) = rw (work-2 k) (λ o. absurd (not-suc-le-zero o))
 
-pub page-done : PageMended B3 hurt whole Outcome.Done
+pub page-done : PageMended B3 hurt whole (Ok tt)
 unfolding mend_page_refusal mended_page pow
 page-done = made-done _ _ _ _ refl refl
 
@@ -197,21 +200,21 @@ page-done = made-done _ _ _ _ refl refl
 abbrev erased : List ℕ
 erased = 0xFF ∷ 0x7F ∷ 0xFF ∷ 0x7F ∷ []
 
-pub page-blank : PageMended (sheet 4 2 1 1 2 0 0 0) erased erased (Outcome.Refused 17)
+pub page-blank : PageMended (sheet 4 2 1 1 2 0 0 0) erased erased (Err Refusal.UnmendedPage)
 unfolding mend_page_refusal pow
-page-blank = made-refused _ 17 _ _ refl (lit< tt) (lit≤ tt)
+page-blank = made-refused _ Refusal.UnmendedPage _ _ refl (lit≤ tt)
 
 -- two places of the zero page flipped: the first pass takes sub-word 0 for another multiple
-pub page-wrong : PageMended B3 two-flips two-flips (Outcome.Refused 17)
+pub page-wrong : PageMended B3 two-flips two-flips (Err Refusal.UnmendedPage)
 unfolding mend_page_refusal pow
-page-wrong = made-refused _ 17 _ _ refl (lit< tt) (lit≤ tt)
+page-wrong = made-refused _ Refusal.UnmendedPage _ _ refl (lit≤ tt)
 
 -- so that a member comes back where fewer than half as many places as the distance are flipped is false
 pub not-half :
-    ((z x after : List ℕ) (o : Outcome) → Judged B3 z Verdict.Member → 2 * differences B3 x z < distance B3 → PageMended B3 x after o
-    → o ≡ Outcome.Done)
+    ((z x after : List ℕ) (o : Outcome) → Judged B3 z (Ok Verdict.Member) → 2 * differences B3 x z < distance B3 → PageMended B3 x after o
+    → o ≡ Ok tt)
     → ⊥
 unfolding differences distance
 not-half h =
-    let e = h none two-flips two-flips (Outcome.Refused 17) none-member (lit< tt) page-wrong in
-    let z : ◌≡◌ {A = ℕ} 17 0 = ap outcome_number e in omega arith
+    let e = h none two-flips two-flips (Err Refusal.UnmendedPage) none-member (lit< tt) page-wrong in
+    let z : ◌≡◌ {A = ℕ} 17 0 = ap answer_number e in omega arith

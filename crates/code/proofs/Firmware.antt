@@ -29,7 +29,7 @@ use Rattle.code.proofs.Quote.{quote-length, quote-none, quote-small}
 use Rattle.code.specs.Refusals.{alter_refusal, many_refusal, mend_page_refusal, mend_refusal, quote_refusal, write_refusal, all_refusal}
 use Rattle.code.specs.Refused.{BlocksBuffer, PageBuffer, Width}
 use Rattle.code.proofs.Refused.{judge-le, judged-page, open_none}
-use Rattle.code.proofs.Theorems.{alters, bursts, demand2, demand3, many, page-mends, quote-numbers, whole-13, many-status}
+use Rattle.code.proofs.Theorems.{alters, bursts, demand2, demand3, many, page-mends, quote-numbers, whole-13}
 use Rattle.code.proofs.Theorems.{member-multiple, mend-15-iff, mend-clean, mend-stays, mend-zero-iff, mends-of, number_of, undamaged}
 use Rattle.code.proofs.Odd.{all_none, all-odd, all-bytes, length-odd, odd-back}
 
@@ -235,7 +235,7 @@ module _ (p : Parameters) (A : Accepted p) where
     each = λ L count blocks pages after list listed W k h.
         (let D = many-done L count blocks pages after list listed W in
         let X = (many p A).each L count blocks pages after list listed D k h in
-        record { answers = many-status p A L count blocks pages after list listed D k h; small = X.small; buffer = X.buffer });
+        record { answers = (many p A).status L count blocks pages after list listed D k h; small = X.small; buffer = X.buffer });
     whole = λ L count blocks pages after list listed W.
         (many p A).whole L count blocks pages after list listed (many-done L count blocks pages after list listed W);
     says = λ L count blocks pages after list listed W.

@@ -642,7 +642,7 @@ module _ (p : Parameters) (A : Accepted p) where
       let s = many-lent p L count (length blocks) (length pages) (length list) (many-zero L count blocks pages after list listed W) in
       rw (m.0, m.1) (each-written p L count blocks pages s.pages-exact k h)
 
-  pub many-status : (L count : ℕ) (blocks pages after list listed : List ℕ) → WrittenMany p L count blocks pages after list listed (Ok tt)
+  many-status : (L count : ℕ) (blocks pages after list listed : List ℕ) → WrittenMany p L count blocks pages after list listed (Ok tt)
       → (k : ℕ) → k < count
       → get_or listed k 0 ≡ write_refusal p L (part (data_bytes p) k blocks) (length (part (page_bytes p) k pages))
   many-status L count blocks pages after list listed W k h =
@@ -662,6 +662,7 @@ module _ (p : Parameters) (A : Accepted p) where
           W.1.buffer ∙ leaves-refused (refused_by L count blocks pages list) _ list h,
         ));
     each = many-each;
+    status = many-status;
     whole = λ L count blocks pages after list listed W.
         (let m = many-made L count blocks pages after list listed W in
         let s = many-lent p L count (length blocks) (length pages) (length list) (many-zero L count blocks pages after list listed W) in

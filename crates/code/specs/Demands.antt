@@ -59,6 +59,7 @@ use Rattle.code.specs.Code.{Flips, IsMember, N, Near, carried, data_words, degre
 use Rattle.code.specs.Code.{all_syndromes, nested, newton, odd_syndromes, remainder, short_remainder, syndromes, verdict}
 use Rattle.code.specs.Layout.{Bytes, Fits, IsBlank, IsPage, altered, block_bit, block_sizes, blocks_clear, blocks_of, coefficient_of, data_bytes}
 use Rattle.code.specs.Layout.{data_of, differences, flips_in, page_bytes, page_clear, page_of, stored_of, word_sizes, words_of}
+use Rattle.code.specs.Refusals.{write_refusal}
 use Rattle.code.specs.Lists.{add_below, any, count_below, each, fits_in, join, ones_in, part, range, runs, split, sum}
 use Rattle.code.specs.Many.{Lent}
 use Rattle.code.specs.Nest.{ErrorBy, Mem, Work, add_over, after, error_sums, mend_page, rounds, start}
@@ -391,6 +392,10 @@ pub record ManyLaws (p : Parameters) : Type 0 where
   pub each : (L count : ℕ) (blocks pages after list listed : List ℕ) → WrittenMany p L count blocks pages after list listed (Ok tt)
       → (k : ℕ) → k < count
       → Written p L (part (data_bytes p) k blocks) (part (page_bytes p) k pages) (part (page_bytes p) k after) (outcome (get_or listed k 0))
+  -- its number too: two numbers above last_refusal have one outcome
+  pub status : (L count : ℕ) (blocks pages after list listed : List ℕ) → WrittenMany p L count blocks pages after list listed (Ok tt)
+      → (k : ℕ) → k < count
+      → get_or listed k 0 ≡ write_refusal p L (part (data_bytes p) k blocks) (length (part (page_bytes p) k pages))
   pub whole : (L count : ℕ) (blocks pages after list listed : List ℕ) → WrittenMany p L count blocks pages after list listed (Ok tt)
       → (after ≡ runs (λ k. part (page_bytes p) k after) 0 count) × (length after ≡ length pages) × (length listed ≡ count)
   -- a listed byte is 0, 8 or 13

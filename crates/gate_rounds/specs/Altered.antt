@@ -1,10 +1,10 @@
 -- One bit altered: of blocks, and of their page.
 --   Twins p a b i r x y    b is a with bit r of block i made x, and a is b with it made y; write takes both
-use Rattle.std.specs.Prelude.{◌≡◌, refl, List, ℕ, get_or, replicate}
+use Rattle.std.specs.Prelude.{Result, Ok, Err, ◌≡◌, refl, List, ℕ, get_or, replicate}
 use Rattle.std.proofs.Common.{sym}
 use Rattle.std.proofs.lemmas.List.{length-replicate}
 use Rattle.polynomial.specs.Bits.{coefficient}
-use Rattle.code.specs.declared.Outcome.{Outcome}
+use Rattle.code.specs.Answers.{Outcome}
 use Rattle.code.specs.declared.Parameters.{Parameters}
 use Rattle.code.specs.declared.Verdict.{Verdict}
 use Rattle.code.proofs.Accepted.{accepted}
@@ -53,10 +53,10 @@ twins p A a b i r x y h j z w m n e f = record {
 -- ---- the page of a, with the bit altered, is the page of b
 module _ (p : Parameters) (A : Accepted p) (L M : ℕ) (wl : Width L) (wm : Width M) (a b old-a old-b page-a page-b after : List ℕ)
     (i r x : ℕ) (o : Outcome) (apt-a : Apt p a) (n : NamesBit p i r x) (S : SetTo p b i r x (block_bit p a)) (ea : PageBuffer p old-a)
-    (eb : PageBuffer p old-b) (W : Written p L a old-a page-a Outcome.Done) (X : Written p M b old-b page-b Outcome.Done)
+    (eb : PageBuffer p old-b) (W : Written p L a old-a page-a (Ok tt)) (X : Written p M b old-b page-b (Ok tt))
     (E : Altered p page-a i r x after o) where
-  laws : WriteLaws p a page-a Outcome.Done
-  laws = (demands p A).0.write-laws L a old-a page-a Outcome.Done wl apt-a.fits ea apt-a.other W
+  laws : WriteLaws p a page-a (Ok tt)
+  laws = (demands p A).0.write-laws L a old-a page-a (Ok tt) wl apt-a.fits ea apt-a.other W
 
   -- blocks that are lent to read out
   abbrev lent : List ℕ
@@ -65,12 +65,12 @@ module _ (p : Parameters) (A : Accepted p) (L M : ℕ) (wl : Width L) (wm : Widt
   exact : BlocksBuffer p lent
   exact = length-replicate {A = ℕ} (data_bytes p) 0
 
-  member : AlteredMember p after page-b o Outcome.Done
+  member : AlteredMember p after page-b o (Ok tt)
   member =
-      (demands p A).4.member M page-a after lent a b old-b page-b i r x (read_answer p page-a lent) o Outcome.Done wm laws.page.bytes
-      (judged p page-a Verdict.Member (sym (laws.judged (judge_answer p page-a) (judged p page-a (judge_answer p page-a) refl)))) n exact eb E
+      (demands p A).4.member M page-a after lent a b old-b page-b i r x (read_answer p page-a lent) o (Ok tt) wm laws.page.bytes
+      (judged p page-a (Ok Verdict.Member) (sym (laws.judged (judge_answer p page-a) (judged p page-a (judge_answer p page-a) refl)))) n exact eb E
       (read p page-a lent (read_answer p page-a lent) a refl
       (sym (laws.read lent _ _ exact (read p page-a lent (read_answer p page-a lent) _ refl refl)).1)) S X
 
-  pub alter-is : (o ≡ Outcome.Done) × (after ≡ page-b)
+  pub alter-is : (o ≡ Ok tt) × (after ≡ page-b)
   alter-is = (member.answers, member.pages member.answers)

@@ -1,5 +1,5 @@
 -- A member of which one byte is changed is no member.
-use Rattle.std.specs.Prelude.{◌≡◌, true, not, ◌≢◌, ◌⊎◌, List, ℕ, ◌+◌, ◌*◌, ◌/◌, ◌%◌, ◌≤◌, ◌<◌, length, get_or, set}
+use Rattle.std.specs.Prelude.{Result, Ok, Err, ◌≡◌, true, not, ◌≢◌, ◌⊎◌, List, ℕ, ◌+◌, ◌*◌, ◌/◌, ◌%◌, ◌≤◌, ◌<◌, length, get_or, set}
 use Rattle.std.proofs.Common.{sym, ap, ◌∙◌, inl, inr, arith, length-set, get_or-set_same, get_or-set_other}
 use Rattle.std.proofs.Math.Nat as Nat
 use Rattle.std.proofs.Math.Decide.{ℕ_discrete}
@@ -7,6 +7,7 @@ use Rattle.std.specs.Int.Bits.{bit_xor}
 use Rattle.polynomial.specs.Division.{xor_lt}
 use Rattle.polynomial.specs.Sums.{all-at, at_all}
 use Rattle.polynomial.specs.Xor.{xor, xor-cancel, xor_is, xor_self}
+use Rattle.code.specs.Answers.{Judgement}
 use Rattle.code.specs.declared.Parameters.{Parameters}
 use Rattle.code.specs.declared.Verdict.{Verdict}
 use Rattle.code.proofs.Accepted.{accepted}
@@ -58,11 +59,11 @@ module _ (p : Parameters) (A : Accepted p) (x : List ℕ) (k e : ℕ) (h : IsPag
   place : k / b * b + k % b ≡ k
   place = Nat.div-add-mod' k b
 
-  pub byte-changed : judge_answer p x ≡ Verdict.Member → (r : Verdict) → Judged p (set x k c) r → not (is_member r) ≡ true
+  pub byte-changed : judge_answer p x ≡ Ok Verdict.Member → (r : Judgement) → Judged p (set x k c) r → not (is_member r) ≡ true
   byte-changed m r J =
       not-member r ((demands p A).2.bytes x (set x k c) (k / b) (k % b) 1 r h.bytes set-bytes
       ((Nat.div-lt_iff_lt-mul b-pos).1 (rw h.exact at l)) (Nat.le_refl 1) (omega (arith, Nat.mod-lt k b-pos)) (demands p A).2.one_byte
-      (λ j s. sym (get_or-set_other x k j c 0 (apart j s))) (judged p x Verdict.Member (sym m)) other J)
+      (λ j s. sym (get_or-set_other x k j c 0 (apart j s))) (judged p x (Ok Verdict.Member) (sym m)) other J)
     where
       apart : (j : ℕ) → (j < k / b * b + k % b) ⊎ (k / b * b + k % b + 1 ≤ j) → j ≢ k
       apart j (inl s) t = Nat.lt_irrefl k (omega (arith, place))

@@ -2,17 +2,17 @@
 --   filled m                      m bytes A5; room n has n, rooms n those of three pages of n
 --   Listable n                    n is 0, 8 or 13
 --   Each p L blocks pages list    page k and byte k of the list are what a single call gives over a room
-use Rattle.std.specs.Prelude.{◌≡◌, false, ◌⊎◌, List, ℕ, zero, suc, ◌+◌, ◌-◌, ◌*◌, ◌≤◌, ◌<◌, length, get_or, replicate, take, drop}
-use Rattle.std.proofs.Common.{sym, ap, ap₂, ◌∙◌, arith, lit≤, length-take, ext_get_or, get_or-drop, get_or-take}
+use Rattle.std.specs.Prelude.{Result, Ok, Err, ◌≡◌, false, ◌⊎◌, List, ℕ, zero, suc, ◌+◌, ◌-◌, ◌*◌, ◌≤◌, ◌<◌, length, get_or, replicate, take, drop}
+use Rattle.std.proofs.Common.{sym, ap, ap₂, ◌∙◌, inl, inr, zero-le, arith, lit≤, length-take, ext_get_or, get_or-drop, get_or-take}
 use Rattle.std.proofs.Math.Nat as Nat
 use Rattle.std.proofs.lemmas.List.{get_or-replicate, length-replicate}
-use Rattle.code.specs.declared.Outcome.{Outcome}
+use Rattle.code.specs.Answers.{Outcome, answer_number}
 use Rattle.code.specs.declared.Parameters.{Parameters}
 use Rattle.code.proofs.Answers.{outcome-number}
-use Rattle.code.specs.Calls.{Written, WrittenMany, leaves, outcome, outcome_number, statuses}
+use Rattle.code.specs.Calls.{Written, WrittenMany, leaves, outcome, statuses}
 use Rattle.code.specs.Demands.{ManyLaws}
 use Rattle.code.specs.Layout.{data_bytes, page_bytes, page_of}
-use Rattle.code.specs.Lists.{part}
+use Rattle.code.specs.Lists.{last_refusal, part}
 use Rattle.code.proofs.Many.{part_length, part_room}
 use Rattle.code.specs.Parameters.{Accepted}
 use Rattle.code.specs.Refusals.{write_refusal}
@@ -100,8 +100,13 @@ kept (suc x) result old page r e b f = b
 
 module _ (p : Parameters) (L : ℕ) (blocks old page after : List ℕ) (said : ℕ) (r : Outcome)
     (W : Written p L blocks old page (outcome said)) (X : Written p L blocks old after r) where
-  pub same_number : outcome_number r ≡ said
-  same_number = X.number ∙ sym W.number ∙ outcome-number said
+  pub same_number : Listable said → answer_number r ≡ said
+  same_number l = X.number ∙ sym W.number ∙ outcome-number said (small l)
+    where
+      small : Listable said → said ≤ last_refusal
+      small (inl e) = rw e zero-le
+      small (inr (inl e)) = rw e (lit≤ tt)
+      small (inr (inr e)) = rw e (lit≤ tt)
 
   pub same-page : after ≡ page
   same-page = X.buffer ∙ sym W.buffer
@@ -119,12 +124,12 @@ module _ (p : Parameters) (A : Accepted p) (L : ℕ) (w : Width L) (blocks pages
   exact : length pages ≡ 3 * page_bytes p
   exact = ap length o ∙ room-length (3 * page_bytes p) 3072 (omega arith)
 
-  pub many-done : r ≡ Outcome.Done
+  pub many-done : r ≡ Ok tt
   many-done =
       (laws.done L 3 blocks pages after list listed r W).1
       (record { width = w; low = lit≤ tt; high = lit≤ tt; blocks-exact = b; pages-exact = exact; list-exact = e })
 
-  made : WrittenMany p L 3 blocks pages after list listed Outcome.Done
+  made : WrittenMany p L 3 blocks pages after list listed (Ok tt)
   made = rw many-done at W
 
   pub many-each : Each p L blocks after listed

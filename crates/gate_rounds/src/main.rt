@@ -5,14 +5,14 @@
 // from what the calls promise and the theorems on the promises, and nothing of how a page is made.
 #![tactic(auto)]
 
-ghost use Rattle.std.specs.Prelude.{◌≡◌, [], ◌∷◌, true, ◌*◌, ◌≤◌, ◌<◌, length, get_or};
+ghost use Rattle.std.specs.Prelude.{Ok, ◌≡◌, [], ◌∷◌, true, ◌*◌, ◌≤◌, ◌<◌, length, get_or};
 ghost use Rattle.polynomial.specs.Sums.{add};
-ghost use Rattle.code.specs.Calls.{Written, judge_answer, outcome, outcome_number, statuses};
+ghost use Rattle.code.specs.Answers.{answer_number};
+ghost use Rattle.code.specs.Calls.{Written, judge_answer, outcome, statuses};
 ghost use Rattle.code.specs.Demands.{QuotedPage};
 ghost use Rattle.code.specs.Layout.{IsBlank, IsPage, data_bytes, page_bytes};
 ghost use Rattle.code.specs.Parameters.{Accepted, stored, strength};
 ghost use Rattle.code.specs.Refused.{BlocksBuffer, PageBuffer, Width};
-ghost use Rattle.code.specs.declared.Outcome.{Outcome};
 ghost use Rattle.code.specs.declared.Verdict.{Verdict};
 ghost use Rattle.gate_rounds.specs.Altered.{Twins};
 ghost use Rattle.gate_rounds.specs.Answers.{is_blank, is_done, is_member};
@@ -20,35 +20,32 @@ ghost use Rattle.gate_rounds.specs.Apt.{Apt};
 ghost use Rattle.gate_rounds.specs.Mended.{struck};
 ghost use Rattle.gate_rounds.specs.Singles.{Each, Listable, rooms};
 
-use code::{Outcome, Parameters, Verdict};
+use code::{Judgement, Outcome, Parameters, Verdict};
 
 // ---- answers
 
 fn number(r: Outcome) -> u8
-    ensures { result ≡ outcome_number r }
+    ensures { result ≡ answer_number r }
 {
-    match r {
-        Outcome::Done => 0,
-        Outcome::Refused(k) => k,
-    }
+    code::number_of(&r)
 }
 
 fn done(r: Outcome) -> bool
     ensures { result ≡ is_done r }
 {
-    matches!(r, Outcome::Done)
+    r.is_ok()
 }
 
-fn member(r: Verdict) -> bool
+fn member(r: Judgement) -> bool
     ensures { result ≡ is_member r }
 {
-    matches!(r, Verdict::Member)
+    matches!(r, Ok(Verdict::Member))
 }
 
-fn blank(r: Verdict) -> bool
+fn blank(r: Judgement) -> bool
     ensures { result ≡ is_blank r }
 {
-    matches!(r, Verdict::Blank)
+    matches!(r, Ok(Verdict::Blank))
 }
 
 // The sum of two lists of bytes, byte by byte.
@@ -79,7 +76,7 @@ fn two_widths(p: Parameters, l: u32, m: u32, blocks: &[u8], one: &mut [u8], two:
 // Writes blocks that fit, whose page is not blank.
 fn put(p: Parameters, l: u32, blocks: &[u8], page: &mut [u8])
     requires { Accepted p × Width l × Apt p blocks.now × PageBuffer p page.old }
-    ensures { Written p l blocks.now page.old page.new Outcome.Done }
+    ensures { Written p l blocks.now page.old page.new (Ok tt) }
 {
     let r = page::write(p, l, blocks, page);
     check::expect(done(r));
@@ -97,7 +94,7 @@ fn round(
 )
     requires { Accepted p × Width l × Width m × Apt p blocks.now × PageBuffer p page.old × BlocksBuffer p back.old
         × PageBuffer p again.old }
-    ensures { IsPage p page.new × (judge_answer p page.new ≡ Verdict.Member) }
+    ensures { IsPage p page.new × (judge_answer p page.new ≡ Ok Verdict.Member) }
 {
     put(p, l, blocks, page);
     let j = page::judge(p, page);
@@ -177,7 +174,7 @@ fn erased(p: Parameters, l: u32, page: &[u8], blocks: &mut [u8], again: &mut [u8
 
 // One byte of a member changed, whichever it is: no member.
 fn scratched(p: Parameters, page: &mut [u8], k: usize, e: u8)
-    requires { Accepted p × IsPage p page.old × (judge_answer p page.old ≡ Verdict.Member) × (k < length page.old) × (1 ≤ e) }
+    requires { Accepted p × IsPage p page.old × (judge_answer p page.old ≡ Ok Verdict.Member) × (k < length page.old) × (1 ≤ e) }
 {
     page[k] ^= e;
     let j = page::judge(p, page);

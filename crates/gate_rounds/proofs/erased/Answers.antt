@@ -1,9 +1,11 @@
+use Rattle.std.specs.Prelude.{Result, Ok, Err}
 use borrow.Author.Tests.{eq-eqb}
 use mathlib.Core.Path.{◌≡◌, sym, ap, ◌∙◌}
 use Prim.Native.Nat.{◌<◌}
 use Rattle.polynomial.specs.Sums.{at_all}
-use Rattle.code.specs.declared.Outcome.{Outcome}
-use Rattle.code.specs.Calls.{outcome_number}
+use Rattle.code.specs.declared.Refusal.{Refusal}
+use Rattle.code.specs.Answers.{answer_number}
+use Rattle.code.specs.Answers.{Outcome}
 use Rattle.code.specs.Demands.{BlankReadLaws}
 use Rattle.code.proofs.Theorems.{demands}
 use Rattle.gate_rounds.specs.Answers.{is_blank}
@@ -28,16 +30,16 @@ expect-requires-2 c = c.blank-2.ensures ∙ ap is_blank ((out (goal.at.expect-re
 pub expect-requires-3 : goal.expect-requires-3
 expect-requires-3 c =
     let refused : (let a = c.args in
-    (c.write-w.result ≡ Outcome.Refused 13) × (c.write-w.new.page ≡ a.again.now)) = let a = c.args in
+    (c.write-w.result ≡ Err Refusal.Blank) × (c.write-w.new.page ≡ a.again.now)) = let a = c.args in
     let l = (demands a.p c.requires.0).0.blank-write-laws a.l _ a.again.now _ _ c.requires.1 ((out (goal.at.expect-requires-3 c).After-read_out-r).fits c.requires.3) c.requires.5 c.write-w.ensures in
     let b = l.ones.1 (c.requires.7, (out (goal.at.expect-requires-3 c).After-read_out-r).ones c.requires.3) in
     (l.refused.1 b, l.kept b) in
-    eq-eqb _ _ (c.number.ensures ∙ ap outcome_number (refused).0)
+    eq-eqb _ _ (c.number.ensures ∙ ap answer_number (refused).0)
 
 pub expect-requires-4 : goal.expect-requires-4
 expect-requires-4 c =
     let refused : (let a = c.args in
-    (c.write-w.result ≡ Outcome.Refused 13) × (c.write-w.new.page ≡ a.again.now)) = let a = c.args in
+    (c.write-w.result ≡ Err Refusal.Blank) × (c.write-w.new.page ≡ a.again.now)) = let a = c.args in
     let l = (demands a.p c.requires.0).0.blank-write-laws a.l _ a.again.now _ _ c.requires.1 ((out (goal.at.expect-requires-4 c).After-read_out-r).fits c.requires.3) c.requires.5 c.write-w.ensures in
     let b = l.ones.1 (c.requires.7, (out (goal.at.expect-requires-4 c).After-read_out-r).ones c.requires.3) in
     (l.refused.1 b, l.kept b) in

@@ -1,7 +1,8 @@
+use Rattle.std.specs.Prelude.{Result, Ok, Err}
 use mathlib.Core.Path.{◌≡◌, ap, ◌∙◌}
 use Prim.Native.Nat.{ℕ}
 use lib.Dec.{eqb}
-use Rattle.code.specs.declared.Outcome.{Outcome}
+use Rattle.code.specs.Answers.{Outcome}
 use Rattle.code.specs.declared.Verdict.{Verdict}
 use Rattle.code.specs.Calls.{judge_answer}
 use Rattle.gate_rounds.specs.Answers.{is_done, is_member}
@@ -10,10 +11,10 @@ use Rattle.gate_rounds.proofs.mended.Goals as goal
 use Rattle.gate_rounds.proofs.mended.Goals.{After-mend-o}
 
 -- done, the page that was written, of one flip, and a member
-is : (c : After-mend-o) → ((c.mend-o.result ≡ Outcome.Done)
+is : (c : After-mend-o) → ((c.mend-o.result ≡ Ok tt)
     × (c.mend-o.new.page ≡ c.put-2.new.page)
     × (c.mend-o.new.flips ≡ 1)
-    × (judge_answer c.args.p c.mend-o.new.page ≡ Verdict.Member))
+    × (judge_answer c.args.p c.mend-o.new.page ≡ Ok Verdict.Member))
 is c =
     let a = c.args in
     mend-is a.p c.requires.0 a.l a.m c.requires.1 c.requires.2 a.a.now a.page.now a.first.now _ _ c.requires.3 c.requires.6 c.requires.7 c.put.ensures c.put-2.ensures a.i a.e c.requires.4 c.requires.5 _ a.list.now _ _ _ _ c.requires.8 (rw c.strike.ensures at c.mend-o.ensures)

@@ -1,7 +1,7 @@
 use mathlib.Core.Bool.{true}
 use mathlib.Core.Path.{◌≡◌, sym, ap, ◌∙◌}
-use Rattle.std.specs.Prelude.{◌↔◌}
-use Rattle.code.specs.declared.Outcome.{Outcome}
+use Rattle.std.specs.Prelude.{Result, Ok, Err, ◌↔◌}
+use Rattle.code.specs.Answers.{Outcome}
 use Rattle.code.specs.Demands.{Rewrites}
 use Rattle.code.proofs.Theorems.{demands}
 use Rattle.gate_rounds.specs.Answers.{is_done, is_member, alike-found, both_found, never}
@@ -15,7 +15,7 @@ again c =
     (demands a.p c.requires.0).1.rewrites a.l a.page.now a.blocks.now _ a.again.now _ _ _ _ c.requires.1 c.requires.2 c.requires.3 c.requires.4 c.judge-j.ensures c.read_out-r.ensures c.write-w.ensures
 
 -- the pages are compared only where the writing is done
-same_found : (c : After-member-judged) → (c.if-done.same ≡ true) ↔ ((c.write-w.result ≡ Outcome.Done) × (c.write-w.new.page ≡ c.args.page.now))
+same_found : (c : After-member-judged) → (c.if-done.same ≡ true) ↔ ((c.write-w.result ≡ Ok tt) × (c.write-w.new.page ≡ c.args.page.now))
 same_found c =
     elim c.if-done.branch [
       | then-done w ↦ both_found _ _ true _ _ (sym w.if-done.true ∙ c.done.ensures) w.same-same.ensures w.same-is

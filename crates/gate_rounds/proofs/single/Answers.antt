@@ -1,7 +1,7 @@
+use Rattle.code.specs.Answers.{answer_number}
 use borrow.Author.Tests.{eq-eqb}
 use mathlib.Core.Bool.{false}
 use mathlib.Core.Path.{◌≡◌, sym, ◌∙◌}
-use Rattle.code.specs.Calls.{outcome_number}
 use Rattle.gate_rounds.specs.Answers.{is_done}
 use Rattle.gate_rounds.specs.Singles.{page-kept, same_number, same-page}
 use Rattle.gate_rounds.proofs.single.Goals as goal
@@ -9,11 +9,11 @@ use Rattle.gate_rounds.proofs.single.Goals.{After-write-r}
 
 -- the two calls
 found : (w : After-write-r) → (let a = w.args in
-    (outcome_number w.write-r.result ≡ a.said) × (w.write-r.new.page ≡ a.page.now)
+    (answer_number w.write-r.result ≡ a.said) × (w.write-r.new.page ≡ a.page.now)
     × (is_done w.write-r.result ≡ false → a.page.now ≡ a.one.now))
 found w =
     let a = w.args in (
-      same_number a.p a.l a.blocks.now a.one.now a.page.now _ a.said _ w.requires.0 w.write-r.ensures,
+      same_number a.p a.l a.blocks.now a.one.now a.page.now _ a.said _ w.requires.0 w.write-r.ensures w.requires.2,
       same-page a.p a.l a.blocks.now a.one.now a.page.now _ a.said _ w.requires.0 w.write-r.ensures,
       page-kept a.p a.l a.blocks.now a.one.now a.page.now _ a.said _ w.requires.0 w.write-r.ensures,
     )

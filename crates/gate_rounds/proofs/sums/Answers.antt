@@ -1,5 +1,6 @@
+use Rattle.std.specs.Prelude.{Result, Ok, Err}
 use mathlib.Core.Path.{sym, ap, ◌∙◌}
-use Rattle.code.specs.declared.Outcome.{Outcome}
+use Rattle.code.specs.Answers.{Outcome}
 use Rattle.code.specs.Demands.{Sums}
 use Rattle.code.proofs.Theorems.{demands}
 use Rattle.gate_rounds.specs.Answers.{is_done}
@@ -7,7 +8,7 @@ use Rattle.gate_rounds.proofs.sums.Goals as goal
 use Rattle.gate_rounds.proofs.sums.Goals.{After-write-r}
 
 summed : (c : After-write-r) → (let a = c.args in
-    Sums a.p a.a.now a.b.now c.put.new.page c.put-2.new.page c.write-r.new.page Outcome.Done Outcome.Done c.write-r.result)
+    Sums a.p a.a.now a.b.now c.put.new.page c.put-2.new.page c.write-r.new.page (Ok tt) (Ok tt) c.write-r.result)
 summed c =
     let a = c.args in
     (demands a.p c.requires.0).1.sums a.k a.l a.m a.a.now a.b.now a.x.now a.y.now a.xy.now _ _ _ _ _ _ c.requires.1 c.requires.2 c.requires.3 c.requires.4.fits c.requires.5.fits

@@ -1,5 +1,6 @@
+use Rattle.std.specs.Prelude.{Result, Ok, Err}
 use mathlib.Core.Path.{◌≡◌, ap, ◌∙◌}
-use Rattle.code.specs.declared.Outcome.{Outcome}
+use Rattle.code.specs.Answers.{Outcome}
 use Rattle.code.specs.Calls.{statuses}
 use Rattle.gate_rounds.specs.Answers.{is_done}
 use Rattle.gate_rounds.specs.Singles.{Each, many-done, many-each, many-list}
@@ -8,7 +9,7 @@ use Rattle.gate_rounds.proofs.three.Goals.{After-write_many-r}
 
 -- the call
 made : (w : After-write_many-r) → (let a = w.args in
-    (w.write_many-r.result ≡ Outcome.Done) × Each a.p a.l a.blocks.now w.write_many-r.new.pages w.write_many-r.new.list
+    (w.write_many-r.result ≡ Ok tt) × Each a.p a.l a.blocks.now w.write_many-r.new.pages w.write_many-r.new.list
     × (w.write_many-r.new.list ≡ statuses a.p a.l 3 a.blocks.now))
 made w =
     let a = w.args in
