@@ -44,7 +44,10 @@ fn test(rt: &impl Print, p: Parameters) -> io::Result<()> {
     match sheet::test(p) {
         Ok(p) => {
             put(rt, 0)?;
-            put_numbers(rt, &[p.q, p.m, p.v, p.t0, p.t1, p.t2, p.t3, p.s].map(u64::from))
+            put_numbers(
+                rt,
+                &[p.q, p.m, p.v, p.t0, p.t1, p.t2, p.t3, p.s].map(u64::from),
+            )
         }
         Err(e) => put(rt, e.number()),
     }
