@@ -1,6 +1,6 @@
 -- The output's bytes where write was lent those from 1 on, as many as the page has.
 --   Asked input p L at k zeros    what the program holds where it asks write
-use Rattle.std.specs.Prelude.{Result, Ok, Err, ◌≡◌, refl, List, ◌∷◌, ◌++◌, ℕ, ◌+◌, ◌-◌, ◌≤◌, length, take, drop, replicate}
+use Rattle.std.specs.Prelude.{Ok, Err, ◌≡◌, refl, List, ◌∷◌, ◌++◌, ℕ, ◌+◌, ◌-◌, ◌≤◌, length, take, drop, replicate}
 use Rattle.std.proofs.Common.{sym, ap, ◌∙◌, arith}
 use Rattle.code.specs.declared.Refusal.{Refusal}
 use Rattle.code.specs.Answers.{refusal_number}

@@ -51,10 +51,12 @@ fn respond(rt: &impl Print, room: &[u8], got: usize) -> io::Result<Output>
 {
     let input = &room[..got];
     let p = given::sheet_given(input);
-    match sheet::test(p) {
-        Ok(accepted) => put(rt, room, got, page_written(input, accepted)),
-        Err(e) => put(rt, room, got, given::refused(e.number())),
-    }
+    let tested = sheet::test(p);
+    let Ok(accepted) = tested else {
+        let k = code::number_of(&tested);
+        return put(rt, room, got, given::refused(k));
+    };
+    put(rt, room, got, page_written(input, accepted))
 }
 
 fn main(rt: HostRuntime) -> io::Result<()> {
