@@ -17,6 +17,56 @@ use register::{Fed, Register};
 use std::io;
 use std::io::{Read, Write};
 
+// A record's call, by its number.
+#[derive(Clone, Copy)]
+enum Call {
+    Test,
+    Nesting,
+    Generators,
+    Elements,
+    Open,
+    Feed,
+    Remainder,
+    ShortRemainder,
+    NestedWord,
+    Syndromes,
+    NestedSyndromes,
+    Judge,
+    ReadOut,
+    Write,
+    Quote,
+    WriteMany,
+    Alter,
+    Mend,
+    AllSyndromes,
+    MendPage,
+}
+
+impl Call {
+    const ALL: [Call; 20] = [
+        Call::Test,
+        Call::Nesting,
+        Call::Generators,
+        Call::Elements,
+        Call::Open,
+        Call::Feed,
+        Call::Remainder,
+        Call::ShortRemainder,
+        Call::NestedWord,
+        Call::Syndromes,
+        Call::NestedSyndromes,
+        Call::Judge,
+        Call::ReadOut,
+        Call::Write,
+        Call::Quote,
+        Call::WriteMany,
+        Call::Alter,
+        Call::Mend,
+        Call::AllSyndromes,
+        Call::MendPage,
+    ];
+}
+
 // ---- numbers, low byte first
 
 fn put(rt: &impl Print, n: u8) -> io::Result<()> {
@@ -179,7 +229,7 @@ fn judge(rt: &impl Print, p: Parameters, page: &[u8]) -> io::Result<()> {
 // The calls that fill lent bytes.
 fn bytes_call(
     rt: &impl Print,
-    call: u8,
+    call: Call,
     p: Parameters,
     page: &[u8],
     i: usize,
@@ -187,10 +237,10 @@ fn bytes_call(
     out: &mut [u8],
 ) -> io::Result<()> {
     match call {
-        6 => put_bytes(rt, oneword::remainder(p, page, i, out), out),
-        7 => put_bytes(rt, oneword::short_remainder(p, page, i, out), out),
-        8 => put_bytes(rt, oneword::nested_word(p, page, i, out), out),
-        12 => {
+        Call::Remainder => put_bytes(rt, oneword::remainder(p, page, i, out), out),
+        Call::ShortRemainder => put_bytes(rt, oneword::short_remainder(p, page, i, out), out),
+        Call::NestedWord => put_bytes(rt, oneword::nested_word(p, page, i, out), out),
+        Call::ReadOut => {
             put_verdict(rt, page::read_out(p, page, out))?;
             io::writer(rt).write_all(out)
         }
@@ -251,15 +301,15 @@ fn mend_page_call(rt: &impl Print, p: Parameters, page: &mut [u8]) -> io::Result
 // Those that give syndromes, and the quote.
 fn list_call(
     rt: &impl Print,
-    call: u8,
+    call: Call,
     p: Parameters,
     page: &[u8],
     i: usize,
     list: &mut [u16],
 ) -> io::Result<()> {
     let r = match call {
-        14 => sizes::quote(p, list),
-        9 => oneword::syndromes(p, page, i, list),
+        Call::Quote => sizes::quote(p, list),
+        Call::Syndromes => oneword::syndromes(p, page, i, list),
         _ => oneword::nested_syndromes(p, page, i, list),
     };
     put_list(rt, r, list)
@@ -281,7 +331,7 @@ fn all_call(
 
 fn lend_bytes(
     rt: &impl Print,
-    call: u8,
+    call: Call,
     p: Parameters,
     page: &[u8],
     i: usize,
@@ -314,7 +364,7 @@ fn lend_many(
 
 fn lend_list(
     rt: &impl Print,
-    call: u8,
+    call: Call,
     p: Parameters,
     page: &[u8],
     i: usize,
@@ -354,7 +404,7 @@ fn lend_mending(
 // The calls that change the page.
 fn change(
     rt: &impl Print,
-    call: u8,
+    call: Call,
     p: Parameters,
     page: &mut [u8],
     size: usize,
@@ -362,8 +412,8 @@ fn change(
     count: u64,
 ) -> io::Result<()> {
     match call {
-        16 => alter_call(rt, p, page, low_half(u), (u >> 32) as u32, low_half(count)),
-        19 => mend_page_call(rt, p, page),
+        Call::Alter => alter_call(rt, p, page, low_half(u), (u >> 32) as u32, low_half(count)),
+        Call::MendPage => mend_page_call(rt, p, page),
         _ => lend_mending(rt, p, page, u as usize, size, (count & 0xff) as u8),
     }
 }
@@ -389,18 +439,24 @@ fn run(rt: &impl Print, h: &[u8; 36], page: &mut [u8], size: usize) -> io::Resul
     let (words, _) = h.as_chunks();
     let u = u64::from_le_bytes(words[2]);
     let count = u64::from_le_bytes(words[3]);
-    let call = h[0];
+    let Some(&call) = Call::ALL.get(usize::from(h[0])) else {
+        return Ok(());
+    };
     match call {
-        0 => test(rt, p),
-        1 => nesting(rt, i, l),
-        2 => generator_rows(rt, p),
-        3 => elements(rt, p.q, (u & 0xffff) as u16, (count & 0xffff) as u16, width),
-        4 => open(rt, p, u32::from(h[8])),
-        5 => feed(rt, p, u32::from(h[8]), count, page, width, u),
-        6..=8 | 12 | 13 => lend_bytes(rt, call, p, page, i, width, size),
-        9 | 10 | 14 => lend_list(rt, call, p, page, i, size),
-        11 => judge(rt, p, page),
-        15 => lend_many(
+        Call::Test => test(rt, p),
+        Call::Nesting => nesting(rt, i, l),
+        Call::Generators => generator_rows(rt, p),
+        Call::Elements => elements(rt, p.q, (u & 0xffff) as u16, (count & 0xffff) as u16, width),
+        Call::Open => open(rt, p, u32::from(h[8])),
+        Call::Feed => feed(rt, p, u32::from(h[8]), count, page, width, u),
+        Call::Remainder | Call::ShortRemainder | Call::NestedWord | Call::ReadOut | Call::Write => {
+            lend_bytes(rt, call, p, page, i, width, size)
+        }
+        Call::Syndromes | Call::NestedSyndromes | Call::Quote => lend_list(
+            rt, call, p, page, i, size,
+        ),
+        Call::Judge => judge(rt, p, page),
+        Call::WriteMany => lend_many(
             rt,
             p,
             width,
@@ -409,9 +465,8 @@ fn run(rt: &impl Print, h: &[u8; 36], page: &mut [u8], size: usize) -> io::Resul
             size,
             (u & 0xffff) as usize,
         ),
-        16 | 17 | 19 => change(rt, call, p, page, size, u, count),
-        18 => lend_all(rt, p, low_half(u), page, size),
-        _ => Ok(()),
+        Call::Alter | Call::Mend | Call::MendPage => change(rt, call, p, page, size, u, count),
+        Call::AllSyndromes => lend_all(rt, p, low_half(u), page, size),
     }
 }
 
