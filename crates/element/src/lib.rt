@@ -143,42 +143,30 @@ pub fn raise_lent(powers: &[u16], logs: &[u16], f: Field, a: u32, k: u32) -> u32
 
 // The same by the tables of the field.
 
+// `work` called with the field's powers and logs: by `&mut`, so that the contract says what it writes to what it captured.
+pub fn with_tables<R, W: FnMut(&[u16], &[u16]) -> R>(f: Field, work: &mut W) -> R
+    requires { Sized f × ((powers logs : _) → Tables f powers.now logs.now → W.pre work.old powers logs) }
+    ensures { (powers : _) × (logs : _) × Tables f powers.now logs.now × W.step work.old powers logs result work.new }
+{
+    match f.q {
+        4 => work(&powers4(), &logs4()),
+        8 => work(&powers8(), &logs8()),
+        _ => work(&powers12(), &logs12()),
+    }
+}
+
 fn times_in(f: Field, a: u32, b: u32) -> u32
     requires { Sized f × (a < 2 ^ f.q) × (b < 2 ^ f.q) }
     ensures { result ≡ times f.q a b }
 {
-    if f.q == 4 {
-        let p = powers4();
-        let l = logs4();
-        return times_lent(&p, &l, f, a, b);
-    }
-    if f.q == 8 {
-        let p = powers8();
-        let l = logs8();
-        return times_lent(&p, &l, f, a, b);
-    }
-    let p = powers12();
-    let l = logs12();
-    times_lent(&p, &l, f, a, b)
+    with_tables(f, &mut |powers, logs| times_lent(powers, logs, f, a, b))
 }
 
 fn raise_in(f: Field, a: u32, k: u32) -> u32
     requires { Sized f × (a < 2 ^ f.q) }
     ensures { result ≡ raise f.q a k }
 {
-    if f.q == 4 {
-        let p = powers4();
-        let l = logs4();
-        return raise_lent(&p, &l, f, a, k);
-    }
-    if f.q == 8 {
-        let p = powers8();
-        let l = logs8();
-        return raise_lent(&p, &l, f, a, k);
-    }
-    let p = powers12();
-    let l = logs12();
-    raise_lent(&p, &l, f, a, k)
+    with_tables(f, &mut |powers, logs| raise_lent(powers, logs, f, a, k))
 }
 
 impl Field {

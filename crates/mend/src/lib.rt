@@ -21,7 +21,6 @@ ghost use Rattle.mend.specs.Settled.{Settled};
 
 use code::{Outcome, Parameters, Refusal};
 use element::Field;
-use tables::{logs4, logs8, logs12, powers4, powers8, powers12};
 use word::level_remainder;
 
 // ---- the places to flip
@@ -55,19 +54,10 @@ fn locate_in(p: Parameters, r: &[u64], w: usize, t: usize, list: &mut [u16]) -> 
 {
     let f = Field::of(p.q);
     let z = layout::stored_of(p);
-    if f.q == 4 {
-        let a = powers4();
-        let b = logs4();
-        return locate_by(&a, &b, f, r, w, t, z, list);
-    }
-    if f.q == 8 {
-        let a = powers8();
-        let b = logs8();
-        return locate_by(&a, &b, f, r, w, t, z, list);
-    }
-    let a = powers12();
-    let b = logs12();
-    locate_by(&a, &b, f, r, w, t, z, list)
+    element::with_tables(
+        f,
+        &mut |powers, logs| locate_by(powers, logs, f, r, w, t, z, list),
+    )
 }
 
 // The places of the flips that mend the word s: their number, and they stand first in the list; more than t, which is t_0: none.

@@ -13,7 +13,6 @@ ghost use Rattle.mend_page.specs.Ends.{Ends, Stands, says_member};
 
 use code::{Outcome, Parameters, Refusal, Verdict};
 use element::Field;
-use tables::{logs4, logs8, logs12, powers4, powers8, powers12};
 
 // Is it the verdict of a member?
 fn says_member(r: Verdict) -> bool
@@ -86,19 +85,10 @@ fn mend_in(p: Parameters, rows: [[u64; 13]; 4], page: &mut [u8]) -> bool
     ensures { Ends p (mend_page p (words_of p page.old)) page.new result }
 {
     let f = Field::of(p.q);
-    if f.q == 4 {
-        let a = powers4();
-        let b = logs4();
-        return mend_by(p, f, &a, &b, rows, page);
-    }
-    if f.q == 8 {
-        let a = powers8();
-        let b = logs8();
-        return mend_by(p, f, &a, &b, rows, page);
-    }
-    let a = powers12();
-    let b = logs12();
-    mend_by(p, f, &a, &b, rows, page)
+    element::with_tables(
+        f,
+        &mut |powers, logs| mend_by(p, f, powers, logs, rows, page),
+    )
 }
 
 // The page mended, for accepted parameters and a page of them: in a room of its own, so that a refusal changes no byte.

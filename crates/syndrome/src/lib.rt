@@ -17,7 +17,6 @@ ghost use Rattle.code.specs.Filled.{Filled};
 ghost use Rattle.syndrome.specs.Sum.{Roots, table_sum};
 
 use element::Field;
-use tables::{logs4, logs8, logs12, powers4, powers8, powers12};
 
 // ---- the places of the ones
 
@@ -119,11 +118,7 @@ pub fn odd_of(list: &mut [u16], f: Field, r: &[u64], w: usize)
     requires { Sized f × (w ≤ 64 * length r.now) × (w ≤ 768) × (w ≤ 2 ^ f.q - 1) × (value 64 r.now < 2 ^ w) }
     ensures { list.new ≡ map (λ i. syndrome f.q (value 64 r.now) (2 * i + 1)) (range 0 (length list.old)) }
 {
-    match f.q {
-        4 => odd_into(list, &powers4(), f, r, w),
-        8 => odd_into(list, &powers8(), f, r, w),
-        _ => odd_into(list, &powers12(), f, r, w),
-    }
+    element::with_tables(f, &mut |powers, _| odd_into(list, powers, f, r, w));
 }
 
 // ---- all from the odd ones
@@ -197,9 +192,5 @@ pub fn all_of(list: &mut [u16], odd: &[u16], f: Field)
     requires { Sized f × (length list.old ≡ 2 * length odd.now) }
     ensures { list.new ≡ map (from_odd f.q (λ i. get_or odd.now i 0)) (range 1 (2 * length odd.now)) }
 {
-    match f.q {
-        4 => all_into(list, odd, &powers4(), &logs4(), f),
-        8 => all_into(list, odd, &powers8(), &logs8(), f),
-        _ => all_into(list, odd, &powers12(), &logs12(), f),
-    }
+    element::with_tables(f, &mut |powers, logs| all_into(list, odd, powers, logs, f));
 }
