@@ -112,10 +112,7 @@ pub fn times_lent(powers: &[u16], logs: &[u16], f: Field, a: u32, b: u32) -> u32
     requires { Tables f powers.now logs.now × (a < 2 ^ f.q) × (b < 2 ^ f.q) }
     ensures { result ≡ times f.q a b }
 {
-    if a == 0 {
-        return 0;
-    }
-    if b == 0 {
+    if a == 0 || b == 0 {
         return 0;
     }
     let i = log(logs, a);
@@ -147,38 +144,22 @@ fn times_in(f: Field, a: u32, b: u32) -> u32
     requires { Sized f × (a < 2 ^ f.q) × (b < 2 ^ f.q) }
     ensures { result ≡ times f.q a b }
 {
-    if f.q == 4 {
-        let p = powers4();
-        let l = logs4();
-        return times_lent(&p, &l, f, a, b);
+    match f.q {
+        4 => times_lent(&powers4(), &logs4(), f, a, b),
+        8 => times_lent(&powers8(), &logs8(), f, a, b),
+        _ => times_lent(&powers12(), &logs12(), f, a, b),
     }
-    if f.q == 8 {
-        let p = powers8();
-        let l = logs8();
-        return times_lent(&p, &l, f, a, b);
-    }
-    let p = powers12();
-    let l = logs12();
-    times_lent(&p, &l, f, a, b)
 }
 
 fn raise_in(f: Field, a: u32, k: u32) -> u32
     requires { Sized f × (a < 2 ^ f.q) }
     ensures { result ≡ raise f.q a k }
 {
-    if f.q == 4 {
-        let p = powers4();
-        let l = logs4();
-        return raise_lent(&p, &l, f, a, k);
+    match f.q {
+        4 => raise_lent(&powers4(), &logs4(), f, a, k),
+        8 => raise_lent(&powers8(), &logs8(), f, a, k),
+        _ => raise_lent(&powers12(), &logs12(), f, a, k),
     }
-    if f.q == 8 {
-        let p = powers8();
-        let l = logs8();
-        return raise_lent(&p, &l, f, a, k);
-    }
-    let p = powers12();
-    let l = logs12();
-    raise_lent(&p, &l, f, a, k)
 }
 
 impl Field {
@@ -186,19 +167,11 @@ impl Field {
     pub fn make(q: u32) -> Result<Field, FieldError>
         ensures { MadeOf q result }
     {
-        let a = FIELDS[0];
-        if q == a.q {
-            return Ok(a);
-        }
-        let b = FIELDS[1];
-        if q == b.q {
-            return Ok(b);
-        }
-        let c = FIELDS[2];
-        if q == c.q {
-            return Ok(c);
-        }
-        Err(FieldError::NoField)
+        FIELDS
+            .iter()
+            .find(|f| f.q == q)
+            .copied()
+            .ok_or(FieldError::NoField)
     }
 
     // The field of a q that has one.
@@ -206,25 +179,18 @@ impl Field {
         requires { Known q }
         ensures { result ≡ field_at q }
     {
-        let a = FIELDS[0];
-        if q == a.q {
-            return a;
+        match q {
+            4 => FIELDS[0],
+            8 => FIELDS[1],
+            _ => FIELDS[2],
         }
-        let b = FIELDS[1];
-        if q == b.q {
-            return b;
-        }
-        FIELDS[2]
     }
 
     // These four numbers are a field's.
     pub fn known(self) -> bool
         ensures { result ≡ is_field self }
     {
-        let Ok(e) = Field::make(self.q) else {
-            return false;
-        };
-        self == e
+        Field::make(self.q).is_ok_and(|e| self == e)
     }
 
     pub fn zero(self) -> Element
@@ -252,10 +218,7 @@ impl Field {
         if !self.known() {
             return Err(FieldError::NoField);
         }
-        if self.size <= a.0 as u32 {
-            return Err(FieldError::NoElement);
-        }
-        if self.size <= b.0 as u32 {
+        if self.size <= a.0 as u32 || self.size <= b.0 as u32 {
             return Err(FieldError::NoElement);
         }
         Ok(())
