@@ -96,8 +96,8 @@ pub fn modulo(n: u32, s: u32) -> u32
     if s < n { s } else { s - n }
 }
 
-// The log of the product of two elements with the logs i and j: their sum modulo n = 2^q - 1. The sum is at most 8,188, and 16 bits hold
-// it. The test is of i against n - j, so that it does not wait for the sum.
+// The log of the product of two elements with the logs i and j: their sum modulo n = 2^q - 1. The sum is at most 8,188, and
+// 16 bits hold it. The test is of i against n - j, so that it does not wait for the sum.
 pub fn add_logs(f: Field, i: u16, j: u16) -> u16
     requires { Sized f × (i < 2 ^ f.q - 1) × (j < 2 ^ f.q - 1) }
     ensures { result ≡ (i + j) % (2 ^ f.q - 1) }
