@@ -96,8 +96,8 @@ pub fn modulo(n: u32, s: u32) -> u32
     if s < n { s } else { s - n }
 }
 
-// The log of the product of two elements with the logs i and j: their sum modulo n = 2^q - 1. The sum is at most 8,188, and 16 bits hold
-// it. The test is of i against n - j, so that it does not wait for the sum.
+// The log of the product of two elements with the logs i and j: their sum modulo n = 2^q - 1. The sum is at most 8,188, and
+// 16 bits hold it. The test is of i against n - j, so that it does not wait for the sum.
 pub fn add_logs(f: Field, i: u16, j: u16) -> u16
     requires { Sized f × (i < 2 ^ f.q - 1) × (j < 2 ^ f.q - 1) }
     ensures { result ≡ (i + j) % (2 ^ f.q - 1) }
@@ -112,10 +112,7 @@ pub fn times_lent(powers: &[u16], logs: &[u16], f: Field, a: u32, b: u32) -> u32
     requires { Tables f powers.now logs.now × (a < 2 ^ f.q) × (b < 2 ^ f.q) }
     ensures { result ≡ times f.q a b }
 {
-    if a == 0 {
-        return 0;
-    }
-    if b == 0 {
+    if a == 0 || b == 0 {
         return 0;
     }
     let i = log(logs, a);
@@ -174,19 +171,11 @@ impl Field {
     pub fn make(q: u32) -> Result<Field, FieldError>
         ensures { MadeOf q result }
     {
-        let a = FIELDS[0];
-        if q == a.q {
-            return Ok(a);
-        }
-        let b = FIELDS[1];
-        if q == b.q {
-            return Ok(b);
-        }
-        let c = FIELDS[2];
-        if q == c.q {
-            return Ok(c);
-        }
-        Err(FieldError::NoField)
+        FIELDS
+            .iter()
+            .find(|f| f.q == q)
+            .copied()
+            .ok_or(FieldError::NoField)
     }
 
     // The field of a q that has one.
@@ -194,25 +183,18 @@ impl Field {
         requires { Known q }
         ensures { result ≡ field_at q }
     {
-        let a = FIELDS[0];
-        if q == a.q {
-            return a;
+        match q {
+            4 => FIELDS[0],
+            8 => FIELDS[1],
+            _ => FIELDS[2],
         }
-        let b = FIELDS[1];
-        if q == b.q {
-            return b;
-        }
-        FIELDS[2]
     }
 
     // These four numbers are a field's.
     pub fn known(self) -> bool
         ensures { result ≡ is_field self }
     {
-        let Ok(e) = Field::make(self.q) else {
-            return false;
-        };
-        self == e
+        Field::make(self.q).is_ok_and(|e| self == e)
     }
 
     pub fn zero(self) -> Element
@@ -240,10 +222,7 @@ impl Field {
         if !self.known() {
             return Err(FieldError::NoField);
         }
-        if self.size <= a.0 as u32 {
-            return Err(FieldError::NoElement);
-        }
-        if self.size <= b.0 as u32 {
+        if self.size <= a.0 as u32 || self.size <= b.0 as u32 {
             return Err(FieldError::NoElement);
         }
         Ok(())

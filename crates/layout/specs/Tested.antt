@@ -4,9 +4,12 @@
 --   word_bits p                 the stored coefficients of each sub-word
 --   WordsPassed P p x i        the first i sub-words of a page pass
 --   BlocksPassed P p x at i    the first i blocks pass, and the next begins at `at`
+--   RunIn l at k b             b bits take k bytes, and l has these from `at` on
+--   ServesRuns Q l             Q, what a call asks, holds at each run of l
+--   AnswersRuns R P l          R, what a call returns, is whether the run of l passes P
 use Rattle.std.specs.Prelude.{◌≡◌, Bool, true, false, ◌&&◌, List, [], ℕ, suc, ◌+◌, ◌*◌, ◌/◌, ◌≤◌, ◌<◌, length, get_or, drop, replicate}
 use Rattle.std.proofs.Math.Path.{refl}
-use Rattle.std.proofs.Common.{sym, ap₂, ◌∙◌, add-one, drop_of_length-le}
+use Rattle.std.proofs.Common.{Bor, sym, ap₂, ◌∙◌, add-one, drop_of_length-le}
 use Rattle.std.proofs.lemmas.List.{length-replicate, get_or-replicate}
 use Rattle.std.proofs.Math.Seq.{drop-cons}
 use Rattle.code.specs.declared.Parameters.{Parameters}
@@ -19,6 +22,15 @@ use Rattle.code.proofs.Placement.{bits_at, word_at}
 use Rattle.layout.specs.Parts.{block_at, block_room, offset-next, offset-zero, word_room}
 use Rattle.layout.specs.Runs.{run_passes, test_of}
 use Rattle.layout.specs.Sizes.{data-high, data-low, stored-high, stored_low}
+
+abbrev pub RunIn : List ℕ → ℕ → ℕ → ℕ → Type 0
+RunIn l at k b = (1 ≤ b) × (b < 4096) × (k ≡ (b + 7) / 8) × (at + k ≤ length l)
+
+abbrev pub ServesRuns : (Bor (List ℕ) → ℕ → ℕ → ℕ → Type 0) → List ℕ → Type 0
+ServesRuns Q l = (x : Bor (List ℕ)) (at k b : ℕ) → x.now ≡ l → RunIn l at k b → Q x at k b
+
+abbrev pub AnswersRuns : (Bor (List ℕ) → ℕ → ℕ → ℕ → Bool → Type 0) → (ℕ → ℕ → Bool) → List ℕ → Type 0
+AnswersRuns R P l = (x : Bor (List ℕ)) (at k b : ℕ) (r : Bool) → x.now ≡ l → R x at k b r → r ≡ run_passes P l at k b
 
 abbrev pub passes : (ℕ → ℕ → Bool) → List ℕ → List ℕ → ℕ → Bool
 passes P bs xs i = P (get_or bs i 0) (get_or xs i 0)
@@ -85,6 +97,11 @@ module _ (P : ℕ → ℕ → Bool) (p : Parameters) (x : List ℕ) where
     words-found s t = passed-found P (word_bits p) (words_of p x) each_word i s (rw length-word-bits h) (sym word_test ∙ t)
 
 -- ---- blocks
+-- the run of one block, where the program holds its place, its bits and its size
+pub run-there : (p : Parameters) (x : List ℕ) → Accepted p → length x ≡ data_bytes p → (at i b k : ℕ) → at ≡ block_offset p i → i < p.m
+    → b ≡ data_bits p i → k ≡ (data_bits p i + 7) / 8 → RunIn x at k b
+run-there p x A l at i b k o h e f = rw (f, e, o, l) (data-low p A i, data-high p A i, refl, block_room p i h)
+
 pub record BlocksPassed (P : ℕ → ℕ → Bool) (p : Parameters) (x : List ℕ) (at i : ℕ) : Type 0 where
   pub passed : Passed P (block_bits p) (blocks_of p x) i
   pub begins : at ≡ block_offset p i

@@ -9,8 +9,8 @@ ghost use Rattle.code.specs.Code.{level, check_bits};
 ghost use Rattle.code.specs.Layout.{page_bytes, data_bits, data_bytes, block_offset, block_bits, blocks_of, blocks_clear, blocks_full, words_of, page_clear, blank};
 ghost use Rattle.code.specs.Lists.{each, fits_in, ones_in};
 ghost use Rattle.layout.specs.Sizes.{Degrees, nested_places};
-ghost use Rattle.layout.specs.Runs.{OnesFound, run_passes, test_of};
-ghost use Rattle.layout.specs.Tested.{word_bits};
+ghost use Rattle.layout.specs.Runs.{OnesFound, run_passes};
+ghost use Rattle.layout.specs.Tested.{AnswersRuns, RunIn, ServesRuns, word_bits};
 
 use code::Parameters;
 use element::Field;
@@ -176,7 +176,7 @@ fn last_bound(size: usize, b: usize) -> usize
 
 // The run of bytes at `at` is below 2^b as a number: of its last byte no unused bit is 1.
 fn run_clear(bytes: &[u8], at: usize, size: usize, b: usize) -> bool
-    requires { (1 ≤ b) × (b < 4096) × (size ≡ (b + 7) / 8) × (at + size ≤ length bytes.now) }
+    requires { RunIn bytes.now at size b }
     ensures { result ≡ run_passes fits_in bytes.now at size b }
 {
     let bound = last_bound(size, b);
@@ -212,7 +212,7 @@ fn range_ones(bytes: &[u8], at: usize, end: usize) -> bool
 
 // The b lowest bits of the run of bytes at `at` are all 1, whatever its unused bits.
 fn run_ones(bytes: &[u8], at: usize, size: usize, b: usize) -> bool
-    requires { (1 ≤ b) × (b < 4096) × (size ≡ (b + 7) / 8) × (at + size ≤ length bytes.now) }
+    requires { RunIn bytes.now at size b }
     ensures { result ≡ run_passes ones_in bytes.now at size b }
 {
     let last = at + size - 1;
@@ -221,38 +221,39 @@ fn run_ones(bytes: &[u8], at: usize, size: usize, b: usize) -> bool
     range_ones(bytes, at, last) && high % bound == bound - 1
 }
 
-// Which of the two tests is asked: all ones, or clear.
-fn run_passes(bytes: &[u8], at: usize, size: usize, b: usize, ones: bool) -> bool
-    requires { (1 ≤ b) × (b < 4096) × (size ≡ (b + 7) / 8) × (at + size ≤ length bytes.now) }
-    ensures { result ≡ run_passes (test_of ones) bytes.now at size b }
-{
-    if ones {
-        run_ones(bytes, at, size, b)
-    } else {
-        run_clear(bytes, at, size, b)
-    }
-}
+// The test of a run is a parameter of the next two: run_clear or run_ones. P is what it says of the run's number.
 
-// Every sub-word of the page passes.
-fn words_pass(p: Parameters, page: &[u8], ones: bool) -> bool
-    requires { Accepted p × (length page.now ≡ page_bytes p) }
-    ensures { result ≡ each (test_of ones) (word_bits p) (words_of p page.now) }
+// Every sub-word of the page passes the test.
+fn words_pass<T: Fn(&[u8], usize, usize, usize) -> bool>(
+    p: Parameters,
+    page: &[u8],
+    test: T,
+) -> bool
+    requires lengths { Accepted p × (length page.now ≡ page_bytes p) }
+    requires callable { ServesRuns (T.pre test) page.now }
+    ensures { (P : _) → AnswersRuns (T.post test) P page.now → result ≡ each P (word_bits p) (words_of p page.now) }
 {
     let n = stored_of(p);
     let b = sub_word_bytes(p);
-    (0..p.m as usize).all(|i| run_passes(page, i * b, b, n, ones))
+    (0..p.m as usize).all(|i| test(page, i * b, b, n))
 }
 
-// Every block passes.
-fn blocks_pass(p: Parameters, w: &[u32], blocks: &[u8], ones: bool) -> bool
-    requires { Accepted p × Degrees p w.now × (length blocks.now ≡ data_bytes p) }
-    ensures { result ≡ each (test_of ones) (block_bits p) (blocks_of p blocks.now) }
+// Every block passes the test.
+fn blocks_pass<T: Fn(&[u8], usize, usize, usize) -> bool>(
+    p: Parameters,
+    w: &[u32],
+    blocks: &[u8],
+    test: T,
+) -> bool
+    requires lengths { Accepted p × Degrees p w.now × (length blocks.now ≡ data_bytes p) }
+    requires callable { ServesRuns (T.pre test) blocks.now }
+    ensures { (P : _) → AnswersRuns (T.post test) P blocks.now → result ≡ each P (block_bits p) (blocks_of p blocks.now) }
 {
     let mut at = 0;
     for j in 0..p.m as usize {
         let b = data_bits(p, w, j);
         let size = block_size(p, w, j);
-        if !run_passes(blocks, at, size, b, ones) {
+        if !test(blocks, at, size, b) {
             return false;
         }
         at += size;
@@ -265,7 +266,7 @@ pub fn page_clear(p: Parameters, page: &[u8]) -> bool
     requires { Accepted p × (length page.now ≡ page_bytes p) }
     ensures { result ≡ page_clear p page.now }
 {
-    words_pass(p, page, false)
+    words_pass(p, page, run_clear)
 }
 
 // Every stored coefficient of the page is 1, whatever its spare bits.
@@ -273,7 +274,7 @@ pub fn page_blank(p: Parameters, page: &[u8]) -> bool
     requires { Accepted p × (length page.now ≡ page_bytes p) }
     ensures { result ≡ blank p page.now }
 {
-    words_pass(p, page, true)
+    words_pass(p, page, run_ones)
 }
 
 // No unused bit of the blocks is 1.
@@ -281,7 +282,7 @@ pub fn blocks_clear(p: Parameters, w: &[u32], blocks: &[u8]) -> bool
     requires { Accepted p × Degrees p w.now × (length blocks.now ≡ data_bytes p) }
     ensures { result ≡ blocks_clear p blocks.now }
 {
-    blocks_pass(p, w, blocks, false)
+    blocks_pass(p, w, blocks, run_clear)
 }
 
 // Every data bit of the blocks is 1.
@@ -289,7 +290,7 @@ pub fn blocks_full(p: Parameters, w: &[u32], blocks: &[u8]) -> bool
     requires { Accepted p × Degrees p w.now × (length blocks.now ≡ data_bytes p) }
     ensures { result ≡ blocks_full p blocks.now }
 {
-    blocks_pass(p, w, blocks, true)
+    blocks_pass(p, w, blocks, run_ones)
 }
 
 // The bits of a run above its b lowest are cleared.

@@ -1,6 +1,6 @@
 -- The tests of numbers: what a program's comparisons show of them.
-use Rattle.std.specs.Prelude.{◌≡◌, refl, Bool, true, false, not, ◌||◌, List, ℕ, suc, ◌+◌, ◌-◌, ◌*◌, ◌/◌, ◌%◌, ◌^◌, ◌≤◌, ◌<◌, eqb, leb, ltb, length, get_or, take, drop}
-use Rattle.std.proofs.Common.{sym, ap, ◌∙◌, zero-le, arith, lit≤, length-drop, pow_pos, pow_mono, shr-shr, take_all, lt-ltb, le-ltb, le-leb, eq-eqb, ne_eqb, ltb-true, ltb-false, leb-true, eqb-true}
+use Rattle.std.specs.Prelude.{◌≡◌, refl, Bool, true, false, not, ◌&&◌, ◌||◌, List, ℕ, zero, suc, ◌+◌, ◌-◌, ◌*◌, ◌/◌, ◌%◌, ◌^◌, ◌≤◌, ◌<◌, eqb, leb, ltb, length, get_or, take, drop}
+use Rattle.std.proofs.Common.{sym, ap, ◌∙◌, zero-le, suc-le-suc, arith, lit≤, length-drop, pow_pos, pow_mono, shr-shr, take_all, lt-ltb, le-ltb, le-leb, eq-eqb, ne_eqb, ltb-true, ltb-false, leb-true, eqb-true}
 use Rattle.std.proofs.Math.Nat as Nat
 use Rattle.std.proofs.Math.Pow.{shr_mono, high}
 use Rattle.std.proofs.lemmas.Bool.{lt-leb, not-true}
@@ -28,6 +28,10 @@ between-zero m x e = simp (eq-eqb x 0 e)
 pub between-above : (m x : ℕ) → (x ≡ 0 → ⊥) → leb x m ≡ not (eqb x 0 || ltb m x)
 between-above m x h =
     sym (simp (ne_eqb x 0 h) (same _ _ (λ t. le-leb x m (ltb-false m x (not-true _ t))) (λ t. rw (le-ltb m x (leb-true x m t)) refl)))
+
+pub between : (m x : ℕ) → (leb 1 x && leb x m) ≡ not (eqb x 0 || ltb m x)
+between m zero = between-zero m 0 refl
+between m (suc x) = ap (λ (t : Bool). t && leb (suc x) m) (le-leb 1 (suc x) (suc-le-suc zero-le)) ∙ between-above m (suc x) (Nat.suc-ne-zero x)
 
 -- ---- a number of L bits
 pub below-pow : (u L : ℕ) → 1 ≤ L → ltb (u / 2 ^ (L - 1)) 2 ≡ ltb u (2 ^ L)

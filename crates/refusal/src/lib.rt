@@ -28,14 +28,13 @@ pub fn page_refusal(p: Parameters, page: &[u8]) -> Outcome
     requires { Accepted p }
     ensures { answer_number result ≡ page_refusal p page.now }
 {
-    let exact = layout::page_bytes(p);
-    if page.len() != exact {
+    if page.len() != layout::page_bytes(p) {
         return Err(Refusal::Page);
     }
-    if layout::page_clear(p, page) {
-        return Ok(());
+    if !layout::page_clear(p, page) {
+        return Err(Refusal::Stray);
     }
-    Err(Refusal::Stray)
+    Ok(())
 }
 
 // Judge and read out look for a blank page between 7 and 8, so their chains stop at the lengths.
@@ -45,10 +44,10 @@ pub fn judge_lengths(p: Parameters, page: usize) -> Outcome
     ensures { answer_number result ≡ judge_lengths p page }
 {
     sheet_refusal(p)?;
-    if page == layout::page_bytes(p) {
-        return Ok(());
+    if page != layout::page_bytes(p) {
+        return Err(Refusal::Page);
     }
-    Err(Refusal::Page)
+    Ok(())
 }
 
 // For accepted parameters, whose degrees are w, a page of `page` bytes and a buffer of `blocks`: 6, 7.
@@ -69,10 +68,7 @@ pub fn read_lengths(p: Parameters, w: &[u32], page: usize, blocks: usize) -> Out
 fn width_good(width: u32) -> bool
     ensures { result ≡ not (bad_width width) }
 {
-    if width == 0 {
-        return false;
-    }
-    width <= 64
+    (1..=64).contains(&width)
 }
 
 // The page of the blocks would be blank: every data bit is 1. At s > 0 none would.
@@ -80,14 +76,11 @@ fn page_ones(p: Parameters, w: &[u32], blocks: &[u8]) -> bool
     requires { Accepted p × Degrees p w.now × (length blocks.now ≡ data_bytes p) }
     ensures { result ≡ (eqb p.s 0 && blocks_full p blocks.now) }
 {
-    if 0 < p.s {
-        return false;
-    }
-    layout::blocks_full(p, w, blocks)
+    p.s == 0 && layout::blocks_full(p, w, blocks)
 }
 
-// For accepted parameters, whose degrees are w, and a buffer of `page` bytes: 5, 6, 7, 8 for an unused bit, 13 where the page would be blank,
-// or 0.
+// For accepted parameters, whose degrees are w, and a buffer of `page` bytes: 5, 6, 7, 8 for an unused bit, 13 where the page
+// would be blank, or 0.
 pub fn write_refusal(p: Parameters, w: &[u32], width: u32, blocks: &[u8], page: usize) -> Outcome
     requires { Accepted p × Degrees p w.now }
     ensures { answer_number result ≡ write_refusal p width blocks.now page }
@@ -114,13 +107,11 @@ pub fn write_refusal(p: Parameters, w: &[u32], width: u32, blocks: &[u8], page: 
 fn count_good(count: u32) -> bool
     ensures { result ≡ not (bad_count count) }
 {
-    if count == 0 {
-        return false;
-    }
-    count <= 16
+    (1..=16).contains(&count)
 }
 
-// For accepted parameters, whose degrees are w, `count` pages, and lengths of blocks, pages and list: 5, 9 for the count, 6, 7, 10.
+// For accepted parameters, whose degrees are w, `count` pages, and lengths of blocks, pages and list: 5, 9 for the count, 6,
+// 7, 10.
 pub fn many_refusal(
     p: Parameters,
     w: &[u32],
@@ -146,10 +137,10 @@ pub fn many_refusal(
     if pages != c * layout::page_bytes(p) {
         return Err(Refusal::Page);
     }
-    if list == c {
-        return Ok(());
+    if list != c {
+        return Err(Refusal::List);
     }
-    Err(Refusal::List)
+    Ok(())
 }
 
 // ---- alter
@@ -159,26 +150,20 @@ fn names_bit(p: Parameters, w: &[u32], i: u32, r: u32, b: u32) -> bool
     requires { Accepted p × Degrees p w.now }
     ensures { result ≡ not (no_bit p i r b) }
 {
-    if p.m <= i {
-        return false;
-    }
-    let n = layout::data_bits(p, w, i as usize);
-    if n <= r as usize {
-        return false;
-    }
-    b <= 1
+    i < p.m && (r as usize) < layout::data_bits(p, w, i as usize) && b <= 1
 }
 
-// For accepted parameters, whose degrees are w: 7, 8, 9 where no bit is named or b is none, or 0. 13 is left: it is of the page afterwards.
+// For accepted parameters, whose degrees are w: 7, 8, 9 where no bit is named or b is none, or 0. 13 is left: it is of the
+// page afterwards.
 pub fn bit_refusal(p: Parameters, w: &[u32], page: &[u8], i: u32, r: u32, b: u32) -> Outcome
     requires { Accepted p × Degrees p w.now }
     ensures { answer_number result ≡ bit_refusal p page.now i r b }
 {
     page_refusal(p, page)?;
-    if names_bit(p, w, i, r, b) {
-        return Ok(());
+    if !names_bit(p, w, i, r, b) {
+        return Err(Refusal::Index);
     }
-    Err(Refusal::Index)
+    Ok(())
 }
 
 // ---- calls on one word
@@ -228,10 +213,10 @@ pub fn quote_refusal(p: Parameters, out: usize) -> Outcome
     ensures { answer_number result ≡ quote_refusal 1 p out }
 {
     sheet_refusal(p)?;
-    if out == 12 {
-        return Ok(());
+    if out != 12 {
+        return Err(Refusal::List);
     }
-    Err(Refusal::List)
+    Ok(())
 }
 
 // ---- registers
@@ -253,10 +238,7 @@ pub fn all_refusal(p: Parameters, level: u32, odd: usize, out: usize) -> Outcome
 {
     open_refusal(p, level)?;
     let t = sheet::strength_at(p, level) as usize;
-    if odd != t {
-        return Err(Refusal::List);
-    }
-    if out != 2 * t {
+    if odd != t || out != 2 * t {
         return Err(Refusal::List);
     }
     Ok(())
@@ -274,10 +256,7 @@ fn number_fits(u: u64, width: u32) -> bool
 fn room(count: u64, width: u64, n: u64) -> bool
     ensures { result ≡ leb (count + width) n }
 {
-    if n < count {
-        return false;
-    }
-    width <= n - count
+    count <= n && width <= n - count
 }
 
 // For accepted parameters, u as `width` coefficients after `count` at a level: 5, 8, 11, 12 for the level.
@@ -309,8 +288,5 @@ pub fn remainder_fits(words: &[u64], w: usize) -> bool
     if words.len() <= k {
         return true;
     }
-    if words[k] >> (w % 64) != 0 {
-        return false;
-    }
-    kernels::row::is_zero(&words[k + 1..])
+    words[k] >> (w % 64) == 0 && kernels::row::is_zero(&words[k + 1..])
 }

@@ -15,35 +15,20 @@ use element::Field;
 fn shape_fits(p: Parameters) -> bool
     ensures { result ≡ shape_fits p }
 {
-    if p.v < 1 {
-        return false;
-    }
-    if 3 < p.v {
-        return false;
-    }
-    if p.m <= p.v {
-        return false;
-    }
-    p.m <= 8
+    (1..=3).contains(&p.v) && p.v < p.m && p.m <= 8
 }
 
 // t_a, 0 past the four places.
 pub fn strength_at(p: Parameters, a: u32) -> u32
     ensures { result ≡ strength p a }
 {
-    if a == 0 {
-        return p.t0;
+    match a {
+        0 => p.t0,
+        1 => p.t1,
+        2 => p.t2,
+        3 => p.t3,
+        _ => 0,
     }
-    if a == 1 {
-        return p.t1;
-    }
-    if a == 2 {
-        return p.t2;
-    }
-    if a == 3 {
-        return p.t3;
-    }
-    0
 }
 
 // Up to v the strengths do not fall, past v they are 0.
@@ -53,10 +38,10 @@ fn place_fits(p: Parameters, a: u32) -> bool
 {
     let t = strength_at(p, a);
     if a <= p.v {
-        let before = strength_at(p, a - 1);
-        return before <= t;
+        strength_at(p, a - 1) <= t
+    } else {
+        t == 0
     }
-    t == 0
 }
 
 // The rules on the strengths; n is the length of the code.
@@ -64,23 +49,8 @@ fn strengths_fit(p: Parameters, n: u32) -> bool
     requires { (n ≡ len p) × (1 ≤ n) }
     ensures { result ≡ strengths_fit p }
 {
-    if p.t0 < 1 {
-        return false;
-    }
-    if p.t1 <= p.t0 {
-        return false;
-    }
-    if !place_fits(p, 2) {
-        return false;
-    }
-    if !place_fits(p, 3) {
-        return false;
-    }
     let t = strength_at(p, p.v);
-    if 64 < t {
-        return false;
-    }
-    2 * t <= n - 1
+    1 <= p.t0 && p.t0 < p.t1 && place_fits(p, 2) && place_fits(p, 3) && t <= 64 && 2 * t <= n - 1
 }
 
 // Some d × j is a multiple of n, j from 1 to last. Where no product comes to n there is none.
@@ -115,12 +85,8 @@ fn short_fits(p: Parameters, f: Field) -> bool
     requires { Accepted (unshortened p) × (f ≡ field_at p.q) }
     ensures { result ≡ short_fits p }
 {
-    if p.s == 0 {
-        return true;
-    }
     let t = strength_at(p, p.v);
-    let w = generator_rows::degree(f, t as usize);
-    p.s <= f.order - w - 1
+    p.s == 0 || p.s <= f.order - generator_rows::degree(f, t as usize) - 1
 }
 
 // The parameters, or the first rule that they break.
@@ -166,12 +132,8 @@ pub fn nest(i: usize, l: usize) -> u64
 pub fn nesting_coefficient(i: usize, l: usize) -> Result<u64, Refusal>
     ensures { NestingMade i l result }
 {
-    if 7 < i {
+    if 7 < i || 7 < l {
         return Err(Refusal::Index);
     }
-    if 7 < l {
-        return Err(Refusal::Index);
-    }
-    let c = nest(i, l);
-    Ok(c)
+    Ok(nest(i, l))
 }

@@ -1,4 +1,5 @@
 use mathlib.Core.Path.{sym, ap, ◌∙◌}
+use Rattle.std.proofs.Common.{inl, inr}
 use Prim.Native.Nat.{ℕ, ◌+◌, ◌-◌, ◌^◌, ◌<◌}
 use native.Mathlib.Nat.{pos_of_ne-zero, lt_of_lt_of_le}
 use Rattle.field.specs.Elements.{times}
@@ -21,10 +22,12 @@ module _ (c : After-add_logs-e) where
   below = exponent_lt c.args.f.q c.requires.0.field.known c.add_logs-e.result (c.log-i.result + c.log-j.result) c.add_logs-e.ensures
 
 pub returns-then-a-eq0 : goal.returns-then-a-eq0
-returns-then-a-eq0 c = let s = c.args in sym (ap (λ (x : ℕ). times s.f.q x s.b) c.if-a-eq0.true ∙ times-zero-l s.f.q s.b)
-
-pub returns-then-b-eq0 : goal.returns-then-b-eq0
-returns-then-b-eq0 c = let s = c.args in sym (ap (λ (x : ℕ). times s.f.q s.a x) c.if-b-eq0.true ∙ times-zero-r s.f.q s.a)
+returns-then-a-eq0 c =
+    let s = c.args in
+    elim c.then-a-eq0.either [
+      | inl a ↦ sym (ap (λ (x : ℕ). times s.f.q x s.b) a ∙ times-zero-l s.f.q s.b)
+      | inr b ↦ sym (ap (λ (x : ℕ). times s.f.q s.a x) b.1 ∙ times-zero-r s.f.q s.a)
+    ]
 
 pub log-i-requires : goal.log-i-requires
 log-i-requires c = lt_of_lt_of_le c.requires.1 (log-room c.args.f c.args.powers.now c.args.logs.now c.requires.0)

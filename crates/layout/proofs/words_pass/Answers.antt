@@ -7,19 +7,19 @@ use Rattle.code.specs.declared.Parameters.{Parameters}
 use Rattle.code.specs.Layout.{words_of}
 use Rattle.code.specs.Lists.{each}
 use Rattle.code.specs.Parameters.{Accepted, stored, sub_word_bytes}
-use Rattle.layout.specs.Runs.{run_passes, test_of}
+use Rattle.layout.specs.Runs.{run_passes}
 use Rattle.layout.specs.Sizes.{page-high}
 use Rattle.layout.specs.Tested.{WordsPassed, word_bits, word-there, words-start, words-turn, words-found, words-done}
 use Rattle.layout.proofs.words_pass.Goals as goal
 
 pub all-requires-clause-callable : goal.all-requires-clause-callable
-all-requires-clause-callable c =
+all-requires-clause-callable g c =
     serves_from_Range (λ x q k. search (rules, tests))
     (λ x h j.
     let t : (1 ≤ c.stored_of-n.result) × (c.stored_of-n.result < 4096) × (c.sub_word_bytes-b.result ≡ (c.stored_of-n.result + 7) / 8)
     × (x * c.sub_word_bytes-b.result + c.sub_word_bytes-b.result ≤ length c.args.page.now) =
-    word-there c.args.p c.args.page.now c.requires.0 x _ _ j c.stored_of-n.ensures c.sub_word_bytes-b.ensures c.requires.1 in
-    let m : length c.args.page.now ≤ 4096 = rw c.requires.1 (page-high c.args.p c.requires.0) in
+    word-there c.args.p c.args.page.now c.requires.lengths.0 x _ _ j c.stored_of-n.ensures c.sub_word_bytes-b.ensures c.requires.lengths.1 in
+    let m : length c.args.page.now ≤ 4096 = rw c.requires.lengths.1 (page-high c.args.p c.requires.lengths.0) in
     search rules)
 
 -- the sub-words from i on, n of them, after i that pass
@@ -40,9 +40,8 @@ module _ (P : ℕ → ℕ → Bool) (p : Parameters) (x : List ℕ) (A : Accepte
   from (suc n) i h s = turn i n (omega arith) s (from n (i + 1) (omega arith)) (test i) refl
 
 pub returns : goal.returns
-returns c =
+returns g c = λ P h.
     let a = c.args in
-    let P = test_of a.ones in
-    all_from_yields_List (test P a.p a.page.now c.requires.0 _ _ c.stored_of-n.ensures c.sub_word_bytes-b.ensures) _ _ _ c.all.ensures.ran
-    (YieldsList-from_range 0 a.p.m a.p.m refl (Nat.sub-zero a.p.m)) (λ x b q k. search (rules, tests))
-    ∙ from P a.p a.page.now c.requires.0 _ _ c.stored_of-n.ensures c.sub_word_bytes-b.ensures a.p.m 0 (Nat.zero-add a.p.m) (words-start P a.p a.page.now)
+    all_from_yields_List (test P a.p a.page.now c.requires.lengths.0 _ _ c.stored_of-n.ensures c.sub_word_bytes-b.ensures) _ _ _ c.all.ensures.ran
+    (YieldsList-from_range 0 a.p.m a.p.m refl (Nat.sub-zero a.p.m)) (λ x b q k. (search rules, h c.args.page _ _ _ b refl (search rules)))
+    ∙ from P a.p a.page.now c.requires.lengths.0 _ _ c.stored_of-n.ensures c.sub_word_bytes-b.ensures a.p.m 0 (Nat.zero-add a.p.m) (words-start P a.p a.page.now)

@@ -8,7 +8,7 @@ use Rattle.code.proofs.Odd.{all-open, all_none, all-not-odd, all-not-out}
 use Rattle.code.specs.Parameters.{strength}
 use Rattle.code.specs.Refusals.{open_refusal}
 use Rattle.refusal.proofs.all_refusal.Goals as goal
-use Rattle.refusal.proofs.all_refusal.Goals.{After-strength_at-t}
+use Rattle.refusal.proofs.all_refusal.Goals.{After-strength_at-t, then-odd-t-via-then-odd-t, then-odd-t-via-else-odd-t+then-out-t}
 
 -- nothing is refused before the lengths, and t is the level's strength
 module _ (c : After-strength_at-t) where
@@ -24,10 +24,13 @@ returns-in_err-open_refusal c =
     rw (p.1, p.2) (all-open _ _ _ _ _ _ c.in_err-open_refusal.ensures (refusal-ne _))
 
 pub returns-then-odd-t : goal.returns-then-odd-t
-returns-then-odd-t c = all-not-odd _ _ _ _ _ (opened (goal.at.returns-then-odd-t c).After-strength_at-t) (λ e. c.if-odd-t.true (e ∙ sym (t-is (goal.at.returns-then-odd-t c).After-strength_at-t)))
-
-pub returns-then-out-t : goal.returns-then-out-t
-returns-then-out-t c = all-not-out _ _ _ _ _ (opened (goal.at.returns-then-out-t c).After-strength_at-t) (c.if-odd-t.false ∙ t-is (goal.at.returns-then-out-t c).After-strength_at-t) (λ e. c.if-out-t.true (omega (arith, e, t-is (goal.at.returns-then-out-t c).After-strength_at-t)))
+returns-then-odd-t c =
+    let at-t = (goal.at.returns-then-odd-t c).After-strength_at-t in
+    elim c.then-odd-t.branch [
+      | then-odd-t-via-then-odd-t w ↦ all-not-odd _ _ _ _ _ (opened at-t) (λ e. w.if-odd-t.true (e ∙ sym (t-is at-t)))
+      | then-odd-t-via-else-odd-t+then-out-t w ↦
+          all-not-out _ _ _ _ _ (opened at-t) (w.if-odd-t.false ∙ t-is at-t) (λ e. w.if-out-t.true (omega (arith, e, t-is at-t)))
+    ]
 
 pub returns : goal.returns
 returns c = sym (all_none _ _ _ _ _ (opened (goal.at.returns c).After-strength_at-t) (c.if-odd-t.false ∙ t-is (goal.at.returns c).After-strength_at-t) (omega (arith, c.if-out-t.false, t-is (goal.at.returns c).After-strength_at-t)))

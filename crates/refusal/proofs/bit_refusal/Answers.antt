@@ -10,12 +10,12 @@ returns-in_err-page_refusal c =
     let p = err_from_is_err_and c.from_residual.result c.from_residual.ensures.1 in
     rw (p.1, p.2) (bit-page a.p a.page.now a.i a.r a.b _ c.in_err-page_refusal.ensures (refusal-ne _))
 
-pub returns-then-names_bit : goal.returns-then-names_bit
-returns-then-names_bit c =
+pub returns-then-not-names_bit : goal.returns-then-not-names_bit
+returns-then-not-names_bit c =
     let a = c.args in
-    bit-none a.p a.page.now a.i a.r a.b (sym c.in_ok-page_refusal.ensures) (sym c.if-names_bit.true ∙ c.names_bit.ensures)
+    bit-nine a.p a.page.now a.i a.r a.b (sym c.in_ok-page_refusal.ensures) (sym c.if-not-names_bit.true ∙ c.names_bit.ensures)
 
 pub returns : goal.returns
 returns c =
     let a = c.args in
-    bit-nine a.p a.page.now a.i a.r a.b (sym c.in_ok-page_refusal.ensures) (sym c.if-names_bit.false ∙ c.names_bit.ensures)
+    bit-none a.p a.page.now a.i a.r a.b (sym c.in_ok-page_refusal.ensures) (sym c.if-not-names_bit.false ∙ c.names_bit.ensures)

@@ -1,8 +1,8 @@
-use Rattle.refusal.specs.Tests.{between-zero, between-above}
+use Rattle.std.proofs.Common.{rules, ◌∙◌, ◌≡◌, ◌&&◌, leb}
+use Rattle.refusal.specs.Tests.{between}
 use Rattle.refusal.proofs.count_good.Goals as goal
 
-pub returns-then-count-eq0 : goal.returns-then-count-eq0
-returns-then-count-eq0 c = between-zero 16 c.args.count c.if-count-eq0.true
-
 pub returns : goal.returns
-returns c = between-above 16 c.args.count c.if-count-eq0.false
+returns c =
+    let e : c.contains.result ≡ (leb 1 c.args.count && leb c.args.count 16) = search rules in
+    e ∙ between 16 c.args.count

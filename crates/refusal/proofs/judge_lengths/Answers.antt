@@ -19,7 +19,8 @@ pub page_bytes-requires : goal.page_bytes-requires
 page_bytes-requires c = accepts (goal.at.page_bytes-requires c).In_ok-sheet_refusal
 
 pub returns-then-page-page_bytes : goal.returns-then-page-page_bytes
-returns-then-page-page_bytes c = lengths-exact _ _ (accepts (goal.at.returns-then-page-page_bytes c).In_ok-sheet_refusal) (c.if-page-page_bytes.true ∙ c.page_bytes.ensures)
+returns-then-page-page_bytes c =
+    lengths-other _ _ (accepts (goal.at.returns-then-page-page_bytes c).In_ok-sheet_refusal) (λ e. c.if-page-page_bytes.true (e ∙ sym c.page_bytes.ensures))
 
 pub returns : goal.returns
-returns c = lengths-other _ _ (accepts (goal.at.returns c).In_ok-sheet_refusal) (λ e. c.if-page-page_bytes.false (e ∙ sym c.page_bytes.ensures))
+returns c = lengths-exact _ _ (accepts (goal.at.returns c).In_ok-sheet_refusal) (c.if-page-page_bytes.false ∙ c.page_bytes.ensures)

@@ -58,9 +58,9 @@ returns-then-pages-c c =
 pub returns-then-list-c : goal.returns-then-list-c
 returns-then-list-c c =
     let a = c.args in
-    many-else a.p a.width a.count a.blocks a.pages a.list c.requires.0 (wide (goal.at.returns-then-list-c c).Else-not-width_good) (few (goal.at.returns-then-list-c c).Else-not-count_good) (blocks-fit (goal.at.returns-then-list-c c).Else-blocks-c) (pages-fit (goal.at.returns-then-list-c c).Else-pages-c) c.if-list-c.true
+    many-list a.p a.width a.count a.blocks a.pages a.list c.requires.0 (wide (goal.at.returns-then-list-c c).Else-not-width_good) (few (goal.at.returns-then-list-c c).Else-not-count_good) (blocks-fit (goal.at.returns-then-list-c c).Else-blocks-c) (pages-fit (goal.at.returns-then-list-c c).Else-pages-c) c.if-list-c.true
 
 pub returns : goal.returns
 returns c =
     let a = c.args in
-    many-list a.p a.width a.count a.blocks a.pages a.list c.requires.0 (wide (goal.at.returns c).Else-not-width_good) (few (goal.at.returns c).Else-not-count_good) (blocks-fit (goal.at.returns c).Else-blocks-c) (pages-fit (goal.at.returns c).Else-pages-c) c.if-list-c.false
+    many-else a.p a.width a.count a.blocks a.pages a.list c.requires.0 (wide (goal.at.returns c).Else-not-width_good) (few (goal.at.returns c).Else-not-count_good) (blocks-fit (goal.at.returns c).Else-blocks-c) (pages-fit (goal.at.returns c).Else-pages-c) c.if-list-c.false

@@ -9,8 +9,8 @@ returns-in_err-sheet_refusal c =
     let p = err_from_is_err_and c.from_residual.result c.from_residual.ensures.1 in
     rw (p.1, p.2) (quote-sheet _ _ _ _ c.in_err-sheet_refusal.ensures (refusal-ne _))
 
-pub returns-then-out-eq12 : goal.returns-then-out-eq12
-returns-then-out-eq12 c = sym (quote-none _ _ _ (sym c.in_ok-sheet_refusal.ensures) c.if-out-eq12.true)
+pub returns-then-out-ne12 : goal.returns-then-out-ne12
+returns-then-out-ne12 c = quote-ten _ _ _ (sym c.in_ok-sheet_refusal.ensures) c.if-out-ne12.true
 
 pub returns : goal.returns
-returns c = quote-ten _ _ _ (sym c.in_ok-sheet_refusal.ensures) c.if-out-eq12.false
+returns c = sym (quote-none _ _ _ (sym c.in_ok-sheet_refusal.ensures) c.if-out-ne12.false)

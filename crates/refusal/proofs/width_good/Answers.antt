@@ -1,8 +1,8 @@
-use Rattle.refusal.specs.Tests.{between-zero, between-above}
+use Rattle.std.proofs.Common.{rules, ◌∙◌, ◌≡◌, ◌&&◌, leb}
+use Rattle.refusal.specs.Tests.{between}
 use Rattle.refusal.proofs.width_good.Goals as goal
 
-pub returns-then-width-eq0 : goal.returns-then-width-eq0
-returns-then-width-eq0 c = between-zero 64 c.args.width c.if-width-eq0.true
-
 pub returns : goal.returns
-returns c = between-above 64 c.args.width c.if-width-eq0.false
+returns c =
+    let e : c.contains.result ≡ (leb 1 c.args.width && leb c.args.width 64) = search rules in
+    e ∙ between 64 c.args.width

@@ -7,7 +7,7 @@ use Rattle.element.specs.declared.Field.{Field}
 use Rattle.element.specs.Fields.{is_field, field-sized}
 use Rattle.element.specs.Operations.{refusal-by}
 use Rattle.element.proofs.Field.test.Goals as goal
-use Rattle.element.proofs.Field.test.Goals.{Else-not-known}
+use Rattle.element.proofs.Field.test.Goals.{Else-not-known, then-self-a-via-then-self-a, then-self-a-via-else-self-a+then-self-b}
 
 field : (c : Else-not-known) → is_field c.args.self ≡ true
 field c = sym c.known.ensures ∙ c.if-not-known.false
@@ -29,13 +29,11 @@ pub returns-then-self-a : goal.returns-then-self-a
 returns-then-self-a c =
     let s = c.args in
     let i = field (goal.at.returns-then-self-a c).Else-not-known in
-    sym (refusal-by s.self s.a.0 s.b.0 true false _ i (outside s.self i s.a.0 c.if-self-a.true) refl)
-
-pub returns-then-self-b : goal.returns-then-self-b
-returns-then-self-b c =
-    let s = c.args in
-    let i = field (goal.at.returns-then-self-b c).Else-not-known in
-    sym (refusal-by s.self s.a.0 s.b.0 true true false i (inside s.self i s.a.0 c.if-self-a.false) (outside s.self i s.b.0 c.if-self-b.true))
+    elim c.then-self-a.branch [
+      | then-self-a-via-then-self-a w ↦ sym (refusal-by s.self s.a.0 s.b.0 true false _ i (outside s.self i s.a.0 w.if-self-a.true) refl)
+      | then-self-a-via-else-self-a+then-self-b w ↦
+          sym (refusal-by s.self s.a.0 s.b.0 true true false i (inside s.self i s.a.0 w.if-self-a.false) (outside s.self i s.b.0 w.if-self-b.true))
+    ]
 
 pub returns : goal.returns
 returns c =
