@@ -35,21 +35,17 @@ fn strength_given(input: [u8; 9], a: usize) -> u32
 fn pair(low: u8, high: u8) -> u32
     ensures { result ≡ low + 256 * high }
 {
-    low as u32 + 256 * high as u32
+    u32::from(u16::from_le_bytes([low, high]))
 }
 
 // s, 0 where there is none.
 fn shortening_given(input: [u8; 9]) -> u32
     ensures { result ≡ shortening_read input }
 {
-    let v = input[2] as usize;
-    if v < 1 {
-        return 0;
+    match input[2] as usize {
+        v @ 1..=3 => pair(input[4 + v], input[5 + v]),
+        _ => 0,
     }
-    if 3 < v {
-        return 0;
-    }
-    pair(input[4 + v], input[5 + v])
 }
 
 // The parameters.
