@@ -6,7 +6,7 @@
 --   Widened t b           row n of b, moved up by half, is the sum of these two rows of t
 --   Wide b                so it is, t being the table of a multiple of x^half
 --   Six b b' at x         the row at `at` is x in b'; the rows below are those of b
-use Rattle.std.specs.Prelude.{◌≡◌, refl, List, ℕ, ◌+◌, ◌-◌, ◌*◌, ◌/◌, ◌%◌, ◌^◌, ◌≤◌, ◌<◌, length, get_or, take, drop, set}
+use Rattle.std.specs.Prelude.{◌≡◌, refl, List, ℕ, ◌+◌, ◌*◌, ◌/◌, ◌%◌, ◌^◌, ◌≤◌, ◌<◌, length, get_or, take, drop, set}
 use Rattle.std.proofs.Common.{sym, ap, ap₂, ◌∙◌, subst, arith, length-drop, pow-add, pow_mono, drop-drop, get_or-drop, length-take-le, take-add, below_more}
 use Rattle.std.proofs.Math.Nat as Nat
 use Rattle.std.specs.Int.Bits.{bit_xor}

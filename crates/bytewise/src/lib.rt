@@ -11,6 +11,8 @@ ghost use Rattle.reduction.specs.Reduce.{TopAdded};
 ghost use Rattle.reduction.specs.Table.{MovedUp, Reduced, RemainderBy, four};
 ghost use Rattle.bytewise.specs.Bytes.{half, Six, Wide, Widened, six_at, upper_at};
 
+use kernels::row::Row;
+
 // ---- the table
 
 // The row at `at` is set to the sum of the upper six words of the rows of t at a and c.
@@ -37,8 +39,8 @@ pub fn build(b: &mut [u64], t: &[u64])
 // ---- a step
 
 // Two rows are added into the upper six words of v.
-fn add_rows(v: &mut [u64], b: &[u64], a: usize, c: usize)
-    requires { (length v.old ≡ 12) × (length b.now ≡ 12288) × (a + 6 ≤ 12288) × (c + 6 ≤ 12288) }
+fn add_rows(v: &mut [u64; 12], b: &[u64], a: usize, c: usize)
+    requires { (length b.now ≡ 12288) × (a + 6 ≤ 12288) × (c + 6 ≤ 12288) }
     ensures { (value 64 v.new ≡ xor (value 64 v.old) (xor (six_at b.now a) (six_at b.now c) * 2 ^ half))
         × (take 6 v.new ≡ take 6 v.old) }
 {
@@ -48,8 +50,8 @@ fn add_rows(v: &mut [u64], b: &[u64], a: usize, c: usize)
 }
 
 // Two rows are added, which u's two lowest bytes choose among the 512 rows from 512 k on.
-fn add_two(v: &mut [u64], b: &[u64], k: usize, u: u64)
-    requires { (length v.old ≡ 12) × (length b.now ≡ 12288) × (k < 4) }
+fn add_two(v: &mut [u64; 12], b: &[u64], k: usize, u: u64)
+    requires { (length b.now ≡ 12288) × (k < 4) }
     ensures { ((t : List ℕ) → Widened t b.now → value 64 v.new ≡ xor (value 64 v.old) (four t (64 * k) u))
         × (take 6 v.new ≡ take 6 v.old) }
 {
@@ -60,13 +62,14 @@ fn add_two(v: &mut [u64], b: &[u64], k: usize, u: u64)
 }
 
 // The remainder of top · x^768 is added: the rows that top's bytes choose, up to its highest that is not 0.
-fn add_top(v: &mut [u64], b: &[u64], top: u64)
-    requires { (length v.old ≡ 12) × Wide b.now }
+fn add_top(v: &mut [u64; 12], b: &[u64], top: u64)
+    requires { Wide b.now }
     ensures { ((t : List ℕ) → Widened t b.now → TopAdded t (value 64 v.old) top (value 64 v.new))
         × (take 6 v.new ≡ take 6 v.old) }
 {
     let mut u = top;
     let mut k: usize = 0;
+    // A `while`: it ends where no digit of u is left, and a range has all four places.
     while u != 0 {
         add_two(v, b, k, u);
         u /= 65536;
@@ -75,6 +78,7 @@ fn add_top(v: &mut [u64], b: &[u64], top: u64)
 }
 
 // One step: a whole word u enters at x^768, the register is moved up, and what passes x^768 is reduced.
+// A slice: that each word of r fits at the end is known of a slice, and not of an array after a call.
 fn step(r: &mut [u64], b: &[u64], u: u64)
     requires { (length r.old ≡ 13) × (value 64 r.old < 2 ^ D) × (value 64 r.old % 2 ^ half ≡ 0) × Wide b.now }
     ensures { (t : List ℕ) → Widened t b.now
@@ -90,8 +94,8 @@ fn step(r: &mut [u64], b: &[u64], u: u64)
 // ---- a remainder
 
 // The 64 k coefficients of s from x^w on are fed to a register of 0.
-fn feed(r: &mut [u64], b: &[u64], s: &[u8], k: usize, w: usize)
-    requires { (length r.old ≡ 13) × (value 64 r.old ≡ 0) × Wide b.now × (k < 1000) × (w < 1000) }
+fn feed(r: &mut Row, b: &[u64], s: &[u8], k: usize, w: usize)
+    requires { (value 64 r.old ≡ 0) × Wide b.now × (k < 1000) × (w < 1000) }
     ensures { (t : List ℕ) → Widened t b.now
         → Reduced t (value 8 s.now % 2 ^ (w + 64 * k) / 2 ^ w * 2 ^ D) (value 64 r.new) }
 {
@@ -104,8 +108,8 @@ fn feed(r: &mut [u64], b: &[u64], s: &[u8], k: usize, w: usize)
 }
 
 // The remainder of s by the generator itself, of degree w, in the lowest words of r.
-pub fn remainder_of(r: &mut [u64], b: &[u64], s: &[u8], w: usize)
-    requires { (length r.old ≡ 13) × Wide b.now × (1 ≤ w) × (w ≤ 384) × (length s.now < 1000) }
+pub fn remainder_of(r: &mut Row, b: &[u64], s: &[u8], w: usize)
+    requires { Wide b.now × (1 ≤ w) × (w ≤ 384) × (length s.now < 1000) }
     ensures { (t : List ℕ) → Widened t b.now
         → RemainderBy t (768 - w) (value 8 s.now) (value 64 r.new) }
 {

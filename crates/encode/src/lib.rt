@@ -15,6 +15,7 @@ ghost use Rattle.layout.specs.Written.{written};
 ghost use Rattle.encode.specs.Encoding.{Putting, Writing, word_alone, word_from, word_of};
 
 use code::Parameters;
+use kernels::row::Row;
 
 // The room in which a rule is summed: whole words, with 8 bytes above a sub-word.
 pub fn room_bytes(p: Parameters) -> usize
@@ -104,16 +105,8 @@ fn place(part: &mut [u8], s: &[u8], bits: usize)
 }
 
 // The remainder of acc by level a's generator, of degree w, whose table is t: `width` coefficients a step with hex digits, 64 with bytes.
-pub fn check_of(
-    r: &mut [u64],
-    t: &[u64],
-    acc: &[u8],
-    p: Parameters,
-    a: usize,
-    w: usize,
-    width: usize,
-)
-    requires { Accepted p × (a ≤ p.v) × (w ≡ degree p a) × Loaded p a t.now × (length r.old ≡ 13) × (length acc.now < 1000)
+pub fn check_of(r: &mut Row, t: &[u64], acc: &[u8], p: Parameters, a: usize, w: usize, width: usize)
+    requires { Accepted p × (a ≤ p.v) × (w ≡ degree p a) × Loaded p a t.now × (length acc.now < 1000)
         × (1 ≤ width) × (width ≤ 64) }
     ensures { value 64 r.new ≡ remainder p a (value 8 acc.now) }
 {
@@ -177,8 +170,8 @@ fn ruled_into(acc: &mut [u8], p: Parameters, page: &[u8], i: usize, s: &[u8], bi
 }
 
 // The data s moved up over their check bits r.
-fn put_sub_word(part: &mut [u8], s: &[u8], bits: usize, r: &[u64])
-    requires { (bits ≤ 768) × (bits ≤ 8 * length part.old) × (length part.old < 1000) × (length r.now ≡ 13)
+fn put_sub_word(part: &mut [u8], s: &[u8], bits: usize, r: &Row)
+    requires { (bits ≤ 768) × (bits ≤ 8 * length part.old) × (length part.old < 1000)
         × (value 64 r.now < 2 ^ bits) × (value 8 s.now * 2 ^ bits < 2 ^ (8 * length part.old)) }
     ensures { value 8 part.new ≡ value 8 s.now * 2 ^ bits + value 64 r.now }
 {

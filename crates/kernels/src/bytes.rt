@@ -6,6 +6,7 @@ ghost use Rattle.polynomial.specs.Xor.{xor};
 ghost use Rattle.kernels.specs.Row.{D};
 
 use crate::bits::{bits, bits_up, window_in, word_in};
+use crate::row::Row;
 
 // The 8 bytes at `at` are set to v.
 pub fn put_word(dst: &mut [u8], at: usize, v: u64)
@@ -193,8 +194,8 @@ pub fn store_low(dst: &mut [u8], r: &[u64], w: usize)
 }
 
 // The register r fills the 96 bytes of dst.
-pub fn store(dst: &mut [u8], r: &[u64])
-    requires { (length dst.old ≡ 96) × (length r.now ≡ 13) × (value 64 r.now < 2 ^ D) }
+pub fn store(dst: &mut [u8], r: &Row)
+    requires { (length dst.old ≡ 96) × (value 64 r.now < 2 ^ D) }
     ensures { dst.new ≡ digits 8 96 (value 64 r.now) }
 {
     for k in 0..12 {

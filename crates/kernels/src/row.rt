@@ -6,9 +6,12 @@ ghost use Rattle.polynomial.specs.Xor.{xor};
 
 use std::mem;
 
+// 13 words of a polynomial, lowest first.
+pub type Row = [u64; 13];
+
 // r is moved up by a whole word.
-fn shift_word(r: &mut [u64])
-    requires { (length r.old ≡ 13) × (get_or r.old 12 0 ≡ 0) }
+fn shift_word(r: &mut Row)
+    requires { get_or r.old 12 0 ≡ 0 }
     ensures { value 64 r.new ≡ value 64 r.old * 2 ^ 64 }
 {
     let mut c = 0;
@@ -19,8 +22,8 @@ fn shift_word(r: &mut [u64])
 }
 
 // r is moved up by l places, 1 to 64, into the 13th word.
-pub fn shift(r: &mut [u64], l: usize)
-    requires { (length r.old ≡ 13) × (1 ≤ l) × (l ≤ 64) × (get_or r.old 12 0 ≡ 0) }
+pub fn shift(r: &mut Row, l: usize)
+    requires { (1 ≤ l) × (l ≤ 64) × (get_or r.old 12 0 ≡ 0) }
     ensures { value 64 r.new ≡ value 64 r.old * 2 ^ l }
 {
     if l == 64 {
@@ -37,8 +40,8 @@ pub fn shift(r: &mut [u64], l: usize)
 }
 
 // u is added at place p.
-pub fn insert(r: &mut [u64], u: u64, p: usize)
-    requires { (length r.old ≡ 13) × (p < 768) }
+pub fn insert(r: &mut Row, u: u64, p: usize)
+    requires { p < 768 }
     ensures { value 64 r.new ≡ xor (value 64 r.old) (u * 2 ^ p) }
 {
     let q = p / 64;
@@ -48,8 +51,7 @@ pub fn insert(r: &mut [u64], u: u64, p: usize)
 }
 
 // g is added into e.
-pub fn add(e: &mut [u64], g: &[u64])
-    requires { (length e.old ≡ 13) × (length g.now ≡ 13) }
+pub fn add(e: &mut Row, g: &Row)
     ensures { value 64 e.new ≡ xor (value 64 e.old) (value 64 g.now) }
 {
     for j in 0..13 {
@@ -96,8 +98,8 @@ fn window_up(g: &[u64], up: usize, pos: usize) -> u64
 }
 
 // g, of degree w at most, is moved up in r so that x^w stands at x^768.
-pub fn align(r: &mut [u64], g: &[u64], w: usize)
-    requires { (length r.old ≡ 13) × (w ≤ 768) × (value 64 g.now < 2 ^ (w + 1)) }
+pub fn align(r: &mut Row, g: &[u64], w: usize)
+    requires { (w ≤ 768) × (value 64 g.now < 2 ^ (w + 1)) }
     ensures { value 64 r.new ≡ value 64 g.now * 2 ^ (768 - w) }
 {
     let s = 768 - w;
@@ -107,8 +109,8 @@ pub fn align(r: &mut [u64], g: &[u64], w: usize)
 }
 
 // r is moved down by s places; what passes x^0 is lost.
-pub fn lower(r: &mut [u64], s: usize)
-    requires { (length r.old ≡ 13) × (s ≤ 768) }
+pub fn lower(r: &mut Row, s: usize)
+    requires { s ≤ 768 }
     ensures { value 64 r.new ≡ value 64 r.old / 2 ^ s }
 {
     for i in 0..13 {
@@ -117,8 +119,8 @@ pub fn lower(r: &mut [u64], s: usize)
 }
 
 // The degree of r.
-pub fn degree_of(r: &[u64]) -> usize
-    requires { (length r.now ≡ 13) × (0 < value 64 r.now) }
+pub fn degree_of(r: &Row) -> usize
+    requires { 0 < value 64 r.now }
     ensures { result ≡ deg (value 64 r.now) }
 {
     let i = r.iter().rposition(|w| *w != 0).unwrap();

@@ -11,6 +11,7 @@ ghost use Rattle.levels.specs.Ready.{Prepared};
 
 use code::Parameters;
 use element::Field;
+use kernels::row::Row;
 
 // The rows of an accepted sheet's generators, by level; rows past v are 0.
 pub fn rows(p: Parameters) -> [[u64; 13]; 4]
@@ -79,8 +80,8 @@ pub fn prepare(t: &mut [u64], p: Parameters, rows: [[u64; 13]; 4], a: usize, w: 
 }
 
 // The remainder of the word s, of n places at most, by level a's generator, whose table is t.
-pub fn remainder_at(r: &mut [u64], t: &[u64], s: &[u8], n: usize, p: Parameters, a: usize, w: usize)
-    requires { Accepted p × (a ≤ p.v) × (w ≡ degree p a) × Prepared p a t.now × (n < 4096) × (value 8 s.now < 2 ^ n) × (length r.old ≡ 13) }
+pub fn remainder_at(r: &mut Row, t: &[u64], s: &[u8], n: usize, p: Parameters, a: usize, w: usize)
+    requires { Accepted p × (a ≤ p.v) × (w ≡ degree p a) × Prepared p a t.now × (n < 4096) × (value 8 s.now < 2 ^ n) }
     ensures { value 64 r.new ≡ remainder p a (value 8 s.now) }
 {
     reduction::remainder::remainder_of(r, t, s, n, 64, 768 - w);

@@ -11,9 +11,9 @@ ghost use Rattle.reduction.specs.Sum.{Copied};
 ghost use Rattle.reduction.specs.Table.{MovedUp, RemainderBy, row_at, four, Reduced};
 
 use kernels::bits::bits;
-use kernels::row::{clear, insert, lower, shift};
+use kernels::row::{Row, clear, insert, lower, shift};
 
-// The words of src from `from` on, below the 13th, are copied to dst.
+// The words of src from `from` on, below the 13th, are copied to dst. Slices: rows of 12 words and of 13.
 pub fn copy(dst: &mut [u64], src: &[u64], from: usize)
     requires { (12 ≤ length dst.old) × (12 ≤ length src.now) × (from ≤ 12) × (take from dst.old ≡ take from src.now) }
     ensures { Copied dst.old dst.new src.now 12 }
@@ -22,7 +22,7 @@ pub fn copy(dst: &mut [u64], src: &[u64], from: usize)
 }
 
 // Four rows are added, which stand at a, b, c and d; their words below `from` are 0.
-fn add_rows(v: &mut [u64], t: &[u64], a: usize, b: usize, c: usize, d: usize, from: usize)
+fn add_rows(v: &mut [u64; 12], t: &[u64], a: usize, b: usize, c: usize, d: usize, from: usize)
     requires { Adding v.old t.now from
         × RowFrom t.now a from × RowFrom t.now b from × RowFrom t.now c from × RowFrom t.now d from }
     ensures { (value 64 v.new ≡ xor (value 64 v.old)
@@ -35,7 +35,7 @@ fn add_rows(v: &mut [u64], t: &[u64], a: usize, b: usize, c: usize, d: usize, fr
 }
 
 // Four rows are added, which u's four lowest hex digits choose among the 64 rows from 64 k on.
-fn add_four(v: &mut [u64], t: &[u64], k: usize, u: u64, from: usize)
+fn add_four(v: &mut [u64; 12], t: &[u64], k: usize, u: u64, from: usize)
     requires { Adding v.old t.now from × MovedUp t.now (64 * from) × (k < 4) }
     ensures { (value 64 v.new ≡ xor (value 64 v.old) (four t.now (64 * k) u))
         × (take from v.new ≡ take from v.old) }
@@ -49,13 +49,14 @@ fn add_four(v: &mut [u64], t: &[u64], k: usize, u: u64, from: usize)
 }
 
 // The remainder of top · x^768 is added: the rows that top's hex digits choose, up to its highest that is not 0.
-fn add_top(v: &mut [u64], t: &[u64], top: u64, from: usize)
+fn add_top(v: &mut [u64; 12], t: &[u64], top: u64, from: usize)
     requires { Adding v.old t.now from × MovedUp t.now (64 * from) }
     ensures { TopAdded t.now (value 64 v.old) top (value 64 v.new)
         × (take from v.new ≡ take from v.old) }
 {
     let mut u = top;
     let mut k: usize = 0;
+    // A `while`: it ends where no digit of u is left, and a range has all four places.
     while u != 0 {
         add_four(v, t, k, u, from);
         u /= 65536;
@@ -64,6 +65,7 @@ fn add_top(v: &mut [u64], t: &[u64], top: u64, from: usize)
 }
 
 // What stands in the 13th word is reduced; the words below `from` are 0, and stay it.
+// A slice: that each word of r fits at the end is known of a slice, and not of an array after a call.
 fn reduce(r: &mut [u64], t: &[u64], from: usize)
     requires { Reducing r.old t.now (64 * from) }
     ensures { Reduced t.now (value 64 r.old) (value 64 r.new) }
@@ -79,7 +81,7 @@ fn reduce(r: &mut [u64], t: &[u64], from: usize)
 
 // One step: the register is moved up by l places, u is added at place p, and what passes x^768 is reduced. All is a multiple of x^p: from
 // p = 384 on the lower six words are 0. Each call has its own number, so that the compiler makes straight code of the loops over words.
-pub fn step(r: &mut [u64], t: &[u64], u: u64, l: usize, p: usize)
+pub fn step(r: &mut Row, t: &[u64], u: u64, l: usize, p: usize)
     requires { Stepping r.old t.now p × (1 ≤ l) × (l ≤ 64) }
     ensures { Reduced t.now (xor (value 64 r.old * 2 ^ l) (u * 2 ^ p)) (value 64 r.new) }
 {
@@ -93,8 +95,8 @@ pub fn step(r: &mut [u64], t: &[u64], u: u64, l: usize, p: usize)
 }
 
 // The words of src from `from` on, below the 12th, are copied to dst, each one place higher.
-pub fn copy_next(dst: &mut [u64], src: &[u64], from: usize)
-    requires { (length dst.old ≡ 12) × (12 ≤ length src.now) × (from ≤ 11)
+pub fn copy_next(dst: &mut [u64; 12], src: &[u64], from: usize)
+    requires { (12 ≤ length src.now) × (from ≤ 11)
         × (value 64 (take (from + 1) dst.old) ≡ value 64 (take from src.now) * 2 ^ 64) }
     ensures { (value 64 dst.new ≡ value 64 (take 11 src.now) * 2 ^ 64)
         × (take (from + 1) dst.new ≡ take (from + 1) dst.old) }
@@ -104,6 +106,7 @@ pub fn copy_next(dst: &mut [u64], src: &[u64], from: usize)
 
 // A step by a whole word that enters at x^768: the register is moved up, and what passes x^768 is reduced with u.
 // The words below `from` are 0, and stay it.
+// A slice: that each word of r fits at the end is known of a slice, and not of an array after a call.
 fn step_word(r: &mut [u64], t: &[u64], u: u64, from: usize)
     requires { Stepping r.old t.now (64 * from) }
     ensures { Reduced t.now (xor (value 64 r.old * 2 ^ 64) (u * 2 ^ D)) (value 64 r.new) }
@@ -116,7 +119,7 @@ fn step_word(r: &mut [u64], t: &[u64], u: u64, from: usize)
 }
 
 // The same, where all is a multiple of x^p.
-fn step_whole(r: &mut [u64], t: &[u64], u: u64, p: usize)
+fn step_whole(r: &mut Row, t: &[u64], u: u64, p: usize)
     requires { Stepping r.old t.now p }
     ensures { Reduced t.now (xor (value 64 r.old * 2 ^ 64) (u * 2 ^ D)) (value 64 r.new) }
 {
@@ -128,8 +131,8 @@ fn step_whole(r: &mut [u64], t: &[u64], u: u64, p: usize)
 }
 
 // The lower 12 words of r, moved up by l places, are added into v; what passes x^768 is lost.
-fn add_shifted(v: &mut [u64], r: &[u64], l: usize)
-    requires { (length v.old ≡ 12) × (12 ≤ length r.now) × (1 ≤ l) × (l < 64) }
+fn add_shifted(v: &mut [u64; 12], r: &[u64], l: usize)
+    requires { (12 ≤ length r.now) × (1 ≤ l) × (l < 64) }
     ensures { value 64 v.new ≡ xor (value 64 v.old) (value 64 (take 12 r.now) * 2 ^ l % 2 ^ D) }
 {
     let mut c: u64 = 0;
@@ -141,6 +144,7 @@ fn add_shifted(v: &mut [u64], r: &[u64], l: usize)
 }
 
 // A step by l places, fewer than 64, that enters at x^768.
+// A slice: that each word of r fits at the end is known of a slice, and not of an array after a call.
 fn step_part(r: &mut [u64], t: &[u64], u: u64, l: usize)
     requires { Stepping r.old t.now 0 × (1 ≤ l) × (l < 64) }
     ensures { Reduced t.now (xor (value 64 r.old * 2 ^ l) (u * 2 ^ D)) (value 64 r.new) }
@@ -154,8 +158,8 @@ fn step_part(r: &mut [u64], t: &[u64], u: u64, l: usize)
 
 // The coefficients of s from x^w on, below x^n, are fed to a register of 0 at x^768 in whole words, as far as these reach: down to the
 // place that is handed back. The register is kept aside, where the compiler can hold it from step to step.
-fn feed_words(r: &mut [u64], t: &[u64], s: &[u8], n: usize, w: usize, p: usize) -> usize
-    requires { (length r.old ≡ 13) × (length t.now ≡ 3072) × (p < 768) × (value 64 r.old ≡ 0) × (w ≤ n) × (n < 1000000)
+fn feed_words(r: &mut Row, t: &[u64], s: &[u8], n: usize, w: usize, p: usize) -> usize
+    requires { (length t.now ≡ 3072) × (p < 768) × (value 64 r.old ≡ 0) × (w ≤ n) × (n < 1000000)
         × MovedUp t.now p }
     ensures { (w ≤ result) × (result ≤ n) × (result < w + 64)
         × Reduced t.now (value 8 s.now % 2 ^ n / 2 ^ result * 2 ^ D) (value 64 r.new) }
@@ -172,8 +176,8 @@ fn feed_words(r: &mut [u64], t: &[u64], s: &[u8], n: usize, w: usize, p: usize) 
 
 // The same down to x^w, l at a time, the short chunk last. l is not in the result. Whole words have a loop of their own, and only there the
 // words that are 0 are left out: a loop that took all would not be held in registers.
-fn feed_top(r: &mut [u64], t: &[u64], s: &[u8], n: usize, w: usize, l: usize, p: usize)
-    requires { (length r.old ≡ 13) × (length t.now ≡ 3072) × (p < 768) × (value 64 r.old ≡ 0) × (w ≤ n) × (n < 1000000)
+fn feed_top(r: &mut Row, t: &[u64], s: &[u8], n: usize, w: usize, l: usize, p: usize)
+    requires { (length t.now ≡ 3072) × (p < 768) × (value 64 r.old ≡ 0) × (w ≤ n) × (n < 1000000)
         × MovedUp t.now p × (1 ≤ l) × (l ≤ 64) }
     ensures { Reduced t.now (value 8 s.now % 2 ^ n / 2 ^ w * 2 ^ D) (value 64 r.new) }
 {
@@ -195,8 +199,8 @@ fn feed_top(r: &mut [u64], t: &[u64], s: &[u8], n: usize, w: usize, l: usize, p:
 }
 
 // The k lowest coefficients of s are added.
-pub fn add_low(r: &mut [u64], s: &[u8], k: usize)
-    requires { (length r.old ≡ 13) × (k ≤ 768) }
+pub fn add_low(r: &mut Row, s: &[u8], k: usize)
+    requires { k ≤ 768 }
     ensures { value 64 r.new ≡ xor (value 64 r.old) (value 8 s.now % 2 ^ k) }
 {
     let c = k / 64;
@@ -210,8 +214,8 @@ pub fn add_low(r: &mut [u64], s: &[u8], k: usize)
 
 // The remainder of the n lowest coefficients of s by the generator itself, of degree w = 768 - p, in the lowest words of r: what stands
 // from x^w on is fed, and the register is moved down; what stands below is its own remainder.
-pub fn remainder_of(r: &mut [u64], t: &[u64], s: &[u8], n: usize, l: usize, p: usize)
-    requires { (length r.old ≡ 13) × (length t.now ≡ 3072) × (1 ≤ l) × (l ≤ 64) × (p < 768) × (n < 1000000) × MovedUp t.now p }
+pub fn remainder_of(r: &mut Row, t: &[u64], s: &[u8], n: usize, l: usize, p: usize)
+    requires { (length t.now ≡ 3072) × (1 ≤ l) × (l ≤ 64) × (p < 768) × (n < 1000000) × MovedUp t.now p }
     ensures { RemainderBy t.now p (value 8 s.now % 2 ^ n) (value 64 r.new) }
 {
     let w = 768 - p;

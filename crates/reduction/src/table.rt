@@ -10,6 +10,8 @@ ghost use Rattle.kernels.specs.Row.{D};
 ghost use Rattle.reduction.specs.Build.{Begun, Grown, PowerOfTwo, Put};
 ghost use Rattle.reduction.specs.Table.{hex, row_at, Table};
 
+use kernels::row::Row;
+
 // The row at `at` is set to 0.
 fn clear_row(t: &mut [u64], at: usize)
     requires { (length t.old ≡ 3072) × (at + 12 ≤ 3072) }
@@ -18,7 +20,7 @@ fn clear_row(t: &mut [u64], at: usize)
     t[at..at + 12].fill(0);
 }
 
-// The row at `at` is set to v.
+// The row at `at` is set to v. A slice: `build` has the lower 12 of 13 words.
 fn put_row(t: &mut [u64], v: &[u64], at: usize)
     requires { (length t.old ≡ 3072) × (length v.now ≡ 12) × (at + 12 ≤ 3072) }
     ensures { Put t.old t.new at (value 64 v.now) }
@@ -30,8 +32,8 @@ fn put_row(t: &mut [u64], v: &[u64], at: usize)
 }
 
 // The row at `at` is added into v.
-fn add_row(v: &mut [u64], t: &[u64], at: usize)
-    requires { (length v.old ≡ 12) × (length t.now ≡ 3072) × (at + 12 ≤ 3072) }
+fn add_row(v: &mut [u64; 12], t: &[u64], at: usize)
+    requires { (length t.now ≡ 3072) × (at + 12 ≤ 3072) }
     ensures { value 64 v.new ≡ xor (value 64 v.old) (row_at t.now at) }
 {
     for j in 0..v.len() {
@@ -41,8 +43,8 @@ fn add_row(v: &mut [u64], t: &[u64], at: usize)
 
 // The row at `at`, moved up by s places, is added into v; what passes x^768 is lost. The word that stands before the row is 0, so that
 // the lowest word is no case of its own.
-fn add_moved(v: &mut [u64], t: &[u64], at: usize, s: usize)
-    requires { (length v.old ≡ 12) × (length t.now ≡ 3072) × (1 ≤ at) × (at + 12 ≤ 3072) × (get_or t.now (at - 1) 0 ≡ 0)
+fn add_moved(v: &mut [u64; 12], t: &[u64], at: usize, s: usize)
+    requires { (length t.now ≡ 3072) × (1 ≤ at) × (at + 12 ≤ 3072) × (get_or t.now (at - 1) 0 ≡ 0)
         × (1 ≤ s) × (s < 64) }
     ensures { value 64 v.new ≡ xor (value 64 v.old) (row_at t.now at * 2 ^ s % 2 ^ D) }
 {
@@ -108,8 +110,8 @@ fn place(t: &mut [u64], k: usize)
 }
 
 // The table of the generator g.
-pub fn build(t: &mut [u64], g: &[u64])
-    requires { (length t.old ≡ 3072) × (length g.now ≡ 13) × Deg (value 64 g.now) D }
+pub fn build(t: &mut [u64], g: &Row)
+    requires { (length t.old ≡ 3072) × Deg (value 64 g.now) D }
     ensures { Table (value 64 g.now) t.new }
 {
     clear_row(t, 0);

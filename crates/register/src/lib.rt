@@ -11,6 +11,7 @@ ghost use Rattle.code.specs.Parameters.{Accepted};
 ghost use Rattle.register.specs.Register.{value_of, refused_with, OpenedAs, FedAs};
 
 use code::{Outcome, Parameters, Refusal};
+use kernels::row::Row;
 
 // A level, the count of coefficients taken, and the remainder by the level's generator in 12 words, lowest first.
 #[derive(Clone, Copy)]
@@ -31,8 +32,7 @@ pub struct Fed {
 // ---- the remainder
 
 // The 12 lower words of a row.
-fn low_words(r: &[u64]) -> [u64; 12]
-    requires { length r.now ≡ 13 }
+fn low_words(r: &Row) -> [u64; 12]
     ensures { result ≡ digits 64 12 (value 64 r.now) }
 {
     let mut low = [0u64; 12];

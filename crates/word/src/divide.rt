@@ -5,13 +5,13 @@ ghost use Rattle.polynomial.specs.Division.{Deg, rem, quot};
 ghost use Rattle.kernels.specs.Row.{D};
 ghost use Rattle.word.specs.Quotient.{Stepped};
 
-use kernels::row::{add, align, clear, insert, shift};
+use kernels::row::{Row, add, align, clear, insert, shift};
 use reduction::remainder::remainder_of;
 use reduction::table::build;
 
 // The remainder of the n lowest coefficients of s by g, of degree w. A g of degree 0 is 1, and all is a multiple of it.
-pub fn remainder_by(r: &mut [u64], g: &[u64], w: usize, s: &[u8], n: usize)
-    requires { (length r.old ≡ 13) × Deg (value 64 g.now) w × (w ≤ 768) × (n < 1000000) }
+pub fn remainder_by(r: &mut Row, g: &[u64], w: usize, s: &[u8], n: usize)
+    requires { Deg (value 64 g.now) w × (w ≤ 768) × (n < 1000000) }
     ensures { value 64 r.new ≡ rem (value 64 g.now) w (value 8 s.now % 2 ^ n) }
 {
     if w == 0 {
@@ -26,8 +26,8 @@ pub fn remainder_by(r: &mut [u64], g: &[u64], w: usize, s: &[u8], n: usize)
 }
 
 // One more coefficient of the quotient q: the rest r is moved up, and where it reaches the degree of g, 768, g is taken away.
-fn divide_step(q: &mut [u64], r: &mut [u64], g: &[u64])
-    requires { (length q.old ≡ 13) × (length r.old ≡ 13) × (length g.now ≡ 13) × Deg (value 64 g.now) D
+fn divide_step(q: &mut Row, r: &mut Row, g: &Row)
+    requires { Deg (value 64 g.now) D
         × (value 64 q.old < 2 ^ D) × (value 64 r.old < 2 ^ D) }
     ensures { Stepped (value 64 g.now) (value 64 q.old) (value 64 r.old) (value 64 q.new)
         (value 64 r.new) }
@@ -41,8 +41,8 @@ fn divide_step(q: &mut [u64], r: &mut [u64], g: &[u64])
 }
 
 // The quotient of f, of degree u, by g, of degree w.
-pub fn quotient(q: &mut [u64], f: &[u64], u: usize, g: &[u64], w: usize)
-    requires { (length q.old ≡ 13) × Deg (value 64 f.now) u × Deg (value 64 g.now) w × (w ≤ u) × (u ≤ 768) }
+pub fn quotient(q: &mut Row, f: &[u64], u: usize, g: &[u64], w: usize)
+    requires { Deg (value 64 f.now) u × Deg (value 64 g.now) w × (w ≤ u) × (u ≤ 768) }
     ensures { value 64 q.new ≡ quot (value 64 g.now) w (value 64 f.now) }
 {
     let mut a = [0u64; 13];

@@ -13,6 +13,7 @@ ghost use Rattle.word.specs.WordBytes.{WordIs};
 use crate::divide::{quotient, remainder_by};
 use code::Parameters;
 use element::Field;
+use kernels::row::Row;
 
 mod divide; // remainders and quotients by any row
 
@@ -36,8 +37,8 @@ fn places_in(p: Parameters, bytes: usize) -> usize
 }
 
 // The remainder of s by level a's generator, and that generator's degree.
-pub fn level_remainder(r: &mut [u64], p: Parameters, a: usize, s: &[u8]) -> usize
-    requires { Accepted p × (a ≤ p.v) × (length r.old ≡ 13) × (value 8 s.now < 2 ^ len p) }
+pub fn level_remainder(r: &mut Row, p: Parameters, a: usize, s: &[u8]) -> usize
+    requires { Accepted p × (a ≤ p.v) × (value 8 s.now < 2 ^ len p) }
     ensures { (result ≡ degree p a) × (value 64 r.new ≡ remainder p a (value 8 s.now)) }
 {
     let rows = levels::rows(p);
@@ -77,8 +78,8 @@ pub fn all_from(list: &mut [u16], p: Parameters, odd: &[u16])
 }
 
 // The divisor g_(v-l) / g_0, and its degree.
-fn divisor_row(d: &mut [u64], p: Parameters, l: usize) -> usize
-    requires { Accepted p × (length d.old ≡ 13) }
+fn divisor_row(d: &mut Row, p: Parameters, l: usize) -> usize
+    requires { Accepted p }
     ensures { (result ≡ deg (divisor p l)) × (value 64 d.new ≡ divisor p l) }
 {
     let rows = levels::rows(p);

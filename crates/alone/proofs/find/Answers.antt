@@ -1,4 +1,3 @@
-use borrow.Author.Rules.{rules}
 use mathlib.Core.Path.{◌≡◌, refl, sym, ap, ◌∙◌}
 use Prim.Native.Nat.{◌^◌, ◌<◌, zero-le}
 use native.Mathlib.Omega.{arith}
@@ -41,7 +40,6 @@ remainder_at-requires c =
       c.requires.1,
       rw c.stored_of-z.ensures (stored-high a.p c.requires.0.accepts),
       rw (c.sub_word-s.ensures, c.stored_of-z.ensures) (part-is a.p c.requires.0.accepts a.page.now c.requires.3 a.i c.requires.4),
-      search rules,
     )
 
 pub returns-then-is_zero : goal.returns-then-is_zero

@@ -7,18 +7,18 @@ use Rattle.reduction.specs.Reduce.{top_start, top-more, top-turn, top-done}
 use Rattle.bytewise.proofs.add_top.Goals as goal
 
 pub loop-u-init : goal.loop-u-init
-loop-u-init c = (c.requires.0, refl, λ t W. top_start _ _ _ c.ranges.top.fits)
+loop-u-init c = (search rules, refl, λ t W. top_start _ _ _ c.ranges.top.fits)
 
 pub add_two-requires : goal.add_two-requires
 add_two-requires c =
     let l = c.loop-u in
-    let w = c.requires.1 in
-    (l.invariant.0, w.words, top-more _ _ _ _ l.u l.k c.loop-u-test.true (l.invariant.2 w.hex w.widened))
+    let w = c.requires in
+    (w.words, top-more _ _ _ _ l.u l.k c.loop-u-test.true (l.invariant.2 w.hex w.widened))
 
 pub overflow_add-k : goal.overflow_add-k
 overflow_add-k c =
     let l = c.loop-u in
-    let w = c.requires.1 in
+    let w = c.requires in
     let h = (l.invariant.2 w.hex w.widened).four in
     search rules
 
@@ -30,10 +30,10 @@ loop-u-smaller c =
 pub loop-u-preserved : goal.loop-u-preserved
 loop-u-preserved c =
     let l = c.loop-u in
-    let w = c.requires.1 in
+    let w = c.requires in
     let q = c.add_two in
     let m : l.k < 4 = top-more _ _ _ _ l.u l.k c.loop-u-test.true (l.invariant.2 w.hex w.widened) in
-    (q.auto.v ∙ l.invariant.0, q.ensures.1 ∙ l.invariant.1, λ t W. top-turn _ _ _ (value 64 l.v) _ l.u l.k m (q.ensures.0 t W) (l.invariant.2 t W))
+    (q.array_long, q.ensures.1 ∙ l.invariant.1, λ t W. top-turn _ _ _ (value 64 l.v) _ l.u l.k m (q.ensures.0 t W) (l.invariant.2 t W))
 
 pub returns : goal.returns
 returns c =

@@ -8,4 +8,4 @@ pub returns : goal.returns
 returns c =
     let a = c.args in
     let q = c.add_rows.ensures in
-    (λ t W. q.0 ∙ ap (xor _) (two-four t a.b.now W a.k a.u c.requires.2), q.1)
+    (λ t W. q.0 ∙ ap (xor _) (two-four t a.b.now W a.k a.u c.requires.1), q.1)

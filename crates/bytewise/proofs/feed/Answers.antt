@@ -2,6 +2,7 @@
 use mathlib.Core.Path.{◌≡◌, refl, subst, ◌∙◌}
 use Prim.Native.Nat.{ℕ, ◌+◌, ◌-◌, ◌*◌, ◌/◌, ◌%◌, ◌^◌, ◌≤◌}
 use native.Mathlib.Omega.{arith}
+use borrow.Author.Rules.{rules}
 use Rattle.polynomial.specs.Digits.{value}
 use Rattle.kernels.specs.Row.{D, D-is}
 use Rattle.kernels.specs.Shift.{up-all}
@@ -18,7 +19,7 @@ loop-i-init c =
 pub step-requires : goal.step-requires
 step-requires c =
     let l = c.loop-i in
-    let b = c.requires.2 in
+    let b = c.requires.1 in
     let q = l.invariant.1 b.hex b.widened in
     let h : half ≤ D = omega (arith, D-is, half_is) in
     (l.invariant.0, q.small, reduced-low b.hex half _ (value 64 l.v) (omega (arith, half_is)) b.moved (up-all _ D half h) q, b)
@@ -44,5 +45,5 @@ returns c =
     let l = c.loop-i in
     let a = c.args in
     let e : a.w + 64 * l.i ≡ a.w = omega arith in
-    λ t W. rw (taken-over a.r.now x.new.dst l.v c.requires.0 (x.auto.dst ∙ c.requires.0) l.invariant.0 c.requires.1 (l.invariant.1 t W).small x.ensures)
+    λ t W. rw (taken-over a.r.now x.new.dst l.v (search rules) (search rules) l.invariant.0 c.requires.0 (l.invariant.1 t W).small x.ensures)
     (subst (λ (j : ℕ). Reduced t (value 8 a.s.now % 2 ^ (a.w + 64 * a.k) / 2 ^ j * 2 ^ D) (value 64 l.v)) e (l.invariant.1 t W))

@@ -1,4 +1,3 @@
-use mathlib.Core.Path.{◌∙◌}
 use Prim.Native.Nat.{◌+◌, ◌-◌, ◌*◌, ◌≤◌}
 use native.Mathlib.Nat as Nat
 use native.Mathlib.Omega.{arith}
@@ -13,10 +12,10 @@ returns-then-n-w c =
     let a = c.args in
     let n = 8 * length a.s.now in
     λ t W. whole-remainder t a.s.now (768 - a.w) n _ (λ i. (c.type_inv.s i).fits) (Nat.le_refl n)
-    (short-rest t (768 - a.w) n (value 8 a.s.now) _ _ (omega (arith, c.requires.2)) (omega (arith, c.if-n-w.true, c.requires.3)) c.clear.ensures c.add_low.ensures)
+    (short-rest t (768 - a.w) n (value 8 a.s.now) _ _ (omega (arith, c.requires.1)) (omega (arith, c.if-n-w.true, c.requires.2)) c.clear.ensures c.add_low.ensures)
 
 pub feed-requires : goal.feed-requires
-feed-requires c = (c.clear.auto.r ∙ c.requires.0, c.clear.ensures, c.requires.1, omega (arith, c.requires.4), omega (arith, c.requires.3))
+feed-requires c = (c.clear.ensures, c.requires.0, omega (arith, c.requires.3), omega (arith, c.requires.2))
 
 pub returns-else-n-w : goal.returns-else-n-w
 returns-else-n-w c =
@@ -25,4 +24,4 @@ returns-else-n-w c =
     let n = a.w + 64 * c.div_ceil-k.result in
     let h : l ≤ n = omega (arith, c.div_ceil-k.ensures) in
     λ t W. whole-remainder t a.s.now (768 - a.w) n _ (λ i. (c.type_inv.s i).fits) h
-    (whole-rest t (768 - a.w) n a.w (value 8 a.s.now) _ _ _ (omega (arith, c.requires.2)) (omega (arith, c.requires.3)) (omega arith) (c.feed.ensures t W) c.lower.ensures c.add_low-else-n-w.ensures)
+    (whole-rest t (768 - a.w) n a.w (value 8 a.s.now) _ _ _ (omega (arith, c.requires.1)) (omega (arith, c.requires.2)) (omega arith) (c.feed.ensures t W) c.lower.ensures c.add_low-else-n-w.ensures)

@@ -17,7 +17,7 @@ overflow_sub-w c = omega (arith, c.requires.2, degree-high c.args.p (accepted c.
 pub remainder_of-requires : goal.remainder_of-requires
 remainder_of-requires c =
     let P = c.requires.3.plain c.if-t-eq3072.true in
-    (c.requires.4, P.words, c.requires.6, c.requires.7, omega (arith, c.requires.2, degree-low c.args.p c.requires.0 c.args.a c.requires.1), omega (arith, c.requires.5), prepared-up c.args.p c.args.a c.args.w c.args.t.now c.requires.2 P)
+    (P.words, c.requires.5, c.requires.6, omega (arith, c.requires.2, degree-low c.args.p c.requires.0 c.args.a c.requires.1), omega (arith, c.requires.4), prepared-up c.args.p c.args.a c.args.w c.args.t.now c.requires.2 P)
 
 pub returns-then-t-eq3072 : goal.returns-then-t-eq3072
 returns-then-t-eq3072 c =
@@ -28,7 +28,7 @@ returns-then-t-eq3072 c =
 pub remainder_of-requires-else-t-eq3072 : goal.remainder_of-requires-else-t-eq3072
 remainder_of-requires-else-t-eq3072 c =
     let B = c.requires.3.bytes c.if-t-eq3072.false in
-    (c.requires.4, byte-wide c.args.p c.args.a c.args.t.now B, omega (arith, c.requires.2, degree-low c.args.p c.requires.0 c.args.a c.requires.1), omega (arith, c.requires.2, B.short), c.requires.5)
+    (byte-wide c.args.p c.args.a c.args.t.now B, omega (arith, c.requires.2, degree-low c.args.p c.requires.0 c.args.a c.requires.1), omega (arith, c.requires.2, B.short), c.requires.4)
 
 pub returns-else-t-eq3072 : goal.returns-else-t-eq3072
 returns-else-t-eq3072 c =

@@ -7,10 +7,10 @@ use Rattle.polynomial.specs.Digits.{value}
 use Rattle.encode.proofs.put_sub_word.Goals as goal
 
 pub place-requires : goal.place-requires
-place-requires c = (omega (arith, c.requires.0), c.requires.2, c.requires.5)
+place-requires c = (omega (arith, c.requires.0), c.requires.2, c.requires.4)
 
 pub store_low-requires : goal.store_low-requires
-store_low-requires c = (omega (arith, c.requires.0, c.requires.3), search rules, c.requires.4, rw c.place.ensures (Nat.mul-mod_left _ _))
+store_low-requires c = (omega (arith, c.requires.0), search rules, c.requires.3, rw c.place.ensures (Nat.mul-mod_left _ _))
 
 pub returns : goal.returns
 returns c = c.store_low.ensures ∙ ap (λ (x : ℕ). x + value 64 c.args.r.now) c.place.ensures

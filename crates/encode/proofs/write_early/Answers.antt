@@ -1,4 +1,4 @@
-use mathlib.Core.Path.{refl, sym, ap, ◌∙◌}
+use mathlib.Core.Path.{sym, ap, ◌∙◌}
 use native.Mathlib.Omega.{arith}
 use Prim.Native.Nat.{ℕ, ◌+◌, ◌-◌, ◌*◌, ◌≤◌}
 use lib.ListN.{length, take, drop}
@@ -25,7 +25,7 @@ ruled_into-requires c = (c.requires.0.accepts, c.requires.0.exact, c.requires.4,
 pub check_of-requires : goal.check_of-requires
 check_of-requires c =
     let a = c.args in
-    (c.requires.0.accepts, rw c.level_of-a.ensures (level-low a.p a.i), rw c.level_of-a.ensures c.check_bits-bits.ensures, rw c.level_of-a.ensures c.requires.2, refl, omega (arith, c.acc-1.given, c.requires.5, word-high a.p c.requires.0.accepts), c.requires.0.low, c.requires.0.high)
+    (c.requires.0.accepts, rw c.level_of-a.ensures (level-low a.p a.i), rw c.level_of-a.ensures c.check_bits-bits.ensures, rw c.level_of-a.ensures c.requires.2, omega (arith, c.acc-1.given, c.requires.5, word-high a.p c.requires.0.accepts), c.requires.0.low, c.requires.0.high)
 
 pub overflow_mul-start : goal.overflow_mul-start
 overflow_mul-start c = omega (arith, part_small c.args.p c.requires.0.accepts c.args.i c.sub_word_bytes-k.result c.sub_word_bytes-k.ensures c.requires.1)
@@ -44,7 +44,6 @@ put_sub_word-requires c =
       omega (arith, c.check_bits-bits.ensures, degree-high a.p (accepted a.p A) (level a.p a.i) (level-low a.p a.i)),
       check-room a.p A a.i c.check_bits-bits.result _ c.check_bits-bits.ensures l,
       omega (arith, l, word-high a.p A),
-      c.r-2-1.given,
       check-fits a.p A a.i _ c.level_of-a.result c.check_bits-bits.result _ c.check_of.ensures c.level_of-a.ensures c.check_bits-bits.ensures,
       data-fits a.p A a.i _ c.check_bits-bits.result _ c.requires.3 c.check_bits-bits.ensures l,
     )

@@ -1,4 +1,4 @@
-use mathlib.Core.Path.{sym, ◌∙◌}
+use mathlib.Core.Path.{◌∙◌}
 use native.Mathlib.Omega.{arith}
 use Rattle.code.proofs.Accepted.{accepted, degree-high}
 use Rattle.levels.specs.Ready.{row-at, row-deg, level-lt, gen-pos}
@@ -7,13 +7,10 @@ use Rattle.levels.proofs.degree_at.Goals as goal
 pub bounds-rows-a : goal.bounds-rows-a
 bounds-rows-a c = level-lt c.args.p c.requires.0 c.args.a c.requires.2
 
-pub slice_bounds-degree_of-end : goal.slice_bounds-degree_of-end
-slice_bounds-degree_of-end c = sym (row-at c.args.p c.requires.0 _ c.args.a c.requires.1 c.requires.2).words
-
 pub degree_of-d-requires : goal.degree_of-d-requires
 degree_of-d-requires c =
     let r = row-at c.args.p c.requires.0 _ c.args.a c.requires.1 c.requires.2 in
-    (r.words, rw r.is (gen-pos c.args.p c.requires.0 c.args.a c.requires.2))
+    rw r.is (gen-pos c.args.p c.requires.0 c.args.a c.requires.2)
 
 pub overflow_cast-result : goal.overflow_cast-result
 overflow_cast-result c =

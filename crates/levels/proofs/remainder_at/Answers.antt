@@ -13,7 +13,6 @@ overflow_sub-w c = omega (arith, c.requires.2, degree-high c.args.p (accepted c.
 
 pub remainder_of-requires : goal.remainder_of-requires
 remainder_of-requires c = (
-  c.requires.6,
   c.requires.3.words,
   omega arith,
   omega arith,

@@ -1,4 +1,3 @@
-use borrow.Author.Rules.{rules}
 use mathlib.Core.Path.{sym, ◌∙◌}
 use Prim.Native.Nat.{zero-le}
 use native.Mathlib.Nat as Nat
@@ -12,7 +11,7 @@ use Rattle.mend.specs.Nearest.{nearest-remainder, nearest_zero}
 use Rattle.mend.proofs.find.Goals as goal
 
 pub level_remainder-w-requires : goal.level_remainder-w-requires
-level_remainder-w-requires c = (c.requires.0, zero-le, search rules, Nat.lt_of_lt_of_le c.requires.1 (pow_mono (stored-le c.args.p (accepted c.args.p c.requires.0))))
+level_remainder-w-requires c = (c.requires.0, zero-le, Nat.lt_of_lt_of_le c.requires.1 (pow_mono (stored-le c.args.p (accepted c.args.p c.requires.0))))
 
 pub returns-then-is_zero : goal.returns-then-is_zero
 returns-then-is_zero c = nearest_zero c.args.p c.requires.0 (value 8 c.args.s.now) c.requires.1 _ c.level_remainder-w.ensures.1 (eqb-true _ 0 (sym c.is_zero.ensures ∙ c.if-is_zero.true)) c.args.t c.args.list.now

@@ -1,5 +1,4 @@
 use Rattle.std.proofs.lemmas.Result.{err_from_is_err_and}
-use borrow.Author.Rules.{rules}
 use mathlib.Core.Path.{◌≡◌, sym, ap, ◌∙◌}
 use Prim.Native.Nat.{ℕ, ◌*◌, ◌-◌, ◌≤◌}
 use native.Mathlib.Nat as Nat
@@ -39,7 +38,7 @@ nested_of-s-requires c =
 pub level_remainder-w-requires : goal.level_remainder-w-requires
 level_remainder-w-requires c =
     let free : let a = c.args in Unrefused a.p a.page.now a.l a.p.v (length a.list.now) (1 * strength a.p (a.p.v - a.l)) = word-zero _ _ _ _ _ _ (λ k. (c.type_inv.page k).fits) (sym (chain (goal.at.level_remainder-w-requires c).After-strength_at-t _ c.in_ok-word_refusal.ensures)) in
-    ((free).accepted, low (goal.at.level_remainder-w-requires c).In_ok-word_refusal, search rules, rw c.nested_of-s.ensures.is c.nested_of-s.ensures.below)
+    ((free).accepted, low (goal.at.level_remainder-w-requires c).In_ok-word_refusal, rw c.nested_of-s.ensures.is c.nested_of-s.ensures.below)
 
 pub odd_from-requires : goal.odd_from-requires
 odd_from-requires c =

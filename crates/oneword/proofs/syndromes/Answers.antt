@@ -1,5 +1,4 @@
 use Rattle.std.proofs.lemmas.Result.{err_from_is_err_and}
-use borrow.Author.Rules.{rules}
 use mathlib.Core.Path.{◌≡◌, sym, ◌∙◌}
 use Prim.Native.Nat.{ℕ, zero-le, ◌*◌}
 use native.Mathlib.Nat as Nat
@@ -34,7 +33,7 @@ pub level_remainder-w-requires : goal.level_remainder-w-requires
 level_remainder-w-requires c =
     let free : let a = c.args in Unrefused a.p a.page.now a.i a.p.m (length a.list.now) (1 * strength a.p 0) = word-zero _ _ _ _ _ _ (λ k. (c.type_inv.page k).fits) (sym (chain (goal.at.level_remainder-w-requires c).After-strength_at-t _ c.in_ok-word_refusal.ensures)) in
     let word : let a = c.args in WordIs a.p (sub_word_of a.p a.page.now a.i) c.sub_word-s.result.now = let u = free in sub-word-is _ u.accepted _ u.page _ u.index _ c.sub_word-s.ensures in
-    let u = free in (u.accepted, zero-le, search rules, rw (word).is (word).below)
+    let u = free in (u.accepted, zero-le, rw (word).is (word).below)
 
 pub odd_from-requires : goal.odd_from-requires
 odd_from-requires c =

@@ -8,7 +8,7 @@ use Rattle.register.specs.Advance.{below_next, place-lt, degree-fits, aligned-lt
 use Rattle.register.proofs.advance.Goals as goal
 
 pub align-requires : goal.align-requires
-align-requires c = (search rules, degree-fits _ c.requires.0 _ _ c.requires.2 c.requires.3, below_next _ _ c.requires.4)
+align-requires c = (degree-fits _ c.requires.0 _ _ c.requires.2 c.requires.3, below_next _ _ c.requires.4)
 
 pub overflow_sub-w : goal.overflow_sub-w
 overflow_sub-w c = degree-fits _ c.requires.0 _ _ c.requires.2 c.requires.3

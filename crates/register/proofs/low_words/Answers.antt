@@ -1,8 +1,7 @@
 use native.Mathlib.Omega.{arith}
 use Rattle.std.proofs.Common.{rules}
 use mathlib.Core.Path.{◌≡◌, refl, ap, ◌∙◌}
-use Prim.Native.Nat.{ℕ}
-use lib.ListN.{length, take}
+use lib.ListN.{take}
 use Rattle.std.proofs.lemmas.List.{take-take}
 use Rattle.kernels.specs.Value.{Bounded}
 use Rattle.register.specs.Advance.{copied-digits}
@@ -13,5 +12,5 @@ returns c =
     let r = c.args.r.now in
     let low = c.copy_from_slice.new.self in
     let e : low ≡ take 12 r = c.copy_from_slice.ensures.after in
-    let b : Bounded 64 r = λ k. (c.type_inv.r k).fits in
-    copied-digits low low r 12 (search rules) c.requires refl (record { left = refl; done = ap (take 12) e ∙ take-take 12 12 r (omega arith) }) b
+    let b : Bounded 64 r = search rules in
+    copied-digits low low r 12 (search rules) (search rules) refl (record { left = refl; done = ap (take 12) e ∙ take-take 12 12 r (omega arith) }) b

@@ -1,4 +1,3 @@
-use borrow.Author.Rules.{rules}
 use mathlib.Core.Path.{sym, ap, ◌∙◌}
 use Prim.Native.Nat.{ℕ, ◌+◌, ◌≤◌}
 use native.Mathlib.Omega.{arith}
@@ -25,7 +24,7 @@ pub nested_into-requires : goal.nested_into-requires
 nested_into-requires c = (c.requires.0, c.requires.6, c.requires.7, part_length _ (high (goal.at.nested_into-requires c).After-nested_bytes-k) ∙ ap (λ (n : ℕ). n + 8) c.nested_bytes-k.ensures)
 
 pub remainder_at-requires : goal.remainder_at-requires
-remainder_at-requires c = (c.requires.0, c.requires.4, c.requires.5, c.requires.3, rw c.nested_places-n.ensures (places-high _ c.requires.0), rw c.nested_places-n.ensures c.nested_into.ensures.1, search rules)
+remainder_at-requires c = (c.requires.0, c.requires.4, c.requires.5, c.requires.3, rw c.nested_places-n.ensures (places-high _ c.requires.0), rw c.nested_places-n.ensures c.nested_into.ensures.1)
 
 pub odd_into-requires : goal.odd_into-requires
 odd_into-requires c =

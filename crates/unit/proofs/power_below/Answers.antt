@@ -1,4 +1,4 @@
-use mathlib.Core.Path.{refl, ap, ◌∙◌}
+use mathlib.Core.Path.{ap, ◌∙◌}
 use native.Mathlib.Nat as Nat
 use native.Mathlib.Omega.{arith}
 use Prim.Native.Nat.{ℕ, ◌^◌}
@@ -24,14 +24,14 @@ flip-requires c = omega (arith, c.requires.5, stored-high c.args.p c.requires.0)
 pub check_of-requires : goal.check_of-requires
 check_of-requires c =
     let p = c.args.p in
-    (c.requires.0, Nat.le_refl _, c.check_bits-bits.ensures ∙ ap (degree p) (Nat.sub-zero p.v), loaded-plain p p.v _ c.prepare.ensures, refl, omega (arith, c.s-2-1.given), lit≤ tt, lit≤ tt)
+    (c.requires.0, Nat.le_refl _, c.check_bits-bits.ensures ∙ ap (degree p) (Nat.sub-zero p.v), loaded-plain p p.v _ c.prepare.ensures, omega (arith, c.s-2-1.given), lit≤ tt, lit≤ tt)
 
 pub store_low-requires : goal.store_low-requires
 store_low-requires c =
     let p = c.args.p in
     let R = accepted p c.requires.0 in
     let e = c.check_bits-bits.ensures ∙ ap (degree p) (Nat.sub-zero p.v) in (
-      omega (arith, e, degree-high p R p.v (Nat.le_refl p.v), c.r-2-1.given),
+      omega (arith, e, degree-high p R p.v (Nat.le_refl p.v), c.check_of.array_long),
       omega (arith, e, degree-high p R p.v (Nat.le_refl p.v), c.requires.4),
       rw (c.check_of.ensures, e) (rem_lt (gen p p.v) (degree p p.v) ((lawful p R).degrees p.v (Nat.le_refl p.v)) _),
       rw c.requires.3 (Nat.zero-mod _),

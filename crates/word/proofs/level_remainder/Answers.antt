@@ -16,7 +16,6 @@ slice_bounds-remainder_by-end c = sym (row-at c.args.p c.requires.0 _ c.args.a c
 pub remainder_by-requires : goal.remainder_by-requires
 remainder_by-requires c =
     let r = row-at c.args.p c.requires.0 _ c.args.a c.rows-rows.ensures c.requires.1 in (
-      c.requires.2,
       row-deg _ c.requires.0 _ c.requires.1 _ r _ c.degree_at-w.ensures,
       row-most _ c.requires.0 _ c.requires.1 _ r _ c.degree_at-w.ensures,
       omega (arith, c.places_in-n.ensures, length_high _ c.requires.0),
@@ -26,5 +25,5 @@ pub returns : goal.returns
 returns c =
     let r = row-at c.args.p c.requires.0 _ c.args.a c.rows-rows.ensures c.requires.1 in (
       c.degree_at-w.ensures,
-      row_as _ _ _ _ _ _ _ r.is c.degree_at-w.ensures (in-places c.args.s.now _ _ (λ i. (c.type_inv.s i).fits) c.places_in-n.ensures c.requires.3) c.remainder_by.ensures,
+      row_as _ _ _ _ _ _ _ r.is c.degree_at-w.ensures (in-places c.args.s.now _ _ (λ i. (c.type_inv.s i).fits) c.places_in-n.ensures c.requires.2) c.remainder_by.ensures,
     )

@@ -5,7 +5,7 @@ use Rattle.word.specs.Level.{level-room}
 use Rattle.word.proofs.remainder_into.Goals as goal
 
 pub store-requires : goal.store-requires
-store-requires c = (search rules, search rules, level-room _ c.requires.0 _ c.requires.1 _ _ c.level_remainder.ensures.1)
+store-requires c = (search rules, level-room _ c.requires.0 _ c.requires.1 _ _ c.level_remainder.ensures.1)
 
 pub returns : goal.returns
 returns c = c.store.ensures ∙ ap (digits 8 96) c.level_remainder.ensures.1

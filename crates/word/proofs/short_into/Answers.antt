@@ -16,14 +16,13 @@ made c = row_as _ _ _ _ _ _ _ c.divisor_row-w.ensures.1 c.divisor_row-w.ensures.
 
 pub remainder_by-requires : goal.remainder_by-requires
 remainder_by-requires c = (
-  search rules,
   short-deg _ c.requires.0 _ _ _ c.divisor_row-w.ensures.1 c.divisor_row-w.ensures.0,
   short-most _ c.requires.0 _ _ _ c.divisor_row-w.ensures.1 c.divisor_row-w.ensures.0,
   omega (arith, c.length_of-n.ensures, length_high _ c.requires.0),
 )
 
 pub store-requires : goal.store-requires
-store-requires c = (search rules, search rules, short-room _ c.requires.0 _ _ _ (made (goal.at.store-requires c).After-remainder_by))
+store-requires c = (search rules, short-room _ c.requires.0 _ _ _ (made (goal.at.store-requires c).After-remainder_by))
 
 pub returns : goal.returns
 returns c = c.store.ensures ∙ ap (digits 8 96) (made (goal.at.returns c).After-remainder_by)

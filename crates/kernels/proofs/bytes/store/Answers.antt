@@ -1,7 +1,7 @@
 -- The loop: k words of r are written. The bytes are digits, so that the list is known by its number: store-list.
 use mathlib.Core.Path.{◌≡◌}
 use Prim.Native.Nat.{◌+◌, ◌*◌}
-use native.Mathlib.Omega.{arith}
+use Rattle.std.proofs.Common.{arith, rules}
 use Rattle.kernels.specs.Store.{word-digit, store-list}
 use Rattle.kernels.specs.Value.{Bounded}
 use Rattle.kernels.specs.Write.{written_start, written-done, written-word}
@@ -14,7 +14,7 @@ pub loop-k-preserved : goal.loop-k-preserved
 loop-k-preserved c =
     let l = c.loop-k in
     let r = c.args.r.now in
-    let b : Bounded 64 r = λ k. (c.shared_slice_known-1.given k).fits in
+    let b : Bounded 64 r = search rules in
     let q = c.put_word in
     let e : 8 * l.k + 8 ≡ 8 * (l.k + 1) = omega arith in (
       (λ k. (c.type_inv.dst k).fits),
@@ -24,4 +24,4 @@ loop-k-preserved c =
 pub returns : goal.returns
 returns c =
     let l = c.loop-k in
-    store-list l.dst _ l.invariant.0 (omega arith) c.requires.2 (written-done 8 _ l.dst _ (8 * l.k) 96 (omega arith) (omega arith) l.invariant.1)
+    store-list l.dst _ l.invariant.0 (omega arith) c.requires.1 (written-done 8 _ l.dst _ (8 * l.k) 96 (omega arith) (omega arith) l.invariant.1)

@@ -1,6 +1,6 @@
 -- The loop: j words of g are added.
 use mathlib.Core.Path.{◌≡◌, sym}
-use native.Mathlib.Omega.{arith}
+use Rattle.std.proofs.Common.{arith, rules}
 use lib.Seq.{take_all}
 use Rattle.polynomial.specs.Digits.{value}
 use Rattle.polynomial.specs.Xor.{xors}
@@ -13,7 +13,7 @@ loop-j-init c = sym (simp (value-nil 64, xors))
 pub loop-j-preserved : goal.loop-j-preserved
 loop-j-preserved c =
     let l = c.loop-j in
-    add_turn 64 (value 64 c.args.e.now) l.e c.args.g.now l.j (λ k. (c.slice_known-1.given k).fits) (λ k. (c.type_inv.g k).fits) (omega arith) (omega arith) l.invariant
+    add_turn 64 (value 64 c.args.e.now) l.e c.args.g.now l.j (search rules) (search rules) (omega arith) (omega arith) l.invariant
 
 pub returns : goal.returns
 returns c =

@@ -19,4 +19,4 @@ pub returns : goal.returns
 returns c =
     let l = c.loop-i in
     let a = c.args in
-    written-done 64 _ l.r _ l.i 13 (omega arith) (omega arith) l.invariant ∙ mod-eq_of_lt (align-lt (value 64 a.g.now) a.w c.requires.2 c.requires.1)
+    written-done 64 _ l.r _ l.i 13 (omega arith) (omega arith) l.invariant ∙ mod-eq_of_lt (align-lt (value 64 a.g.now) a.w c.requires.1 c.requires.0)

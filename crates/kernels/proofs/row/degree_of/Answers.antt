@@ -28,7 +28,7 @@ logarithm x j z h low high =
 pub unwrap-i-requires : goal.unwrap-i-requires
 unwrap-i-requires c =
     some_since _ _ _ (found (goal.at.unwrap-i-requires c).After-rposition)
-    (λ z. lt_irrefl 0 (rw (zeros-value 64 c.args.r.now z) at c.requires.1))
+    (λ z. lt_irrefl 0 (rw (zeros-value 64 c.args.r.now z) at c.requires))
 
 pub returns : goal.returns
 returns c =
@@ -36,5 +36,5 @@ returns c =
     let i = c.unwrap-i.result in
     let q = c.ilog2 in
     let e : Highest r i = rw c.unwrap-i.ensures at (found (goal.at.returns c).After-rposition) in
-    ap (λ (j : ℕ). 64 * i + j) (logarithm (get_or r i 0) q.result e.1 (c.type_inv.r i).fits q.ensures.power_le q.ensures.next_power_gt)
-    ∙ degree-law r i (λ k. (c.type_inv.r k).fits) e.0 e.1 c.requires.1 (zeros-from 64 r (i + 1) (omega (arith, e.0)) (λ k a b. e.2 k (omega arith) b))
+    ap (λ (j : ℕ). 64 * i + j) (logarithm (get_or r i 0) q.result e.1 (search rules) q.ensures.power_le q.ensures.next_power_gt)
+    ∙ degree-law r i (search rules) e.0 e.1 c.requires (zeros-from 64 r (i + 1) (omega (arith, e.0)) (λ k a b. e.2 k (omega arith) b))

@@ -1,14 +1,12 @@
 -- u lies in two words: insert-law.
-use native.Mathlib.Omega.{arith}
-use lib.ListN.{length-set}
+use Rattle.std.proofs.Common.{◌*◌, ◌/◌, ◌%◌, ◌^◌, mod-lt, pow_pos, rules}
+use Rattle.std.proofs.lemmas.Nat.{xor_lt}
 use Rattle.kernels.specs.Insert.{insert-law}
+use Rattle.kernels.specs.Value.{Bounded, bounded-set}
 use Rattle.kernels.proofs.row.insert.Goals as goal
 
-pub bounds-r-q-3 : goal.bounds-r-q-3
-bounds-r-q-3 c = simp length-set (omega arith)
-
-pub bounds-r-q-4 : goal.bounds-r-q-4
-bounds-r-q-4 c = simp length-set (omega arith)
-
 pub returns : goal.returns
-returns c = insert-law c.args.r.now c.args.u c.args.p (λ k. (c.slice_known-1.given k).fits) (λ k. (c.slice_known-2-1.given k).fits) c.requires.0 c.requires.1 c.ranges.u.fits
+returns c =
+    let a = c.args in
+    let b : Bounded 64 a.r.now = search rules in
+    insert-law a.r.now a.u a.p b (bounded-set 64 a.r.now b (a.p / 64) _ (xor_lt 64 _ _ (b (a.p / 64)) (mod-lt (a.u * 2 ^ (a.p % 64)) (pow_pos 64)))) (search rules) c.requires c.ranges.u.fits

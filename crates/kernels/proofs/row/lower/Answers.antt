@@ -2,7 +2,7 @@
 use mathlib.Core.Path.{refl, ap, ◌∙◌}
 use Prim.Native.Nat.{ℕ, ◌%◌, ◌^◌}
 use native.Mathlib.Nat.{mod-lt}
-use native.Mathlib.Omega.{arith}
+use Rattle.std.proofs.Common.{arith, rules}
 use lib.Pow.{pow_pos}
 use Rattle.kernels.specs.Move.{lower_word, lower-done}
 use Rattle.kernels.specs.Value.{drop-next, Bounded, bounded-set}
@@ -10,13 +10,13 @@ use Rattle.kernels.specs.Write.{written_start, written-done, written-digit}
 use Rattle.kernels.proofs.row.lower.Goals as goal
 
 pub loop-i-init : goal.loop-i-init
-loop-i-init c = (refl, (λ k. (c.type_inv.r k).fits), written_start 64 _ _)
+loop-i-init c = (refl, (search rules), written_start 64 _ _)
 
 pub loop-i-preserved : goal.loop-i-preserved
 loop-i-preserved c =
     let l = c.loop-i in
     let a = c.args in
-    let b : Bounded 64 a.r.now = λ k. (c.slice_known-1.given k).fits in
+    let b : Bounded 64 a.r.now = search rules in
     let q = c.window in (
       drop-next l.r a.r.now l.i _ l.invariant.0,
       bounded-set 64 l.r l.invariant.1 l.i _ (rw q.ensures (mod-lt _ (pow_pos 64))),
@@ -27,4 +27,4 @@ loop-i-preserved c =
 pub returns : goal.returns
 returns c =
     let l = c.loop-i in
-    lower-done c.args.r.now c.args.s _ (λ k. (c.slice_known-1.given k).fits) c.requires.0 (written-done 64 _ l.r _ l.i 13 (omega arith) (omega arith) l.invariant.2)
+    lower-done c.args.r.now c.args.s _ (search rules) (search rules) (written-done 64 _ l.r _ l.i 13 (omega arith) (omega arith) l.invariant.2)

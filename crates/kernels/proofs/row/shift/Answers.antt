@@ -1,5 +1,5 @@
 -- The loop: i words are moved up, and c is carried on.
-use native.Mathlib.Omega.{arith}
+use Rattle.std.proofs.Common.{arith, rules}
 use lib.ListN.{get_or}
 use Rattle.kernels.specs.Move.{shift-done, shift-start, shift-turn}
 use Rattle.kernels.specs.Word.{word-up-lt}
@@ -14,14 +14,14 @@ loop-i-init c = shift-start _ _
 pub overflow_add-r : goal.overflow_add-r
 overflow_add-r c =
     let l = c.loop-i in
-    record { fits = word-up-lt (get_or l.r l.i 0) c.args.l l.c c.requires.2 l.invariant.fits }
+    record { fits = word-up-lt (get_or l.r l.i 0) c.args.l l.c c.requires.1 l.invariant.fits }
 
 pub loop-i-preserved : goal.loop-i-preserved
 loop-i-preserved c =
     let l = c.loop-i in
-    shift-turn c.args.r.now l.r c.args.l l.c l.i (λ k. (c.slice_known-in-loop-i-1.given k).fits) c.requires.2 (omega arith) (omega arith) l.invariant
+    shift-turn c.args.r.now l.r c.args.l l.c l.i (search rules) c.requires.1 (omega arith) (omega arith) l.invariant
 
 pub returns : goal.returns
 returns c =
     let l = c.loop-i in
-    shift-done c.args.r.now l.r c.args.l l.c l.i c.requires.0 (omega arith) c.requires.3 (omega arith) l.invariant
+    shift-done c.args.r.now l.r c.args.l l.c l.i (search rules) (search rules) c.requires.2 (omega arith) l.invariant

@@ -1,11 +1,11 @@
 -- The loop: i words are moved up, and c is carried on.
-use native.Mathlib.Omega.{arith}
+use Rattle.std.proofs.Common.{arith, rules}
 use Rattle.kernels.specs.Move.{shift-done, shift-start, shift-word-turn}
 use Rattle.kernels.specs.Value.{bounded-set}
 use Rattle.kernels.proofs.row.shift_word.Goals as goal
 
 pub loop-i-init : goal.loop-i-init
-loop-i-init c = ((λ k. (c.type_inv.r k).fits), shift-start _ _)
+loop-i-init c = ((search rules), shift-start _ _)
 
 pub loop-i-preserved : goal.loop-i-preserved
 loop-i-preserved c =
@@ -18,4 +18,4 @@ loop-i-preserved c =
 pub returns : goal.returns
 returns c =
     let l = c.loop-i in
-    shift-done c.args.r.now l.r 64 l.c l.i c.requires.0 (omega arith) c.requires.1 (omega arith) l.invariant.1
+    shift-done c.args.r.now l.r 64 l.c l.i (search rules) (search rules) c.requires (omega arith) l.invariant.1

@@ -1,9 +1,7 @@
 -- The loop: the first j words of r are moved up and added, and c is carried on.
-use mathlib.Core.Path.{◌≡◌}
-use lib.ListN.{length}
 use Rattle.polynomial.specs.Digits.{value}
 use Rattle.kernels.specs.Move.{Moving}
 use Rattle.reduction.proofs.remainder.add_shifted.Given as goal
 
 abbrev pub invariant-loop-j : goal.invariant-loop-j
-invariant-loop-j l = (length l.v ≡ 12) × Moving l.r l.l (value 64 l.initial.v) l.c l.v l.j
+invariant-loop-j l = Moving l.r l.l (value 64 l.initial.v) l.c l.v l.j

@@ -6,7 +6,7 @@ use Rattle.reduction.specs.Reduce.{top_start, top-more, top-turn, top-done}
 use Rattle.reduction.proofs.remainder.add_top.Goals as goal
 
 pub loop-u-init : goal.loop-u-init
-loop-u-init c = (c.requires.0.words, refl, top_start _ _ _ c.ranges.top.fits)
+loop-u-init c = (search rules, refl, top_start _ _ _ c.ranges.top.fits)
 
 pub add_four-requires : goal.add_four-requires
 add_four-requires c =
@@ -28,7 +28,7 @@ pub loop-u-preserved : goal.loop-u-preserved
 loop-u-preserved c =
     let l = c.loop-u in
     let q = c.add_four in
-    (q.auto.v ∙ l.invariant.0, q.ensures.1 ∙ l.invariant.1, top-turn _ _ _ (value 64 l.v) _ l.u l.k (top-more _ _ _ _ l.u l.k c.loop-u-test.true l.invariant.2) q.ensures.0 l.invariant.2)
+    (q.array_long, q.ensures.1 ∙ l.invariant.1, top-turn _ _ _ (value 64 l.v) _ l.u l.k (top-more _ _ _ _ l.u l.k c.loop-u-test.true l.invariant.2) q.ensures.0 l.invariant.2)
 
 pub returns : goal.returns
 returns c =

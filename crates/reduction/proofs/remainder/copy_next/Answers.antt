@@ -27,13 +27,13 @@ returns c =
     let d = c.args.dst.now in
     let s = c.args.src.now in
     let f = c.args.from in
-    let k = length d - (f + 1) in
+    let k = 12 - (f + 1) in
     let ys = c.copy_from_slice.new.self in
     let e : ys ≡ take (11 - f) (drop f s) = c.copy_from_slice.ensures.after in
-    let n : length (drop (f + 1) d) ≡ k = length-drop (f + 1) d in
+    let n : length (drop (f + 1) d) ≡ k = rw (length-drop (f + 1) d) (omega arith) in
     let z : drop k (drop (f + 1) d) ≡ [] = drop_all k (drop (f + 1) d) (omega arith) in
     let w : f + (11 - f) ≡ 11 = omega arith in (
-      rw (z, append-nil, e) (higher f (take (f + 1) d) (take (11 - f) (drop f s)) (take f s) (length-take-le (f + 1) d (omega arith)) (length-take-le f s (omega arith)) c.requires.3)
+      rw (z, append-nil, e) (higher f (take (f + 1) d) (take (11 - f) (drop f s)) (take f s) (length-take-le (f + 1) d (omega arith)) (length-take-le f s (omega arith)) c.requires.2)
           ∙ ap (λ (l : List ℕ). value 64 l * 2 ^ 64) (sym (take-add f (11 - f) s) ∙ ap (λ (i : ℕ). take i s) w),
       take-put_mid_below (f + 1) k d ys (f + 1) (omega arith) (omega arith),
     )

@@ -1,7 +1,8 @@
 -- The loop: what stands from the i-th word on is fed to v.
-use mathlib.Core.Path.{◌≡◌, refl, ◌∙◌}
+use mathlib.Core.Path.{◌≡◌, refl}
 use Prim.Native.Nat.{◌+◌, ◌-◌, ◌*◌, ◌/◌, ◌%◌}
 use native.Mathlib.Omega.{arith}
+use borrow.Author.Rules.{rules}
 use Rattle.polynomial.specs.Digits.{value}
 use Rattle.reduction.specs.Feed.{held, row-of-zeros, start-fed, taken-over, turn-fed}
 use Rattle.reduction.proofs.remainder.feed_words.Goals as goal
@@ -14,13 +15,13 @@ loop-i-init c =
 pub step_whole-requires : goal.step_whole-requires
 step_whole-requires c =
     let l = c.loop-i in
-    held l.v c.args.t.now _ c.args.p l.invariant.0 c.requires.1 c.requires.2 c.requires.6 l.invariant.1
+    held l.v c.args.t.now _ c.args.p l.invariant.0 c.requires.0 c.requires.1 c.requires.5 l.invariant.1
 
 pub loop-i-preserved : goal.loop-i-preserved
 loop-i-preserved c =
     let x = c.step_whole in
     let l = c.loop-i in (
-      x.auto.r ∙ l.invariant.0,
+      x.array_long,
       turn-fed c.args.t.now (value 8 c.args.s.now) c.args.n _ _ 64 (value 64 l.v) _ (omega arith) (omega arith) l.invariant.1 (rw c.bits-u.ensures at x.ensures),
     )
 
@@ -36,5 +37,5 @@ returns c =
       omega arith,
       omega arith,
       omega arith,
-      rw (taken-over c.args.r.now x.new.dst l.v c.requires.0 (x.auto.dst ∙ c.requires.0) l.invariant.0 c.requires.3 l.invariant.1.small x.ensures) (rw e at l.invariant.1),
+      rw (taken-over c.args.r.now x.new.dst l.v (search rules) (search rules) l.invariant.0 c.requires.2 l.invariant.1.small x.ensures) (rw e at l.invariant.1),
     )

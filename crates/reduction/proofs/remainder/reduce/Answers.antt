@@ -17,9 +17,8 @@ pub copy-requires-2 : goal.copy-requires-2
 copy-requires-2 c =
     let i = c.copy in
     let a = c.add_top in
-    let k = a.auto.v ∙ i.auto.dst in
     let f : c.args.from ≤ 12 = omega (arith, c.requires.place) in
-    (rw (length-set c.args.r.now 12 0) (omega (arith, c.requires.words)), omega (arith, k), f, clear-out c.args.r.now _ i.new.dst a.new.v c.args.from f i.ensures a.ensures.1)
+    (rw (length-set c.args.r.now 12 0) (omega (arith, c.requires.words)), omega (arith, a.array_long), f, clear-out c.args.r.now _ i.new.dst a.new.v c.args.from f i.ensures a.ensures.1)
 
 pub shape_of-r : goal.shape_of-r
 shape_of-r c = c.copy-2.auto.dst ∙ length-set c.args.r.now 12 0
@@ -31,4 +30,4 @@ returns c =
     let a = c.add_top in
     let o = c.copy-2 in
     reduce-law c.args.t.now c.args.r.now _ i.new.dst a.new.v o.new.dst r c.requires.words (λ k. (c.type_inv.r k).fits)
-    (o.auto.dst ∙ length-set c.args.r.now 12 0 ∙ c.requires.words) i.auto.dst (a.auto.v ∙ i.auto.dst) i.ensures a.ensures.0 o.ensures
+    (o.auto.dst ∙ length-set c.args.r.now 12 0 ∙ c.requires.words) i.auto.dst a.array_long i.ensures a.ensures.0 o.ensures

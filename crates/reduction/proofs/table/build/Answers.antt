@@ -3,6 +3,7 @@ use mathlib.Core.Path.{◌≡◌, sym, ◌∙◌, subst}
 use mathlib.Core.List.{List}
 use Prim.Native.Nat.{ℕ, ◌+◌, ◌*◌}
 use native.Mathlib.Omega.{arith}
+use borrow.Author.Rules.{rules}
 use lib.ListN.{length, take}
 use lib.Seq.{length-take-le}
 use Rattle.polynomial.specs.Digits.{value}
@@ -14,10 +15,10 @@ twelve : (g : List ℕ) → length g ≡ 13 → length (take 12 g) ≡ 12
 twelve g e = length-take-le 12 g (omega arith)
 
 pub slice_bounds-put_row-end : goal.slice_bounds-put_row-end
-slice_bounds-put_row-end c = sym (twelve c.args.g.now c.requires.1)
+slice_bounds-put_row-end c = sym (twelve c.args.g.now (search rules))
 
 pub put_row-requires : goal.put_row-requires
-put_row-requires c = (c.clear_row.auto.t ∙ c.requires.0, twelve c.args.g.now c.requires.1, omega arith)
+put_row-requires c = (c.clear_row.auto.t ∙ c.requires.0, twelve c.args.g.now (search rules), omega arith)
 
 pub fill_place-requires : goal.fill_place-requires
 fill_place-requires c =
@@ -26,8 +27,8 @@ fill_place-requires c =
       record {
         words = r.auto.t ∙ q.auto.t ∙ c.requires.0;
         G = value 64 c.args.g.now;
-        deg = c.requires.2;
-        rows = rows_start c.args.t.now q.new.t r.new.t c.args.g.now (λ k. (c.type_inv.g k).fits) c.requires.1 c.requires.2 q.ensures r.ensures;
+        deg = c.requires.1;
+        rows = rows_start c.args.t.now q.new.t r.new.t c.args.g.now (search rules) (search rules) c.requires.1 q.ensures r.ensures;
       },
       omega arith,
     )
@@ -38,23 +39,23 @@ loop-k-init c =
     let r = c.put_row in
     let x = c.fill_place in (
       x.auto.t ∙ r.auto.t ∙ q.auto.t ∙ c.requires.0,
-      x.ensures.grow (value 64 c.args.g.now) c.requires.2
-          (rows_start c.args.t.now q.new.t r.new.t c.args.g.now (λ k. (c.type_inv.g k).fits) c.requires.1 c.requires.2 q.ensures r.ensures),
+      x.ensures.grow (value 64 c.args.g.now) c.requires.1
+          (rows_start c.args.t.now q.new.t r.new.t c.args.g.now (search rules) (search rules) c.requires.1 q.ensures r.ensures),
     )
 
 pub place-requires : goal.place-requires
 place-requires c =
     let l = c.loop-k in
-    (record { words = l.invariant.0; G = value 64 c.args.g.now; deg = c.requires.2; rows = l.invariant.1 }, omega arith, omega arith)
+    (record { words = l.invariant.0; G = value 64 c.args.g.now; deg = c.requires.1; rows = l.invariant.1 }, omega arith, omega arith)
 
 pub loop-k-preserved : goal.loop-k-preserved
 loop-k-preserved c =
     let l = c.loop-k in
     let x = c.place in
     let e : 16 * l.k + 16 ≡ 16 * (l.k + 1) = omega arith in
-    (x.auto.t ∙ l.invariant.0, subst (Rows (value 64 c.args.g.now) x.new.t) e (x.ensures.grow (value 64 c.args.g.now) c.requires.2 l.invariant.1))
+    (x.auto.t ∙ l.invariant.0, subst (Rows (value 64 c.args.g.now) x.new.t) e (x.ensures.grow (value 64 c.args.g.now) c.requires.1 l.invariant.1))
 
 pub returns : goal.returns
 returns c =
     let l = c.loop-k in
-    rows-done (value 64 c.args.g.now) l.t l.k c.requires.2 (omega arith) l.invariant.1
+    rows-done (value 64 c.args.g.now) l.t l.k c.requires.1 (omega arith) l.invariant.1

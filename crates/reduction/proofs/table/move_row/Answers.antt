@@ -1,7 +1,6 @@
 -- What passes x^768 is a digit, whose row is added to the row that is moved: top-is, grown-move.
 use native.Mathlib.Omega.{arith}
 use Rattle.reduction.specs.Build.{aside, grown-move, top-is, word-before}
-use borrow.Author.Rules.{rules}
 use Rattle.reduction.proofs.table.move_row.Goals as goal
 
 pub overflow_mul-top : goal.overflow_mul-top
@@ -12,12 +11,12 @@ overflow_mul-top c =
 pub add_row-requires : goal.add_row-requires
 add_row-requires c =
     let p = c.requires in
-    (search rules, p.0.words, omega (arith, (top-is c.args.t.now c.args.n c.args.i c.args.s (λ k. (c.slice_known-1.given k).fits) p.0 p.1 p.2 p.5).1))
+    (p.0.words, omega (arith, (top-is c.args.t.now c.args.n c.args.i c.args.s (λ k. (c.slice_known-1.given k).fits) p.0 p.1 p.2 p.5).1))
 
 pub add_moved-requires : goal.add_moved-requires
 add_moved-requires c =
     let p = c.requires in
-    (search rules, p.0.words, omega arith, omega arith, word-before c.args.t.now c.args.n c.args.i (λ k. (c.slice_known-1.given k).fits) p.0 p.2 p.3, p.4, omega arith)
+    (p.0.words, omega arith, omega arith, word-before c.args.t.now c.args.n c.args.i (λ k. (c.slice_known-1.given k).fits) p.0 p.2 p.3, p.4, omega arith)
 
 pub returns : goal.returns
 returns c =
