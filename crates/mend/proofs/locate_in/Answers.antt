@@ -18,7 +18,7 @@ locate_by-requires c =
     (tables-of _ 4 _ _ (sized (goal.at.locate_by-requires c).After-stored_of-z) c.if-f-eq4.true c.powers4-a.ensures c.logs4-b.ensures, c.requires.1, c.requires.2, rw c.of-f.ensures c.requires.3, c.requires.4, b.0, b.1, b.2, c.requires.6)
 
 pub returns-then-f-eq4 : goal.returns-then-f-eq4
-returns-then-f-eq4 c = sheet-located c.args.p c.requires.0 c.of-f.result c.of-f.ensures c.stored_of-z.result c.stored_of-z.ensures (value 64 c.args.r.now) c.args.t _ c.locate_by.ensures
+returns-then-f-eq4 c = (sheet-located c.args.p c.requires.0 c.of-f.result c.of-f.ensures c.stored_of-z.result c.stored_of-z.ensures (value 64 c.args.r.now) c.args.t _ c.locate_by.ensures.0, c.locate_by.ensures.1)
 
 pub locate_by-requires-then-f-eq8 : goal.locate_by-requires-then-f-eq8
 locate_by-requires-then-f-eq8 c =
@@ -26,7 +26,7 @@ locate_by-requires-then-f-eq8 c =
     (tables-of _ 8 _ _ (sized (goal.at.locate_by-requires-then-f-eq8 c).After-stored_of-z) c.if-f-eq8.true c.powers8-a.ensures c.logs8-b.ensures, c.requires.1, c.requires.2, rw c.of-f.ensures c.requires.3, c.requires.4, b.0, b.1, b.2, c.requires.6)
 
 pub returns-then-f-eq8 : goal.returns-then-f-eq8
-returns-then-f-eq8 c = sheet-located c.args.p c.requires.0 c.of-f.result c.of-f.ensures c.stored_of-z.result c.stored_of-z.ensures (value 64 c.args.r.now) c.args.t _ c.locate_by-then-f-eq8.ensures
+returns-then-f-eq8 c = (sheet-located c.args.p c.requires.0 c.of-f.result c.of-f.ensures c.stored_of-z.result c.stored_of-z.ensures (value 64 c.args.r.now) c.args.t _ c.locate_by-then-f-eq8.ensures.0, c.locate_by-then-f-eq8.ensures.1)
 
 pub locate_by-requires-2 : goal.locate_by-requires-2
 locate_by-requires-2 c =
@@ -34,4 +34,4 @@ locate_by-requires-2 c =
     (tables-of _ 12 _ _ (sized (goal.at.locate_by-requires-2 c).After-stored_of-z) (known-last _ (sized (goal.at.locate_by-requires-2 c).After-stored_of-z).known c.if-f-eq4.false c.if-f-eq8.false) c.powers12-a.ensures c.logs12-b.ensures, c.requires.1, c.requires.2, rw c.of-f.ensures c.requires.3, c.requires.4, b.0, b.1, b.2, c.requires.6)
 
 pub returns : goal.returns
-returns c = sheet-located c.args.p c.requires.0 c.of-f.result c.of-f.ensures c.stored_of-z.result c.stored_of-z.ensures (value 64 c.args.r.now) c.args.t _ c.locate_by-2.ensures
+returns c = (sheet-located c.args.p c.requires.0 c.of-f.result c.of-f.ensures c.stored_of-z.result c.stored_of-z.ensures (value 64 c.args.r.now) c.args.t _ c.locate_by-2.ensures.0, c.locate_by-2.ensures.1)
