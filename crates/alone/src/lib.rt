@@ -2,8 +2,7 @@
 // put down.
 #![tactic(auto)]
 
-ghost use Rattle.std.specs.Prelude.{◌≡◌, not, ◌<◌, leb, length, get_or, take};
-ghost use Rattle.locator.specs.Locate.{kept};
+ghost use Rattle.std.specs.Prelude.{◌≡◌, not, ◌<◌, ◌≤◌, IfSome, length, get_or};
 ghost use Rattle.code.specs.Calls.{generators};
 ghost use Rattle.code.specs.Code.{degree, nearest};
 ghost use Rattle.code.specs.Layout.{IsPage, words_of};
@@ -11,13 +10,14 @@ ghost use Rattle.code.specs.Nest.{start};
 ghost use Rattle.code.specs.Parameters.{strength};
 ghost use Rattle.code.specs.Refusals.{nowhere};
 ghost use Rattle.levels.specs.Ready.{Prepared};
+ghost use Rattle.locating.specs.Look.{front};
 ghost use Rattle.mend.specs.Settled.{Held, Lent, Settled};
 
 use code::Parameters;
 use element::Field;
 
-// The places of the flips that mend sub-word i, by the table t of g_0, of degree w: their number, and they stand first in the list; more than
-// t_0: none.
+// The places of the flips, at most t_0, that mend sub-word i, by the table t of g_0, of degree w, if there are such flips:
+// their number, and they stand first in the list.
 fn find(
     p: Parameters,
     f: Field,
@@ -28,16 +28,16 @@ fn find(
     page: &[u8],
     i: usize,
     list: &mut [u16],
-) -> usize
+) -> Option<usize>
     requires { Lent p f powers.now logs.now × Prepared p 0 t.now × (w ≡ degree p 0) × IsPage p page.now × (i < p.m) × (length list.old ≡ 64) }
-    ensures { nearest p 0 (get_or (words_of p page.now) i 0) ≡ kept (leb result (strength p 0)) (take result list.new) }
+    ensures { nearest p 0 (get_or (words_of p page.now) i 0) ≡ front result list.new × IfSome result (λ c. c ≤ strength p 0) }
 {
     let s = layout::sub_word(p, page, i);
     let z = layout::stored_of(p);
     let mut r = [0u64; 13];
     levels::remainder_at(&mut r, t, s, z, p, 0, w);
     if kernels::row::is_zero(&r) {
-        0
+        Some(0)
     } else {
         mend::locate_by(powers, logs, f, &r, w, p.t0 as usize, z, list)
     }
@@ -59,8 +59,8 @@ fn mend_word(
         × (result ≡ not (nowhere (nearest p 0 (get_or (words_of p page.old) i 0)))) }
 {
     let mut list = [0u16; 64];
-    let c = find(p, f, powers, logs, t, w, page, i, &mut list);
-    mend::settle(p, page, i, &list, c, p.t0 as usize)
+    let found = find(p, f, powers, logs, t, w, page, i, &mut list);
+    mend::settle(p, page, i, &list, found)
 }
 
 // Every sub-word mended that can be: how many cannot, and their numbers stand first in the list. t is the table of g_0.

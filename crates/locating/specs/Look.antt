@@ -1,9 +1,11 @@
 -- The last look at places found: their odd power sums against the odd syndromes, by which all agree.
 --   listed s j        S_j, where s[0] is S_1
 --   from_list q o j    S_j, where o[0], o[1], .. are S_1, S_3, ..
-use Rattle.std.specs.Prelude.{◌≡◌, refl, Bool, true, false, ◌&&◌, List, map, ℕ, zero, suc, ◌+◌, ◌-◌, ◌*◌, ◌/◌, ◌%◌, ◌^◌, ◌≤◌, ◌<◌, T, eqb, length, get_or, ◌⊎◌}
+--   front r l         the first c places of l, where r is Some c
+use Rattle.std.specs.Prelude.{◌≡◌, refl, Bool, true, false, ◌&&◌, List, map, ℕ, zero, suc, ◌+◌, ◌-◌, ◌*◌, ◌/◌, ◌%◌, ◌^◌, ◌≤◌, ◌<◌, T, eqb, length, get_or, take, ◌⊎◌, Option, Some, None}
 use Rattle.std.proofs.Common.{sym, ap, ◌∙◌, zero-le, suc-le-suc, add-one, arith, eqb→eq, pow_pos, inl, inr}
 use Rattle.std.proofs.Math.Nat as Nat
+use Rattle.std.proofs.Math.Option.{Option as Maybe, none, some}
 use Rattle.std.proofs.Math.Decide.{dec_le}
 use Rattle.std.proofs.lemmas.List.{length-map}
 use Rattle.std.proofs.Math.ListN.{get_or-eq_default}
@@ -25,6 +27,10 @@ listed s (suc j) = get_or s j 0
 
 abbrev pub from_list : ℕ → List ℕ → ℕ → ℕ
 from_list q o j = from_odd q (λ i. get_or o i 0) j
+
+abbrev pub front : Option ℕ → List ℕ → Maybe (List ℕ)
+front None l = none
+front (Some c) l = some (take c l)
 
 -- ---- all syndromes in a list
 module _ (q : ℕ) (known : Known q) (o s : List ℕ) (t : ℕ) (e : s ≡ map (from_list q o) (range 1 (2 * t))) where

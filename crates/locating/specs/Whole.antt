@@ -1,9 +1,9 @@
 -- What the parts give together: `locate` of the syndromes.
 --   Candidates q s t z c o l    the c candidates for the places stand first in l
-use Rattle.std.specs.Prelude.{◌≡◌, refl, Bool, true, false, ◌&&◌, List, [], ◌∷◌, ℕ, zero, suc, ◌+◌, ◌-◌, ◌*◌, ◌^◌, ◌≤◌, ◌<◌, T, eqb, leb, length, get_or, take}
-use Rattle.std.proofs.Common.{sym, ap, ap₂, ◌∙◌, arith, leb→le, le→leb, length-take, ext_get_or, get_or-take}
-use Rattle.std.proofs.Math.Option.{none}
+use Rattle.std.specs.Prelude.{◌≡◌, refl, Bool, true, false, ◌&&◌, List, [], ◌∷◌, ℕ, zero, suc, ◌-◌, ◌*◌, ◌^◌, ◌≤◌, ◌<◌, T, eqb, leb, length, get_or, take, Option, Some, None}
+use Rattle.std.proofs.Common.{sym, ap, ap₂, ◌∙◌, arith, le→leb, length-take-le, ext_get_or, get_or-take}
 use Rattle.std.proofs.Math.Nat as Nat
+use Rattle.std.proofs.lemmas.Bool.{lt-leb}
 use Rattle.field.specs.Eval.{total-suc, total-zero}
 use Rattle.field.specs.Field.{pow}
 use Rattle.field.specs.Fields.{Known, field_of}
@@ -17,8 +17,8 @@ use Rattle.massey.specs.Entries.{F, K, at, mul2, plus2}
 use Rattle.massey.specs.Steps.{After, Done, Zeroed}
 use Rattle.search.specs.Values.{node, node-is, part, value-part}
 use Rattle.search.specs.Zeros.{Rooted, root?}
-use Rattle.syndrome.specs.Places.{Places, rising-at}
-use Rattle.locating.specs.Look.{listed}
+use Rattle.syndrome.specs.Places.{Places, places-take, rising-at}
+use Rattle.locating.specs.Look.{front, listed}
 
 -- ---- the same tests give the same places
 passing-same : (P Q : ℕ → Bool) (k z : ℕ) → ((i : ℕ) → P i ≡ Q i) → passing P k z ≡ passing Q k z
@@ -61,42 +61,38 @@ module _ (q : ℕ) (s : List ℕ) (t z : ℕ) where
         record { count = C.count ∙ ap length e; size = C.size; found = λ j h r. C.found j h r ∙ ap (λ (l : List ℕ). get_or l j 0) e }
 
   -- ---- what is answered: r, with the places in l
-  abbrev Answer : ℕ → List ℕ → Type 0
-  Answer r l = locate q (listed s) t z ≡ kept (leb r t) (take r l)
-
-  over : (r : ℕ) → t < r → leb r t ≡ false
-  over r h = go (leb r t) refl
-    where
-      go : (b : Bool) → leb r t ≡ b → leb r t ≡ false
-      go true e = absurd (Nat.not-le_of_lt h (leb→le r t (rw e tt)))
-      go false e = e
-
-  nothing : (l : List ℕ) → locate q (listed s) t z ≡ none → Answer (t + 1) l
-  nothing l e = e ∙ sym (rw (over (t + 1) (omega arith)) refl)
+  abbrev Answer : Option ℕ → List ℕ → Type 0
+  Answer r l = locate q (listed s) t z ≡ front r l
 
   -- a bound above t
-  pub whole-far : Known q → z ≤ 2 ^ q - 1 → (b : ℕ) (a o l : List ℕ) → Done q s t b a o → t < b → Answer (t + 1) l
-  whole-far known zn b a o l D h = nothing l (too_many q known (listed s) t z zn (D.far h).0 (D.far h).1 (D.far h).2)
+  pub whole-far : Known q → z ≤ 2 ^ q - 1 → (b : ℕ) (a o l : List ℕ) → Done q s t b a o → t < b → Answer None l
+  whole-far known zn b a o l D h = too_many q known (listed s) t z zn (D.far h).0 (D.far h).1 (D.far h).2
 
   module _ {c : ℕ} {o l : List ℕ} (C : Candidates q s t z c o l) where
     -- too many places
-    pub whole-many : t < c → Answer (t + 1) l
-    whole-many h = nothing l (locate-eq q (listed s) t z ∙ rw (over (length (candidate q (listed s) t z)) (rw C.count at h)) refl)
+    pub whole-many : t < c → Answer None l
+    whole-many h = locate-eq q (listed s) t z ∙ rw (lt-leb (length (candidate q (listed s) t z)) t (rw C.count at h)) refl
 
     module _ (few : c ≤ t) (room : t ≤ length o) where
+      within : c ≤ length l
+      within = omega (arith, C.size)
+
+      pub size : length (take c l) ≡ c
+      size = length-take-le c l within
+
       taken : take c l ≡ candidate q (listed s) t z
       taken =
           ext_get_or 0 (take c l) (candidate q (listed s) t z) (size ∙ C.count)
           (λ i h. let k : i < c = rw size at h in get_or-take c l i 0 k ∙ C.found i k (omega arith))
-        where
-          size : length (take c l) ≡ c
-          size = length-take c l ∙ Nat.min-eq_left (omega (arith, C.size))
 
-      pub places : z ≤ 2 ^ q - 1 → Places (2 ^ q - 1) c l
-      places zn = record {
+      stands : z ≤ 2 ^ q - 1 → Places (2 ^ q - 1) c l
+      stands zn = record {
         below = λ i h. rw (C.found i h (omega arith), candidate-passing) (Nat.lt_of_lt_of_le
             (rising-at 0 z (passing (is_root (field_of q) σ) 0 z) (passing-rising (is_root (field_of q) σ) 0 z z (Nat.zero-add z)) i (rw (C.count, candidate-passing) at h)) zn);
       }
+
+      pub places : z ≤ 2 ^ q - 1 → Places (2 ^ q - 1) (length (take c l)) (take c l)
+      places zn = places-take (stands zn) within
 
       look : (b : Bool) → b ≡ agree q (listed s) (take c l) (2 * t) → locate q (listed s) t z ≡ kept (leb c t && b) (take c l)
       look b e =
@@ -110,11 +106,11 @@ module _ (q : ℕ) (s : List ℕ) (t z : ℕ) where
           go true u = refl
           go false u = absurd u
 
-      pub whole-found : true ≡ agree q (listed s) (take c l) (2 * t) → Answer c l
+      pub whole-found : true ≡ agree q (listed s) (take c l) (2 * t) → Answer (Some c) l
       whole-found e = look true e ∙ rw yes_le refl
 
-      pub whole-none : false ≡ agree q (listed s) (take c l) (2 * t) → Answer (t + 1) l
-      whole-none e = nothing l (look false e ∙ rw yes_le refl)
+      pub whole-none : false ≡ agree q (listed s) (take c l) (2 * t) → Answer None l
+      whole-none e = look false e ∙ rw yes_le refl
 
 -- ---- a part of a room
 pub zeroed-take : (n : ℕ) (l : List ℕ) → Zeroed l → Zeroed (take n l)

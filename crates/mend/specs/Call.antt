@@ -1,15 +1,14 @@
 -- What the call answers, and what it leaves.
-use Rattle.std.specs.Prelude.{Ok, Err, ◌≡◌, refl, List, [], ◌∷◌, ℕ, ◌+◌, ◌*◌, ◌^◌, ◌≤◌, ◌<◌, leb, length, get_or, take, drop}
-use Rattle.std.proofs.Common.{sym, ap, ap₂, ◌∙◌, zero-le, arith, le-leb, length-drop, length-take, get_or-take}
+use Rattle.std.specs.Prelude.{Ok, Err, ◌≡◌, List, [], ◌∷◌, ℕ, ◌+◌, ◌*◌, ◌^◌, ◌≤◌, ◌<◌, Option as RustOption, Some, None, IfSome, length, get_or, take, drop}
+use Rattle.std.proofs.Common.{sym, ap, ap₂, ◌∙◌, zero-le, arith, length-drop, length-take}
 use Rattle.std.proofs.Math.Option.{Option, none, some}
 use Rattle.std.proofs.Math.Nat as Nat
 use Rattle.std.proofs.Math.Decide.{ℕ_discrete}
-use Rattle.std.proofs.lemmas.Bool.{lt-leb}
 use Rattle.polynomial.specs.Digits.{digits, digits_value}
 use Rattle.polynomial.specs.Sums.{all_drop, all_take}
 use Rattle.polynomial.specs.Xor.{xor}
 use Rattle.field.specs.Flips.{Rising, flips}
-use Rattle.locator.specs.Locate.{kept}
+use Rattle.locating.specs.Look.{front}
 use Rattle.code.specs.declared.Refusal.{Refusal}
 use Rattle.code.specs.Answers.{refusal_number}
 use Rattle.code.specs.declared.Parameters.{Parameters}
@@ -18,7 +17,7 @@ use Rattle.code.proofs.Accepted.{accepted}
 use Rattle.code.proofs.Answers.{made-done, made-refused, refusal-pos}
 use Rattle.code.specs.Calls.{Mended, list_of, places_of}
 use Rattle.code.proofs.Chains.{or-first}
-use Rattle.code.specs.Code.{Flips, nearest}
+use Rattle.code.specs.Code.{nearest}
 use Rattle.code.specs.Layout.{IsPage, flipped, mending, place_list, words_of}
 use Rattle.code.specs.Lists.{◌when◌, part}
 use Rattle.code.proofs.Mend.{flipped-else, flipped-here, flipped-page, mend-chain, mend-le, mend-left, mending-eq, nearest-sound}
@@ -59,27 +58,18 @@ module _ (p : Parameters) (A : Accepted p) (x : List ℕ) (h : IsPage p x) (i : 
           written-there p x i new h.exact li j n ∙ old-part j l ∙ ap (digits 8 (sub_word_bytes p)) (sym (flipped-else p R x h i li Q r j n))
 
 -- places that rise
-pub rising-places : (n c : ℕ) (l : List ℕ) → c ≤ length l → Rising 0 n (take c l) → Places n c l
-rising-places n c l b r = record {
-  below = λ j k. rw (get_or-take c l j 0 k) at (rising-at 0 n (take c l) r j (rw (length-take c l ∙ Nat.min-eq_left b) k));
-}
+pub rising-places : (n : ℕ) (Q : List ℕ) → Rising 0 n Q → Places n (length Q) Q
+rising-places n Q r = record { below = λ j k. rising-at 0 n Q r j k }
 
--- ---- the places: what is found where c of t places stand first in the list l
-module _ (p : Parameters) (A : Accepted p) (y : ℕ) (low : y < 2 ^ stored p) (c t : ℕ) (l : List ℕ) (e : nearest p 0 y ≡ kept (leb c t) (take c l)) where
-  pub found_none : t < c → nearest p 0 y ≡ none
-  found_none h = e ∙ rw (lt-leb c t h) refl
+-- ---- the places that are found
+module _ (p : Parameters) (A : Accepted p) (y : ℕ) (low : y < 2 ^ stored p) where
+  pub found-rising : (Q : List ℕ) → nearest p 0 y ≡ some Q → Rising 0 (stored p) Q
+  found-rising Q e = (nearest-sound p (accepted p A) 0 zero-le y low Q e).rising
 
-  pub found_some : c ≤ t → nearest p 0 y ≡ some (take c l)
-  found_some h = e ∙ rw (le-leb c t h) refl
-
-  pub found-flips : c ≤ t → Flips p 0 y (take c l)
-  found-flips h = nearest-sound p (accepted p A) 0 zero-le y low (take c l) (found_some h)
-
-  pub found-long : c ≤ length l → length (take c l) ≡ c
-  found-long b = length-take c l ∙ Nat.min-eq_left b
-
-  pub found-places : c ≤ t → c ≤ length l → Places (stored p) c l
-  found-places h b = rising-places (stored p) c l b (found-flips h).rising
+  pub found-rise : (t : ℕ) (r : RustOption ℕ) (l : List ℕ) → nearest p 0 y ≡ front r l → IfSome r (λ c. c ≤ t) → t ≤ length l
+      → IfSome r (λ c. (c ≤ length l) × Rising 0 (stored p) (take c l))
+  found-rise t None l e h k = tt
+  found-rise t (Some c) l e h k = (Nat.le_trans h k, found-rising (take c l) e)
 
 -- ---- the answer
 module _ (p : Parameters) (x : List ℕ) (i : ℕ) (l : List ℕ) (n : ℕ) where

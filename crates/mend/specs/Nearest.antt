@@ -1,7 +1,7 @@
 -- The flips that mend a word, by its syndromes: what is located is what is nearest.
 --   Knows p a y S    S_1 to S_(2 t_a) are the syndromes of y
-use Rattle.std.specs.Prelude.{◌≡◌, refl, ◌↔◌, List, map, ℕ, suc, ◌-◌, ◌*◌, ◌^◌, ◌≤◌, ◌<◌, ◌+◌, leb, get_or, take}
-use Rattle.std.proofs.Common.{sym, ap, ◌∙◌, zero-le, arith, le-leb, pow_pos}
+use Rattle.std.specs.Prelude.{◌≡◌, ◌↔◌, List, map, ℕ, suc, ◌-◌, ◌*◌, ◌^◌, ◌≤◌, ◌<◌, ◌+◌, get_or, Some}
+use Rattle.std.proofs.Common.{sym, ap, ◌∙◌, zero-le, arith, pow_pos}
 use Rattle.std.proofs.Math.Option.{Option}
 use Rattle.std.proofs.Math.Nat as Nat
 use Rattle.std.proofs.Math.Decide.{dec_le}
@@ -13,7 +13,7 @@ use Rattle.field.specs.Fields.{Known}
 use Rattle.field.specs.Flips.{flips}
 use Rattle.field.specs.Odd.{word-odd}
 use Rattle.locator.proofs.Found.{complete, locate-agree, sound}
-use Rattle.locator.specs.Locate.{Located, kept, locate}
+use Rattle.locator.specs.Locate.{Located, locate}
 use Rattle.code.specs.declared.Parameters.{Parameters}
 use Rattle.code.specs.Accepted.{Rules}
 use Rattle.code.proofs.Accepted.{accepted, rising, stored-le}
@@ -27,7 +27,7 @@ use Rattle.code.proofs.Theorems.{demand2}
 use Rattle.element.specs.declared.Field.{Field}
 use Rattle.element.specs.Fields.{field_at}
 use Rattle.massey.specs.Entries.{Below}
-use Rattle.locating.specs.Look.{from_list}
+use Rattle.locating.specs.Look.{from_list, front}
 use Rattle.code.proofs.Filled.{map_at, map-length}
 use Rattle.word.specs.Level.{level-syndrome}
 
@@ -94,9 +94,8 @@ module _ (p : Parameters) (A : Accepted p) (f : Field) (e : f ≡ field_at p.q) 
 
 -- ---- by the remainder of the word by g_0
 module _ (p : Parameters) (A : Accepted p) (y : ℕ) (low : y < 2 ^ stored p) (r : ℕ) (e : r ≡ remainder p 0 y) where
-  pub nearest_zero : r ≡ 0 → (t : ℕ) (l : List ℕ) → nearest p 0 y ≡ kept (leb 0 t) (take 0 l)
-  nearest_zero z t l =
-      nearest-clean p (accepted p A) 0 zero-le y low ((multiple-iff p (accepted p A) 0 zero-le y).0 (sym e ∙ z)) ∙ sym (rw (le-leb 0 t zero-le) refl)
+  pub nearest_zero : r ≡ 0 → (l : List ℕ) → nearest p 0 y ≡ front (Some 0) l
+  nearest_zero z l = nearest-clean p (accepted p A) 0 zero-le y low ((multiple-iff p (accepted p A) 0 zero-le y).0 (sym e ∙ z))
 
   pub nearest-remainder : (t : ℕ) (o : Option (List ℕ)) → t ≡ strength p 0 → locate p.q (syndrome p.q r) t (stored p) ≡ o → nearest p 0 y ≡ o
   nearest-remainder t o d h =

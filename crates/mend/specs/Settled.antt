@@ -4,15 +4,13 @@
 --   Settled p x i o y        the page y is x with sub-word i mended by o, the places that were found, if any were
 --   Passed p g js ws y l c b what g found for the first c of the numbers js is done to the page of ws, which is y, and the first b entries of l are
 --                            those for which nothing was found
-use Rattle.std.specs.Prelude.{◌≡◌, refl, Bool, true, false, not, cond, List, [], ◌∷◌, ◌++◌, ℕ, zero, suc, ◌+◌, ◌≤◌, ◌<◌, leb, length, get_or, set, take}
-use Rattle.std.proofs.Common.{sym, ap, ap₂, ◌∙◌, inl, inr, zero-le, add-one, arith, le-leb, take_all, take-suc}
+use Rattle.std.specs.Prelude.{◌≡◌, refl, Bool, not, cond, List, [], ◌∷◌, ◌++◌, ℕ, zero, suc, ◌+◌, ◌≤◌, ◌<◌, Option as RustOption, Some, None, is_some, length, get_or, set, take}
+use Rattle.std.proofs.Common.{sym, ap, ap₂, ◌∙◌, inl, inr, zero-le, add-one, arith, take_all, take-suc}
 use Rattle.std.proofs.Math.Option.{Option, none, some}
 use Rattle.std.proofs.Math.Nat as Nat
-use Rattle.std.proofs.lemmas.Bool.{lt-leb}
 use Rattle.std.proofs.lemmas.List.{set-get_or}
 use Rattle.polynomial.specs.Xor.{xor}
 use Rattle.field.specs.Flips.{Rising, flips}
-use Rattle.locator.specs.Locate.{kept}
 use Rattle.code.specs.declared.Parameters.{Parameters}
 use Rattle.code.proofs.Accepted.{accepted}
 use Rattle.code.specs.Layout.{IsPage, words_of}
@@ -24,6 +22,7 @@ use Rattle.code.proofs.Rounds.{mend_all-append, mend_all-else, mend_all-one, unf
 use Rattle.element.specs.declared.Field.{Field}
 use Rattle.element.specs.Fields.{field_at}
 use Rattle.element.specs.Lent.{Tables}
+use Rattle.locating.specs.Look.{front}
 use Rattle.layout.specs.Written.{written}
 use Rattle.mend.specs.Call.{written-flipped}
 
@@ -45,29 +44,18 @@ pub record Settled (p : Parameters) (x : List ℕ) (i : ℕ) (o : Option (List �
 
 -- ---- one sub-word
 module _ (p : Parameters) (A : Accepted p) (x : List ℕ) (h : IsPage p x) (i : ℕ) (li : i < p.m) where
-  unchanged : Settled p x i none x
-  unchanged = record { page = h; words = sym (set-get_or (words_of p x) i 0) }
+  pub settled-none : Settled p x i none x
+  settled-none = record { page = h; words = sym (set-get_or (words_of p x) i 0) }
 
-  changed : (Q y : List ℕ) → Rising 0 (stored p) Q → y ≡ written p x i (xor (get_or (words_of p x) i 0) (flips Q)) → Settled p x i (some Q) y
-  changed Q y r e =
+  pub settled-some : (Q y : List ℕ) → Rising 0 (stored p) Q → y ≡ written p x i (xor (get_or (words_of p x) i 0) (flips Q)) → Settled p x i (some Q) y
+  settled-some Q y r e =
       let w = e ∙ written-flipped p A x h i li Q r in
       record { page = rw w (flipped-page p (accepted p A) x h i li Q r); words = ap (words_of p) w ∙ flipped-words p (accepted p A) x h i li Q r }
 
-  module _ (c k : ℕ) (l : List ℕ) where
-    pub settled-none : k < c → Settled p x i (kept (leb c k) (take c l)) x
-    settled-none b = rw (lt-leb c k b) unchanged
-
-    pub settled-some : c ≤ k → (y : List ℕ) → Rising 0 (stored p) (take c l) → y ≡ written p x i (xor (get_or (words_of p x) i 0) (flips (take c l)))
-        → Settled p x i (kept (leb c k) (take c l)) y
-    settled-some b y r e = rw (le-leb c k b) (changed (take c l) y r e)
-
--- something was found where c of the list's places are no more than k
-pub found-is : (c k : ℕ) (l : List ℕ) → leb c k ≡ not (nowhere (kept (leb c k) l))
-found-is c k l = go (leb c k)
-  where
-    go : (b : Bool) → b ≡ not (nowhere (kept b l))
-    go true = refl
-    go false = refl
+-- whether something was found
+pub found-is : (r : RustOption ℕ) (l : List ℕ) → is_some r ≡ not (nowhere (front r l))
+found-is None l = refl
+found-is (Some c) l = refl
 
 -- ---- one after another
 pub record Passed (p : Parameters) (g : ℕ → Option (List ℕ)) (js ws y l : List ℕ) (c b : ℕ) : Type 0 where

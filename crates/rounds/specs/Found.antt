@@ -1,8 +1,8 @@
 -- What a round finds, by rows of syndromes.
 --   found_by p a rows ks i    what is found at level a for sub-word i, one of the broken ks, by the rows
 --   Asked p a k rows ks      rows of the field's numbers, a level and its strength k, broken sub-words of a round: rising, v at most
-use Rattle.std.specs.Prelude.{◌≡◌, Bool, not, ◌≢◌, List, [], ◌∷◌, map, ℕ, ◌+◌, ◌-◌, ◌*◌, ◌/◌, ◌^◌, ◌≤◌, ◌<◌, leb, length, get_or, take}
-use Rattle.std.proofs.Common.{sym, ap, ◌∙◌, zero-le, arith, le-leb}
+use Rattle.std.specs.Prelude.{◌≡◌, Bool, not, ◌≢◌, List, [], ◌∷◌, map, ℕ, ◌+◌, ◌-◌, ◌*◌, ◌/◌, ◌^◌, ◌≤◌, ◌<◌, Option as RustOption, Some, None, IfSome, is_some, length, get_or, take}
+use Rattle.std.proofs.Common.{sym, ap, ◌∙◌, zero-le, arith}
 use Rattle.std.proofs.Math.Option.{Option}
 use Rattle.std.proofs.Math.Nat as Nat
 use Rattle.polynomial.specs.Sums.{All}
@@ -13,7 +13,7 @@ use Rattle.field.specs.Flips.{Rising}
 use Rattle.field.specs.Odd.{from_odd, from_odd-even, from_odd-is, from_odd-odd}
 use Rattle.field.specs.Unmix.{unmix}
 use Rattle.locator.proofs.Found.{complete, locate-agree, sound}
-use Rattle.locator.specs.Locate.{kept, locate}
+use Rattle.locator.specs.Locate.{locate}
 use Rattle.code.specs.declared.Parameters.{Parameters}
 use Rattle.code.specs.Accepted.{Rules}
 use Rattle.code.proofs.Accepted.{accepted, rising, stored-le, strength-high}
@@ -25,7 +25,7 @@ use Rattle.code.specs.Parameters.{Accepted, stored, strength}
 use Rattle.code.specs.Refusals.{nowhere}
 use Rattle.code.proofs.Rounds.{error-iff, error-sound, mem-from, node-apart, others_apart, others-fewer}
 use Rattle.element.specs.declared.Field.{Field}
-use Rattle.locating.specs.Look.{from_list}
+use Rattle.locating.specs.Look.{from_list, front}
 use Rattle.massey.specs.Entries.{Below, el}
 use Rattle.mend.specs.Settled.{Lent, Settled, found-is}
 use Rattle.unmix.specs.Nodes.{Apart, unmixed_at, weight_at, weight_at-eq}
@@ -93,9 +93,10 @@ module _ (p : Parameters) (A : Accepted p) (a : ℕ) (av : a ≤ p.v) where
       )
 
   -- ---- what is found stands at stored places
-  pub found-rising : (rows ks : List ℕ) (i c k : ℕ) (l : List ℕ) → found_by p a rows ks i ≡ kept (leb c k) (take c l) → c ≤ k → Rising 0 (stored p) (take c l)
-  found-rising rows ks i c k l e h =
-      (error-sound p R a av (from_odd p.q (unmixed_at p.q rows (others i ks) i)) (take c l) (e ∙ ap (λ (b : Bool). kept b (take c l)) (le-leb c k h))).rising
+  pub found-rising : (rows ks : List ℕ) (i t : ℕ) (r : RustOption ℕ) (l : List ℕ) → found_by p a rows ks i ≡ front r l → IfSome r (λ c. c ≤ t) → t ≤ length l
+      → IfSome r (λ c. (c ≤ length l) × Rising 0 (stored p) (take c l))
+  found-rising rows ks i t None l e h k = tt
+  found-rising rows ks i t (Some c) l e h k = (Nat.le_trans h k, (error-sound p R a av (from_odd p.q (unmixed_at p.q rows (others i ks) i)) (take c l) e).rising)
 
 below-eight : (i n : ℕ) (ks : List ℕ) → n ≤ 8 → All (λ k. (k ≢ i) × (k < n)) ks → All (λ k. k < 8) ks
 below-eight i n [] h a = tt
@@ -160,6 +161,6 @@ module _ {p : Parameters} {f : Field} {powers logs : List ℕ} (L : Lent p f pow
           ∙ sym (locate-listed p.q rules.known O k o odd_is (stored p) (stored-le p rules)) ∙ (rw (L.field, v) at h)
 
 -- what is found done to the sub-word, and whether something is
-pub settled-found : (p : Parameters) (x : List ℕ) (i : ℕ) (o : Option (List ℕ)) (c k : ℕ) (l y : List ℕ) (b : Bool) → o ≡ kept (leb c k) l
-    → Settled p x i (kept (leb c k) l) y × (b ≡ leb c k) → Settled p x i o y × (b ≡ not (nowhere o))
-settled-found p x i o c k l y b e S = rw e (S.0, S.1 ∙ found-is c k l)
+pub settled-found : (p : Parameters) (x : List ℕ) (i : ℕ) (o : Option (List ℕ)) (r : RustOption ℕ) (l y : List ℕ) (b : Bool) → o ≡ front r l
+    → Settled p x i (front r l) y × (b ≡ is_some r) → Settled p x i o y × (b ≡ not (nowhere o))
+settled-found p x i o r l y b e S = rw e (S.0, S.1 ∙ found-is r l)

@@ -2,9 +2,8 @@
 // that is an error of few enough stored bits is mended, all of a round from the page as it stood when the round began.
 #![tactic(auto)]
 
-ghost use Rattle.std.specs.Prelude.{◌≡◌, not, ◌+◌, ◌*◌, ◌-◌, ◌<◌, ◌≤◌, leb, length, take};
+ghost use Rattle.std.specs.Prelude.{◌≡◌, not, ◌+◌, ◌*◌, ◌-◌, ◌<◌, ◌≤◌, IfSome, length};
 ghost use Rattle.field.specs.Flips.{Rising};
-ghost use Rattle.locator.specs.Locate.{kept};
 ghost use Rattle.code.specs.Calls.{generators};
 ghost use Rattle.code.specs.Code.{degree, nested, odd_syndromes};
 ghost use Rattle.code.specs.Layout.{IsPage, page_bytes, words_of};
@@ -14,6 +13,7 @@ ghost use Rattle.code.specs.Refusals.{nowhere};
 ghost use Rattle.element.specs.Fields.{field_at};
 ghost use Rattle.levels.specs.Ready.{Prepared};
 ghost use Rattle.massey.specs.Entries.{Below};
+ghost use Rattle.locating.specs.Look.{front};
 ghost use Rattle.mend.specs.Settled.{Held, Lent, Settled};
 ghost use Rattle.syndrome.specs.Sum.{Roots};
 ghost use Rattle.rounds.specs.Rows.{PutRow, Sums};
@@ -86,8 +86,8 @@ fn sums_into(
 
 // ---- one sub-word
 
-// The places of the error of sub-word i, one of the numbers ks, by the rows: their number, and they stand first in the list; more than k, which
-// is t_a: none.
+// The places of the error of sub-word i, one of the numbers ks, by the rows, if they are at most k, which is t_a: their number,
+// and they stand first in the list.
 fn find(
     p: Parameters,
     f: Field,
@@ -99,9 +99,9 @@ fn find(
     k: usize,
     i: u16,
     list: &mut [u16],
-) -> usize
+) -> Option<usize>
     requires { Lent p f powers.now logs.now × Asked p a k rows.now ks.now × Mem i ks.now × (length list.old ≡ 64) }
-    ensures { found_by p a rows.now ks.now i ≡ kept (leb result k) (take result list.new) }
+    ensures { found_by p a rows.now ks.now i ≡ front result list.new × IfSome result (λ c. c ≤ k) }
 {
     let mut near = [0u16; 8];
     let c = unmix::others_into(&mut near, ks, i);
@@ -130,8 +130,8 @@ fn mend_word(
         × (result ≡ not (nowhere (found_by p a rows.now ks.now i))) }
 {
     let mut list = [0u16; 64];
-    let c = find(p, f, powers, logs, rows, ks, a, k, i, &mut list);
-    mend::settle(p, page, i as usize, &list, c, k)
+    let found = find(p, f, powers, logs, rows, ks, a, k, i, &mut list);
+    mend::settle(p, page, i as usize, &list, found)
 }
 
 // ---- a round

@@ -43,7 +43,7 @@ remainder_at-requires c =
     )
 
 pub returns-then-is_zero : goal.returns-then-is_zero
-returns-then-is_zero c = nearest_zero c.args.p c.requires.0.accepts ((get_or (words_of c.args.p c.args.page.now) c.args.i 0)) (low (goal.at.returns-then-is_zero c).After-remainder_at) (value 64 c.remainder_at.new.r) (is (goal.at.returns-then-is_zero c).After-remainder_at) (eqb-true _ 0 (sym c.is_zero.ensures ∙ c.if-is_zero.true)) c.args.p.t0 c.args.list.now
+returns-then-is_zero c = (nearest_zero c.args.p c.requires.0.accepts ((get_or (words_of c.args.p c.args.page.now) c.args.i 0)) (low (goal.at.returns-then-is_zero c).After-remainder_at) (value 64 c.remainder_at.new.r) (is (goal.at.returns-then-is_zero c).After-remainder_at) (eqb-true _ 0 (sym c.is_zero.ensures ∙ c.if-is_zero.true)) c.args.list.now, zero-le)
 
 pub locate_by-requires : goal.locate_by-requires
 locate_by-requires c =
@@ -65,6 +65,8 @@ locate_by-requires c =
 
 pub returns-else-is_zero : goal.returns-else-is_zero
 returns-else-is_zero c =
-    let A = c.requires.0.accepts in
-    nearest-remainder c.args.p A ((get_or (words_of c.args.p c.args.page.now) c.args.i 0)) (low (goal.at.returns-else-is_zero c).After-remainder_at) (value 64 c.remainder_at.new.r) (is (goal.at.returns-else-is_zero c).After-remainder_at) c.args.p.t0 _ refl
-    (sheet-located c.args.p A c.args.f c.requires.0.field c.stored_of-z.result c.stored_of-z.ensures (value 64 c.remainder_at.new.r) c.args.p.t0 _ c.locate_by.ensures)
+    let A = c.requires.0.accepts in (
+      nearest-remainder c.args.p A ((get_or (words_of c.args.p c.args.page.now) c.args.i 0)) (low (goal.at.returns-else-is_zero c).After-remainder_at) (value 64 c.remainder_at.new.r) (is (goal.at.returns-else-is_zero c).After-remainder_at) c.args.p.t0 _ refl
+          (sheet-located c.args.p A c.args.f c.requires.0.field c.stored_of-z.result c.stored_of-z.ensures (value 64 c.remainder_at.new.r) c.args.p.t0 _ c.locate_by.ensures.0),
+      c.locate_by.ensures.1,
+    )

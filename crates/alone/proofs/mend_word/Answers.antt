@@ -4,33 +4,32 @@ use mathlib.Core.Bool.{not}
 use mathlib.Core.List.{List}
 use mathlib.Core.Option.{Option}
 use Prim.Native.Nat.{ℕ, zero-le}
-use native.Mathlib.Nat as Nat
 use native.Mathlib.Omega.{arith}
-use lib.ListN.{get_or, take}
-use Rattle.code.proofs.Accepted.{accepted, rising}
+use lib.ListN.{get_or}
+use Rattle.code.proofs.Accepted.{accepted, strength-high}
 use Rattle.code.specs.Layout.{words_of}
 use Rattle.code.proofs.Pages.{word_lt}
 use Rattle.code.specs.Refusals.{nowhere}
+use Rattle.mend.specs.Call.{found-rise}
 use Rattle.mend.specs.Settled.{found-is}
-use Rattle.alone.specs.Alone.{places-rise}
 use Rattle.alone.proofs.mend_word.Goals as goal
 
-pub find-c-requires : goal.find-c-requires
-find-c-requires c = (c.requires.0, c.requires.1, c.requires.2, c.requires.3, c.requires.4, search rules)
+pub find-found-requires : goal.find-found-requires
+find-found-requires c = (c.requires.0, c.requires.1, c.requires.2, c.requires.3, c.requires.4, search rules)
 
 pub settle-requires : goal.settle-requires
 settle-requires c =
+    let a = c.args in
     let A = c.requires.0.accepts in
-    let R = accepted c.args.p A in (
+    let f = c.find-found in (
       A,
       c.requires.3,
       c.requires.4,
-      omega (arith, rising c.args.p R 0 c.args.p.v zero-le (Nat.le_refl c.args.p.v), R.high, c.list-2-1.given),
-      places-rise c.args.p A ((get_or (words_of c.args.p c.args.page.now) c.args.i 0)) (word_lt c.args.p R c.args.page.now c.requires.3 c.args.i c.requires.4) c.find-c.result c.args.p.t0 c.find-c.new.list c.find-c.ensures,
+      found-rise a.p A (get_or (words_of a.p a.page.now) a.i 0) (word_lt a.p (accepted a.p A) a.page.now c.requires.3 a.i c.requires.4) a.p.t0 f.result f.new.list f.ensures.0 f.ensures.1
+          (omega (arith, strength-high a.p A 0 zero-le, c.list-2-1.given)),
     )
 
 pub returns : goal.returns
-returns c = (
-  rw c.find-c.ensures c.settle.ensures.0,
-  c.settle.ensures.1 ∙ found-is c.find-c.result c.args.p.t0 (take c.find-c.result c.find-c.new.list) ∙ sym (ap (λ (u : Option (List ℕ)). not (nowhere u)) c.find-c.ensures),
-)
+returns c =
+    let f = c.find-found in
+    (rw f.ensures.0 c.settle.ensures.0, c.settle.ensures.1 ∙ found-is f.result f.new.list ∙ sym (ap (λ (u : Option (List ℕ)). not (nowhere u)) f.ensures.0))

@@ -39,4 +39,4 @@ locate_in-requires c =
     (c.requires.0, all-below q k c.args.odd.now c.all_into.new.list c.args.t (are (goal.at.locate_in-requires c).After-all_into) c.requires.1, c.requires.2, Nat.le_of_eq (sym (all-long q k c.args.odd.now c.all_into.new.list c.args.t (are (goal.at.locate_in-requires c).After-all_into))), c.requires.4, c.requires.5, c.requires.6, omega (arith, l), refl, z, z, c.requires.3, are (goal.at.locate_in-requires c).After-all_into)
 
 pub returns : goal.returns
-returns c = sym (locate-all c.args.f.q c.requires.0.field.known c.args.odd.now c.all_into.new.list c.args.t (are (goal.at.returns c).After-all_into) c.args.z c.requires.5) ∙ c.locate_in.ensures
+returns c = (sym (locate-all c.args.f.q c.requires.0.field.known c.args.odd.now c.all_into.new.list c.args.t (are (goal.at.returns c).After-all_into) c.args.z c.requires.5) ∙ c.locate_in.ensures.0, c.locate_in.ensures.1)

@@ -1,8 +1,5 @@
 use mathlib.Core.Path.{ap, ◌∙◌}
 use Prim.Native.Nat.{ℕ, ◌^◌}
-use native.Mathlib.Omega.{arith}
-use lib.Seq.{length-take-le}
-use Rattle.std.proofs.lemmas.List.{get_or-take}
 use Rattle.polynomial.specs.Xor.{xor}
 use Rattle.polynomial.specs.Digits.{value}
 use Rattle.mend.specs.Left.{flip-first, flip-next}
@@ -13,5 +10,5 @@ loop-e-init c = flip-first c.args.s.now c.args.list.now
 
 pub loop-e-preserved : goal.loop-e-preserved
 loop-e-preserved c =
-    flip-next c.args.s.now c.args.list.now c.loop-e.s _ c.loop-e.e-index c.loop-e.invariant (omega (arith, length-take-le c.args.c c.args.list.now c.requires.0, c.loop-e-test.true, c.requires.0)) c.flip.auto.s
-    (c.flip.ensures ∙ ap (λ (n : ℕ). xor (value 8 c.loop-e.s) (2 ^ n)) (c.from.ensures ∙ get_or-take c.args.c c.args.list.now c.loop-e.e-index 0 (omega (arith, length-take-le c.args.c c.args.list.now c.requires.0, c.loop-e-test.true))))
+    flip-next c.args.s.now c.args.list.now c.loop-e.s _ c.loop-e.e-index c.loop-e.invariant c.loop-e-test.true c.flip.auto.s
+    (c.flip.ensures ∙ ap (λ (n : ℕ). xor (value 8 c.loop-e.s) (2 ^ n)) c.from.ensures)

@@ -31,7 +31,7 @@ pub flip_all-requires : goal.flip_all-requires
 flip_all-requires c =
     let a = c.args in
     let l = part_length a.page.now (a.i * c.sub_word_bytes-b.result) c.sub_word_bytes-b.result (room (goal.at.flip_all-requires c).After-sub_word_bytes-b) ∙ c.sub_word_bytes-b.ensures in
-    (c.requires.3, record { below = λ j h. Nat.lt_of_lt_of_le (c.requires.4.below j h) (omega (arith, l, whole (stored a.p))) })
+    record { below = λ j h. Nat.lt_of_lt_of_le (c.requires.3.below j h) (omega (arith, l, whole (stored a.p))) }
 
 pub returns : goal.returns
 returns c =
@@ -42,5 +42,5 @@ returns c =
     let y = part-made a.p c.flip_all.new.s _ b
     (middle-bytes (take start a.page.now) c.flip_all.new.s (drop (start + b - start) (drop start a.page.now)) (λ j. (c.type_inv.page j).fits))
     l c.sub_word_bytes-b.ensures
-    (c.flip_all.ensures ∙ ap (λ (f : ℕ). xor f (flips (take a.c a.list.now))) (part-word a.p c.requires.0 a.page.now a.i b c.sub_word_bytes-b.ensures c.requires.2)) in
+    (c.flip_all.ensures ∙ ap (λ (f : ℕ). xor f (flips a.list.now)) (part-word a.p c.requires.0 a.page.now a.i b c.sub_word_bytes-b.ensures c.requires.2)) in
     put_is a.page.now c.flip_all.new.s _ start b _ (ap (λ (j : ℕ). a.i * j) c.sub_word_bytes-b.ensures) y (length_digits 8 (sub_word_bytes a.p) _ ∙ sym c.sub_word_bytes-b.ensures)

@@ -17,8 +17,10 @@ written p l f c e h w =
     let v : f ≡ replicate (length p - length l) no_place = rw (d, k) at w ∙ ap (λ (z : ℕ). replicate z no_place) (length-take-le (length p - c) (drop c p) (omega (arith, n)) ∙ ap (λ (z : ℕ). length p - z) (sym e)) in
     rw (take_at l (drop c p) c e, d, k, v, drop_of_length-le (drop c p) {i = length p - c} (omega (arith, n)), append-nil (replicate (length p - length l) no_place)) (sym (places-eq (length p) l))
 
+-- the same where the list that is copied is m
+copied : (p m l f : List ℕ) → l ≡ m → length m ≤ length p → f ≡ replicate (length (take (length (l ++ drop (length m) p) - length m) (drop (length m) (l ++ drop (length m) p)))) no_place
+    → put_mid (length m) (length (l ++ drop (length m) p) - length m) (l ++ drop (length m) p) f ≡ place_list (length p) m
+copied p m l f e h w = written p l f (length m) (ap length e) h w ∙ ap (place_list (length p)) e
+
 pub returns : goal.returns
-returns c =
-    let a = c.args in
-    let n = c.copy_from_slice.ensures.after in
-    rw (← n) (written a.places.now c.copy_from_slice.new.self c.fill.new.self a.c (ap length n ∙ length-take-le a.c a.list.now c.requires.0) c.requires.1 (c.fill.ensures.after (λ y h. h)))
+returns c = copied c.args.places.now c.args.list.now c.copy_from_slice.new.self c.fill.new.self c.copy_from_slice.ensures.after c.requires (c.fill.ensures.after (λ y h. h))

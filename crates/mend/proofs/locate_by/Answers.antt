@@ -26,4 +26,4 @@ pub locate-requires : goal.locate-requires
 locate-requires c = (c.requires.0, odd-below c.args.f.q c.requires.0.field.known _ c.args.t c.odd_into.new.list (are (goal.at.locate-requires c).After-odd_into), c.requires.5, map-length _ _ c.odd_into.new.list (are (goal.at.locate-requires c).After-odd_into), c.requires.6, c.requires.7, c.requires.8)
 
 pub returns : goal.returns
-returns c = sym (locate-odd c.args.f.q c.requires.0.field.known _ c.args.t c.odd_into.new.list (are (goal.at.returns c).After-odd_into) c.args.z c.requires.7) ∙ c.locate.ensures
+returns c = (sym (locate-odd c.args.f.q c.requires.0.field.known _ c.args.t c.odd_into.new.list (are (goal.at.returns c).After-odd_into) c.args.z c.requires.7) ∙ c.locate.ensures.0, c.locate.ensures.1)

@@ -17,4 +17,7 @@ with_tables-requires c =
     search rules
 
 pub returns : goal.returns
-returns c = sheet-located c.args.p c.requires.0 c.of-f.result c.of-f.ensures c.stored_of-z.result c.stored_of-z.ensures (value 64 c.args.r.now) c.args.t _ (search rules)
+returns c = (
+  sheet-located c.args.p c.requires.0 c.of-f.result c.of-f.ensures c.stored_of-z.result c.stored_of-z.ensures (value 64 c.args.r.now) c.args.t _ (search rules),
+  search rules,
+)

@@ -55,4 +55,4 @@ locate-requires c =
     )
 
 pub returns : goal.returns
-returns c = found-located c.requires.0 c.requires.1 c.args.i c.requires.2 _ c.others_into-c.ensures.1 _ (size (goal.at.returns c).After-others_into-c) _ c.error_into.ensures _ c.stored_of-z.ensures _ c.locate.ensures
+returns c = (found-located c.requires.0 c.requires.1 c.args.i c.requires.2 _ c.others_into-c.ensures.1 _ (size (goal.at.returns c).After-others_into-c) _ c.error_into.ensures _ c.stored_of-z.ensures _ c.locate.ensures.0, c.locate.ensures.1)
