@@ -85,7 +85,7 @@ module _ (q : ℕ) (s : List ℕ) (t z : ℕ) where
           ext_get_or 0 (take c l) (candidate q (listed s) t z) (size ∙ C.count)
           (λ i h. let k : i < c = rw size at h in get_or-take c l i 0 k ∙ C.found i k (omega arith))
 
-      stands : z ≤ 2 ^ q - 1 → Places (2 ^ q - 1) c l
+      pub stands : z ≤ 2 ^ q - 1 → Places (2 ^ q - 1) c l
       stands zn = record {
         below = λ i h. rw (C.found i h (omega arith), candidate-passing) (Nat.lt_of_lt_of_le
             (rising-at 0 z (passing (is_root (field_of q) σ) 0 z) (passing-rising (is_root (field_of q) σ) 0 z z (Nat.zero-add z)) i (rw (C.count, candidate-passing) at h)) zn);

@@ -1,6 +1,6 @@
 -- What the call answers, and what it leaves.
 use Rattle.std.specs.Prelude.{Ok, Err, ◌≡◌, List, [], ◌∷◌, ℕ, ◌+◌, ◌*◌, ◌^◌, ◌≤◌, ◌<◌, Option as RustOption, Some, None, IfSome, length, get_or, take, drop}
-use Rattle.std.proofs.Common.{sym, ap, ap₂, ◌∙◌, zero-le, arith, length-drop, length-take}
+use Rattle.std.proofs.Common.{sym, ap, ap₂, ◌∙◌, zero-le, arith, length-drop, length-take, length-take-le, get_or-take}
 use Rattle.std.proofs.Math.Option.{Option, none, some}
 use Rattle.std.proofs.Math.Nat as Nat
 use Rattle.std.proofs.Math.Decide.{ℕ_discrete}
@@ -17,7 +17,7 @@ use Rattle.code.proofs.Accepted.{accepted}
 use Rattle.code.proofs.Answers.{made-done, made-refused, refusal-pos}
 use Rattle.code.specs.Calls.{Mended, list_of, places_of}
 use Rattle.code.proofs.Chains.{or-first}
-use Rattle.code.specs.Code.{nearest}
+use Rattle.code.specs.Code.{Flips, nearest}
 use Rattle.code.specs.Layout.{IsPage, flipped, mending, place_list, words_of}
 use Rattle.code.specs.Lists.{◌when◌, part}
 use Rattle.code.proofs.Mend.{flipped-else, flipped-here, flipped-page, mend-chain, mend-le, mend-left, mending-eq, nearest-sound}
@@ -57,14 +57,23 @@ module _ (p : Parameters) (A : Accepted p) (x : List ℕ) (h : IsPage p x) (i : 
       go j l (no n) =
           written-there p x i new h.exact li j n ∙ old-part j l ∙ ap (digits 8 (sub_word_bytes p)) (sym (flipped-else p R x h i li Q r j n))
 
--- places that rise
-pub rising-places : (n : ℕ) (Q : List ℕ) → Rising 0 n Q → Places n (length Q) Q
-rising-places n Q r = record { below = λ j k. rising-at 0 n Q r j k }
+-- places that rise: the first c of l
+pub rising-places : (n c : ℕ) (l : List ℕ) → c ≤ length l → Rising 0 n (take c l) → Places n c l
+rising-places n c l b r = record {
+  below = λ j k. rw (get_or-take c l j 0 k) at (rising-at 0 n (take c l) r j (rw (length-take-le c l b) k));
+}
+
+-- the same, of a whole list
+pub rising-all : (n : ℕ) (Q : List ℕ) → Rising 0 n Q → Places n (length Q) Q
+rising-all n Q r = record { below = λ j k. rising-at 0 n Q r j k }
 
 -- ---- the places that are found
 module _ (p : Parameters) (A : Accepted p) (y : ℕ) (low : y < 2 ^ stored p) where
+  pub found-flips : (Q : List ℕ) → nearest p 0 y ≡ some Q → Flips p 0 y Q
+  found-flips Q e = nearest-sound p (accepted p A) 0 zero-le y low Q e
+
   pub found-rising : (Q : List ℕ) → nearest p 0 y ≡ some Q → Rising 0 (stored p) Q
-  found-rising Q e = (nearest-sound p (accepted p A) 0 zero-le y low Q e).rising
+  found-rising Q e = (found-flips Q e).rising
 
   pub found-rise : (t : ℕ) (r : RustOption ℕ) (l : List ℕ) → nearest p 0 y ≡ front r l → IfSome r (λ c. c ≤ t) → t ≤ length l
       → IfSome r (λ c. (c ≤ length l) × Rising 0 (stored p) (take c l))

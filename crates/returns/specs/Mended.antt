@@ -1,6 +1,6 @@
 -- What is written of a page: one byte where it is refused, byte 0 and the mended page where it is not.
 --   answer_of p x    of the page x
-use Rattle.std.specs.Prelude.{Result, Ok, Err, ◌≡◌, refl, ◌⊎◌, List, ◌∷◌, ◌++◌, ℕ, ◌+◌, ◌-◌, ◌≤◌, ◌<◌, length, take, drop, replicate}
+use Rattle.std.specs.Prelude.{Ok, Err, ◌≡◌, refl, ◌⊎◌, List, ◌∷◌, ◌++◌, ℕ, ◌+◌, ◌-◌, ◌≤◌, ◌<◌, length, take, drop, replicate}
 use Rattle.std.proofs.Common.{sym, ap, ◌∙◌, inl, inr, arith}
 use Rattle.std.proofs.Math.Nat as Nat
 use Rattle.code.specs.declared.Refusal.{Refusal}

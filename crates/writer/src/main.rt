@@ -52,9 +52,28 @@ fn respond(rt: &impl Print, room: &[u8], got: usize) -> io::Result<Output>
     let input = &room[..got];
     let p = given::sheet_given(input);
     let tested = sheet::test(p);
-    let Ok(accepted) = tested else {
+    let Ok(Parameters {
+        q,
+        m,
+        v,
+        t0,
+        t1,
+        t2,
+        t3,
+        s,
+    }) = tested else {
         let k = code::number_of(&tested);
         return put(rt, room, got, given::refused(k));
+    };
+    let accepted = Parameters {
+        q,
+        m,
+        v,
+        t0,
+        t1,
+        t2,
+        t3,
+        s,
     };
     put(rt, room, got, page_written(input, accepted))
 }

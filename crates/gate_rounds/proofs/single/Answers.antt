@@ -13,7 +13,7 @@ found : (w : After-write-r) → (let a = w.args in
     × (is_done w.write-r.result ≡ false → a.page.now ≡ a.one.now))
 found w =
     let a = w.args in (
-      same_number a.p a.l a.blocks.now a.one.now a.page.now _ a.said _ w.requires.0 w.write-r.ensures w.requires.2,
+      same_number a.p a.l a.blocks.now a.one.now a.page.now _ a.said _ w.requires.0 w.write-r.ensures,
       same-page a.p a.l a.blocks.now a.one.now a.page.now _ a.said _ w.requires.0 w.write-r.ensures,
       page-kept a.p a.l a.blocks.now a.one.now a.page.now _ a.said _ w.requires.0 w.write-r.ensures,
     )

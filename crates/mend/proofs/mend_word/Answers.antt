@@ -12,7 +12,7 @@ use Rattle.code.proofs.Mend.{word_low}
 use Rattle.code.specs.Parameters.{stored, strength}
 use Rattle.code.proofs.Placement.{word_at}
 use Rattle.layout.specs.SubWords.{part-is}
-use Rattle.mend.specs.Call.{found-rising, mend-made, mend-nowhere, rising-places, written-flipped}
+use Rattle.mend.specs.Call.{found-rising, mend-made, mend-nowhere, rising-all, written-flipped}
 use Rattle.mend.proofs.mend_word.Goals as goal
 use Rattle.mend.proofs.mend_word.Goals.{In-Some}
 
@@ -48,7 +48,7 @@ slice_bounds-found-end c = sym (length-take-le _ _ (omega (arith, most (goal.at.
 pub flip_in-requires : goal.flip_in-requires
 flip_in-requires c =
     let u = c.requires.0 in
-    (u.accepted, u.page.exact, u.index, rising-places (stored c.args.p) (take c.in-Some.c c.find.new.list) (rises (goal.at.flip_in-requires c).In-Some))
+    (u.accepted, u.page.exact, u.index, rising-all (stored c.args.p) (take c.in-Some.c c.find.new.list) (rises (goal.at.flip_in-requires c).In-Some))
 
 pub overflow_cast-flips : goal.overflow_cast-flips
 overflow_cast-flips c = record { fits = Nat.lt_of_le_of_lt (most (goal.at.overflow_cast-flips c).In-Some) (lit< tt) }

@@ -1,7 +1,7 @@
 use Rattle.std.specs.Prelude.{refl, ◌≤◌, length, take}
 use Rattle.field.specs.Flips.{Rising}
 use Rattle.code.specs.Parameters.{stored}
-use Rattle.mend.specs.Call.{rising-places}
+use Rattle.mend.specs.Call.{rising-all}
 use Rattle.mend.specs.Settled.{settled-some}
 use Rattle.mend.proofs.settle.Goals as goal
 use Rattle.mend.proofs.settle.Goals.{In-Some}
@@ -13,7 +13,7 @@ places i = rw i.in-Some.is at i.requires.3
 pub flip_in-requires : goal.flip_in-requires
 flip_in-requires c =
     let a = c.args in
-    (c.requires.0, c.requires.1.exact, c.requires.2, rising-places (stored a.p) (take c.in-Some.c a.list.now) (places (goal.at.flip_in-requires c).In-Some).1)
+    (c.requires.0, c.requires.1.exact, c.requires.2, rising-all (stored a.p) (take c.in-Some.c a.list.now) (places (goal.at.flip_in-requires c).In-Some).1)
 
 pub returns : goal.returns
 returns c =
