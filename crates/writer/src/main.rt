@@ -52,16 +52,19 @@ fn respond(rt: &impl Print, room: &[u8], got: usize) -> io::Result<Output>
     let input = &room[..got];
     let p = given::sheet_given(input);
     let tested = sheet::test(p);
-    let Ok(Parameters {
-        q,
-        m,
-        v,
-        t0,
-        t1,
-        t2,
-        t3,
-        s,
-    }) = tested else {
+    let Ok(
+        Parameters {
+            q,
+            m,
+            v,
+            t0,
+            t1,
+            t2,
+            t3,
+            s,
+        },
+    ) = tested
+    else {
         let k = code::number_of(&tested);
         return put(rt, room, got, given::refused(k));
     };
