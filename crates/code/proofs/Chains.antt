@@ -102,6 +102,18 @@ pub or-le : (r s : ℕ) → r ≤ last_refusal → s ≤ last_refusal → (r or_
 or-le zero s h k = k
 or-le (suc r) s h k = h
 
+-- 16 is no call's number
+abbrev pub other : ℕ → Type 0
+other k = T (not (eqb k 16))
+
+pub when-other : (c : ℕ) (b : Bool) → other c → other (c when b)
+when-other c true h = h
+when-other c false h = tt
+
+pub or-other : (r s : ℕ) → other r → other s → other (r or_else s)
+or-other zero s h k = k
+or-other (suc r) s h k = h
+
 pub or_assoc : (r s t : ℕ) → ((r or_else s) or_else t) ≡ (r or_else s or_else t)
 or_assoc zero s t = refl
 or_assoc (suc r) s t = refl

@@ -14,6 +14,7 @@ use Rattle.code.specs.Answers.{Judgement, unless_refused}
 use Rattle.code.proofs.Accepted.{from-4}
 use Rattle.code.proofs.Chains.{either, exact_none, exact-of, given, left, neither, nonzero, first_of, or-none, last}
 use Rattle.code.proofs.Chains.{off, off', on, or_assoc, or-le, or-none, or-second, or-zero, past, right, unless, when-le}
+use Rattle.code.proofs.Chains.{or-other, other, when-other}
 use Rattle.code.specs.Calls.{judge_answer, page_verdict, read_leaves, write_answer, write_leaves}
 use Rattle.code.specs.Code.{failing, failing_nested, verdict}
 use Rattle.code.specs.Layout.{Bytes, Fits, IsPage, blank, blocks_clear, data_bytes, data_of, page_bytes, page_clear, page_of, words_of}
@@ -63,6 +64,14 @@ sheet-le p =
     (or-le (2 when not (shape_fits p)) (3 when not (strengths_fit p) or_else from-4 p) (when-le 2 (not (shape_fits p)) (lit≤ tt))
     (or-le (3 when not (strengths_fit p)) (from-4 p) (when-le 3 (not (strengths_fit p)) (lit≤ tt))
     (or-le (4 when clashes p) (14 when not (short_fits p)) (when-le 4 (clashes p) (lit≤ tt)) (when-le 14 (not (short_fits p)) (lit≤ tt)))))
+
+pub sheet-other : (p : Parameters) → other (sheet_refusal p)
+unfolding sheet_refusal
+sheet-other p =
+    or-other (1 when not (field_known p)) _ (when-other 1 (not (field_known p)) tt)
+    (or-other (2 when not (shape_fits p)) _ (when-other 2 (not (shape_fits p)) tt)
+    (or-other (3 when not (strengths_fit p)) _ (when-other 3 (not (strengths_fit p)) tt)
+    (or-other (4 when clashes p) _ (when-other 4 (clashes p) tt) (when-other 14 (not (short_fits p)) tt))))
 
 module _ (p : Parameters) where
   abbrev page-7 : ℕ → ℕ
@@ -150,6 +159,17 @@ module _ (p : Parameters) where
       (or-le (blocks-6 (length a)) (page-7 k) (when-le 6 (not_exact (length a) (data_bytes p)) (lit≤ tt))
       (when-le 7 (not_exact k (page_bytes p)) (lit≤ tt)))))
       (or-le (unused-8 a) (made-13 a) (when-le 8 (not (blocks_clear p a)) (lit≤ tt)) (when-le 13 (blank p (page_of p a)) (lit≤ tt))))
+
+  -- nor is it 16
+  pub write-other : (L : ℕ) (a : List ℕ) (k : ℕ) → other (write_refusal p L a k)
+  write-other L a k =
+      rw (write-chain L a k)
+      (or-other (sheet_refusal p or_else 5 when bad_width L or_else blocks-6 (length a) or_else page-7 k) (unused-8 a or_else made-13 a)
+      (or-other (sheet_refusal p) (5 when bad_width L or_else blocks-6 (length a) or_else page-7 k) (sheet-other p)
+      (or-other (5 when bad_width L) (blocks-6 (length a) or_else page-7 k) (when-other 5 (bad_width L) tt)
+      (or-other (blocks-6 (length a)) (page-7 k) (when-other 6 (not_exact (length a) (data_bytes p)) tt)
+      (when-other 7 (not_exact k (page_bytes p)) tt))))
+      (or-other (unused-8 a) (made-13 a) (when-other 8 (not (blocks_clear p a)) tt) (when-other 13 (blank p (page_of p a)) tt)))
 
   pub word-le : (x : List ℕ) (i many out exact : ℕ) → word_refusal p x i many out exact ≤ last_refusal
   unfolding word_refusal

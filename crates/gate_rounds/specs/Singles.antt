@@ -2,8 +2,8 @@
 --   filled m                      m bytes A5; room n has n, rooms n those of three pages of n
 --   Listable n                    n is 0, 8 or 13
 --   Each p L blocks pages list    page k and byte k of the list are what a single call gives over a room
-use Rattle.std.specs.Prelude.{Result, Ok, Err, ◌≡◌, refl, Bool, true, false, not, T, eqb, ◌⊎◌, List, [], ◌∷◌, ℕ, zero, suc, ◌+◌, ◌-◌, ◌*◌, ◌≤◌, ◌<◌, length, get_or, replicate, take, drop}
-use Rattle.std.proofs.Common.{sym, ap, ap₂, ◌∙◌, inl, inr, zero-le, arith, lit≤, length-take, ext_get_or, get_or-drop, get_or-take}
+use Rattle.std.specs.Prelude.{Ok, ◌≡◌, refl, false, ◌⊎◌, List, [], ◌∷◌, ℕ, zero, suc, ◌+◌, ◌-◌, ◌*◌, ◌≤◌, ◌<◌, length, get_or, replicate, take, drop}
+use Rattle.std.proofs.Common.{sym, ap, ap₂, ◌∙◌, arith, lit≤, length-take, ext_get_or, get_or-drop, get_or-take}
 use Rattle.std.proofs.Math.Nat as Nat
 use Rattle.std.proofs.Math.Decide.{dec_le}
 use Rattle.std.proofs.lemmas.List.{get_or-replicate, length-replicate}
@@ -13,12 +13,13 @@ use Rattle.code.specs.declared.Parameters.{Parameters}
 use Rattle.code.proofs.Answers.{outcome-number}
 use Rattle.code.specs.Calls.{Written, WrittenMany, leaves, outcome, statuses}
 use Rattle.code.specs.Demands.{ManyLaws}
-use Rattle.code.specs.Layout.{blank, blocks_clear, data_bytes, page_bytes, page_of}
-use Rattle.code.specs.Lists.{◌when◌, ◌or_else◌, last_refusal, part}
+use Rattle.code.specs.Layout.{data_bytes, page_bytes, page_of}
+use Rattle.code.specs.Lists.{last_refusal, part}
 use Rattle.code.proofs.Many.{part_length, part_room}
-use Rattle.code.specs.Parameters.{Accepted, clashes, field_known, shape_fits, sheet_refusal, short_fits, strengths_fit}
-use Rattle.code.specs.Refusals.{bad_width, not_exact, write_lengths, write_refusal}
+use Rattle.code.specs.Parameters.{Accepted}
+use Rattle.code.specs.Refusals.{write_refusal}
 use Rattle.code.specs.Refused.{Width}
+use Rattle.code.proofs.Refused.{write-other}
 use Rattle.code.proofs.Theorems.{demands}
 use Rattle.gate_rounds.specs.Answers.{is_done, never}
 
@@ -99,36 +100,6 @@ module _ (p : Parameters) (L : ℕ) (blocks pages list : List ℕ) (E : Each p L
 kept : (x : ℕ) (result old page : List ℕ) (r : Outcome) → r ≡ outcome x → page ≡ leaves x result old → is_done r ≡ false → page ≡ old
 kept zero result old page r e b f = absurd (never (sym f ∙ ap is_done e))
 kept (suc x) result old page r e b f = b
-
--- no write is refused by 16, the number of what is no call's
-abbrev other : ℕ → Type 0
-other k = T (not (eqb k 16))
-
-or-other : (r s : ℕ) → other r → other s → other (r or_else s)
-or-other zero s h k = k
-or-other (suc r) s h k = h
-
-when-other : (c : ℕ) (b : Bool) → other c → other (c when b)
-when-other c true h = h
-when-other c false h = tt
-
-sheet-other : (p : Parameters) → other (sheet_refusal p)
-unfolding sheet_refusal
-sheet-other p =
-    or-other (1 when not (field_known p)) _ (when-other 1 (not (field_known p)) tt)
-    (or-other (2 when not (shape_fits p)) _ (when-other 2 (not (shape_fits p)) tt)
-    (or-other (3 when not (strengths_fit p)) _ (when-other 3 (not (strengths_fit p)) tt)
-    (or-other (4 when clashes p) _ (when-other 4 (clashes p) tt) (when-other 14 (not (short_fits p)) tt))))
-
-write-other : (p : Parameters) (L : ℕ) (a : List ℕ) (k : ℕ) → other (write_refusal p L a k)
-unfolding write_refusal write_lengths
-write-other p L a k =
-    or-other (write_lengths p L (length a) k) _
-    (or-other (sheet_refusal p) _ (sheet-other p)
-    (or-other (5 when bad_width L) _ (when-other 5 (bad_width L) tt)
-    (or-other (6 when not_exact (length a) (data_bytes p)) _ (when-other 6 (not_exact (length a) (data_bytes p)) tt)
-    (when-other 7 (not_exact k (page_bytes p)) tt))))
-    (or-other (8 when not (blocks_clear p a)) _ (when-other 8 (not (blocks_clear p a)) tt) (when-other 13 (blank p (page_of p a)) tt))
 
 get_or-past : {A : Type 0} (l : List A) (k : ℕ) (d : A) → length l ≤ k → get_or l k d ≡ d
 get_or-past [] k d h = refl

@@ -56,7 +56,7 @@ fn mend_rounds(
         if n <= c {
             return false;
         }
-        broken.copy_from_slice(&left);
+        syndrome::copy(broken, &left);
         n = c;
     }
     is_member(p, rows, page)

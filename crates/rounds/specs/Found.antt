@@ -3,7 +3,7 @@
 --   Asked p a k rows ks      rows of the field's numbers, a level and its strength k, broken sub-words of a round: rising, v at most
 use Rattle.std.specs.Prelude.{◌≡◌, Bool, not, ◌≢◌, List, [], ◌∷◌, map, ℕ, ◌+◌, ◌-◌, ◌*◌, ◌/◌, ◌^◌, ◌≤◌, ◌<◌, Option as RustOption, Some, None, IfSome, is_some, length, get_or, take}
 use Rattle.std.proofs.Common.{sym, ap, ◌∙◌, zero-le, arith}
-use Rattle.std.proofs.Math.Option.{Option}
+use Rattle.std.proofs.Math.Option.{Option, some}
 use Rattle.std.proofs.Math.Nat as Nat
 use Rattle.polynomial.specs.Sums.{All}
 use Rattle.field.specs.Elements.{power, power-num, times}
@@ -93,10 +93,13 @@ module _ (p : Parameters) (A : Accepted p) (a : ℕ) (av : a ≤ p.v) where
       )
 
   -- ---- what is found stands at stored places
-  pub found-rising : (rows ks : List ℕ) (i t : ℕ) (r : RustOption ℕ) (l : List ℕ) → found_by p a rows ks i ≡ front r l → IfSome r (λ c. c ≤ t) → t ≤ length l
-      → IfSome r (λ c. (c ≤ length l) × Rising 0 (stored p) (take c l))
-  found-rising rows ks i t None l e h k = tt
-  found-rising rows ks i t (Some c) l e h k = (Nat.le_trans h k, (error-sound p R a av (from_odd p.q (unmixed_at p.q rows (others i ks) i)) (take c l) e).rising)
+  pub found-rising : (rows ks : List ℕ) (i : ℕ) (Q : List ℕ) → found_by p a rows ks i ≡ some Q → Rising 0 (stored p) Q
+  found-rising rows ks i Q e = (error-sound p R a av (from_odd p.q (unmixed_at p.q rows (others i ks) i)) Q e).rising
+
+  pub found-rise : (rows ks : List ℕ) (i t : ℕ) (r : RustOption ℕ) (l : List ℕ) → found_by p a rows ks i ≡ front r l
+      → IfSome r (λ c. c ≤ t) → t ≤ length l → IfSome r (λ c. (c ≤ length l) × Rising 0 (stored p) (take c l))
+  found-rise rows ks i t None l e h k = tt
+  found-rise rows ks i t (Some c) l e h k = (Nat.le_trans h k, found-rising rows ks i (take c l) e)
 
 below-eight : (i n : ℕ) (ks : List ℕ) → n ≤ 8 → All (λ k. (k ≢ i) × (k < n)) ks → All (λ k. k < 8) ks
 below-eight i n [] h a = tt

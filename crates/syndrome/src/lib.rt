@@ -98,8 +98,8 @@ pub fn odd_sums(list: &mut [u16], powers: &[u16], f: Field, places: &[u16])
     let mut spare = [0u16; 768];
     let e = &mut room[..c];
     let d = &mut spare[..c];
-    e.copy_from_slice(places);
-    d.copy_from_slice(places);
+    copy(e, places);
+    copy(d, places);
     sums_into(list, powers, f, e, d);
 }
 

@@ -41,12 +41,12 @@ returns-then-n-c c =
     turn-stop c.args.p c.requires.0.accepts ((rounds c.args.p c.args.p.v (in_work c.args.p c.args.page.now c.args.broken.now c.args.b))) c.loop-n.page c.loop-n.broken c.loop-n.n c.loop-n.invariant.0 c.round-c.new.page c.round-c.new.left c.round-c.result c.round-c.ensures
     (few (goal.at.returns-then-n-c c).Else-v-n).0 (few (goal.at.returns-then-n-c c).Else-v-n).1 c.if-n-c.true
 
-pub copy_from_slice-requires : goal.copy_from_slice-requires
-copy_from_slice-requires c = c.loop-n.invariant.0.stands.size ∙ sym c.round-c.ensures.size
+pub copy-requires : goal.copy-requires
+copy-requires c = c.loop-n.invariant.0.stands.size ∙ sym c.round-c.ensures.size
 
 pub loop-n-preserved : goal.loop-n-preserved
 loop-n-preserved c = (
-  rw c.copy_from_slice.ensures.after (turn-next c.args.p c.requires.0.accepts ((rounds c.args.p c.args.p.v (in_work c.args.p c.args.page.now c.args.broken.now c.args.b))) c.loop-n.page c.loop-n.broken c.loop-n.n c.loop-n.invariant.0 c.round-c.new.page c.round-c.new.left c.round-c.result c.round-c.ensures
+  rw c.copy.ensures (turn-next c.args.p c.requires.0.accepts ((rounds c.args.p c.args.p.v (in_work c.args.p c.args.page.now c.args.broken.now c.args.b))) c.loop-n.page c.loop-n.broken c.loop-n.n c.loop-n.invariant.0 c.round-c.new.page c.round-c.new.left c.round-c.result c.round-c.ensures
       (few (goal.at.loop-n-preserved c).Else-v-n).0 (few (goal.at.loop-n-preserved c).Else-v-n).1 (omega (arith, c.if-n-c.false))),
   c.round-c.ensures.size,
 )

@@ -1,6 +1,6 @@
 use mathlib.Core.Path.{sym}
 use native.Mathlib.Nat as Nat
-use Rattle.rounds.specs.Found.{asked-below, asked-few, found-rising, settled-found}
+use Rattle.rounds.specs.Found.{asked-below, asked-few, found-rise, settled-found}
 use Rattle.rounds.proofs.mend_word.Goals as goal
 
 pub settle-requires : goal.settle-requires
@@ -10,7 +10,7 @@ settle-requires c =
       c.requires.0.accepts,
       c.requires.3,
       asked-below c.requires.0 c.requires.1 a.i c.requires.2,
-      found-rising a.p c.requires.0.accepts a.a c.requires.1.level a.rows.now a.ks.now a.i a.k f.result f.new.list f.ensures.0 f.ensures.1
+      found-rise a.p c.requires.0.accepts a.a c.requires.1.level a.rows.now a.ks.now a.i a.k f.result f.new.list f.ensures.0 f.ensures.1
           (Nat.le_trans (asked-few c.requires.0 c.requires.1 a.i c.requires.2) (Nat.le_of_eq (sym c.list-2-1.given))),
     )
 

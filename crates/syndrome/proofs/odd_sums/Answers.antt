@@ -21,17 +21,17 @@ slice_bounds-spare-end c = c.requires.1
 pub slice_bounds-d-end : goal.slice_bounds-d-end
 slice_bounds-d-end c = sym (zeros-length (length c.args.places.now) 768 c.requires.1)
 
-pub copy_from_slice-requires : goal.copy_from_slice-requires
-copy_from_slice-requires c = zeros-length (length c.args.places.now) 768 c.requires.1
+pub copy-requires : goal.copy-requires
+copy-requires c = zeros-length (length c.args.places.now) 768 c.requires.1
 
-pub copy_from_slice-requires-2 : goal.copy_from_slice-requires-2
-copy_from_slice-requires-2 c = zeros-length (length c.args.places.now) 768 c.requires.1
+pub copy-requires-2 : goal.copy-requires-2
+copy-requires-2 c = zeros-length (length c.args.places.now) 768 c.requires.1
 
 pub sums_into-requires : goal.sums_into-requires
 sums_into-requires c =
-    let E = c.copy_from_slice.ensures.after in
-    let D = c.copy_from_slice-2.ensures.after in
+    let E = c.copy.ensures in
+    let D = c.copy-2.ensures in
     (c.requires.0, ap length (E ∙ sym D), places_same (sym E) c.requires.2, places_same (sym D) c.requires.2, D ∙ sym E)
 
 pub returns : goal.returns
-returns c = c.sums_into.ensures ∙ ap (λ (l : List ℕ). map (λ i. syndrome c.args.f.q (flips l) (2 * i + 1)) (range 0 (length c.args.list.now))) c.copy_from_slice.ensures.after
+returns c = c.sums_into.ensures ∙ ap (λ (l : List ℕ). map (λ i. syndrome c.args.f.q (flips l) (2 * i + 1)) (range 0 (length c.args.list.now))) c.copy.ensures
