@@ -80,7 +80,7 @@ fn page_ones(p: Parameters, w: &[u32], blocks: &[u8]) -> bool
 }
 
 // For accepted parameters, whose degrees are w, and a buffer of `page` bytes: 5, 6, 7, 8 for an unused bit, 13 where the page
-// would be blank, or 0.
+// would be blank.
 pub fn write_refusal(p: Parameters, w: &[u32], width: u32, blocks: &[u8], page: usize) -> Outcome
     requires { Accepted p × Degrees p w.now }
     ensures { answer_number result ≡ write_refusal p width blocks.now page }
@@ -153,8 +153,8 @@ fn names_bit(p: Parameters, w: &[u32], i: u32, r: u32, b: u32) -> bool
     i < p.m && (r as usize) < layout::data_bits(p, w, i as usize) && b <= 1
 }
 
-// For accepted parameters, whose degrees are w: 7, 8, 9 where no bit is named or b is none, or 0. 13 is left: it is of the
-// page afterwards.
+// For accepted parameters, whose degrees are w: 7, 8, 9 where no bit is named or b is none. 13 is left: it is of the page
+// afterwards.
 pub fn bit_refusal(p: Parameters, w: &[u32], page: &[u8], i: u32, r: u32, b: u32) -> Outcome
     requires { Accepted p × Degrees p w.now }
     ensures { answer_number result ≡ bit_refusal p page.now i r b }
