@@ -7,6 +7,7 @@ ghost use Rattle.std.specs.Prelude.{◌≡◌, List, ℕ, ◌+◌, ◌-◌, ◌*
 ghost use Rattle.polynomial.specs.Digits.{value};
 ghost use Rattle.polynomial.specs.Xor.{xor};
 ghost use Rattle.kernels.specs.Row.{D};
+ghost use Rattle.kernels.specs.Value.{Bounded};
 ghost use Rattle.reduction.specs.Reduce.{TopAdded};
 ghost use Rattle.reduction.specs.Table.{MovedUp, Reduced, RemainderBy, four};
 ghost use Rattle.bytewise.specs.Bytes.{half, Six, Wide, Widened, six_at, upper_at};
@@ -110,8 +111,8 @@ fn feed(r: &mut Row, b: &[u64], s: &[u8], k: usize, w: usize)
 // The remainder of s by the generator itself, of degree w, in the lowest words of r.
 pub fn remainder_of(r: &mut Row, b: &[u64], s: &[u8], w: usize)
     requires { Wide b.now × (1 ≤ w) × (w ≤ 384) × (length s.now < 1000) }
-    ensures { (t : List ℕ) → Widened t b.now
-        → RemainderBy t (768 - w) (value 8 s.now) (value 64 r.new) }
+    ensures { ((t : List ℕ) → Widened t b.now
+        → RemainderBy t (768 - w) (value 8 s.now) (value 64 r.new)) × Bounded 64 r.new }
 {
     let n = 8 * s.len();
     kernels::row::clear(r);

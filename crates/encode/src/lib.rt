@@ -11,6 +11,7 @@ ghost use Rattle.encode.specs.Carried.{room_bytes};
 ghost use Rattle.encode.specs.Horner.{Over, Sums};
 ghost use Rattle.encode.specs.Loaded.{Loaded};
 ghost use Rattle.encode.specs.Page.{Encoded, Span};
+ghost use Rattle.kernels.specs.Value.{Bounded};
 ghost use Rattle.layout.specs.Written.{written};
 ghost use Rattle.encode.specs.Encoding.{Putting, Writing, word_alone, word_from, word_of};
 
@@ -108,7 +109,7 @@ fn place(part: &mut [u8], s: &[u8], bits: usize)
 pub fn check_of(r: &mut Row, t: &[u64], acc: &[u8], p: Parameters, a: usize, w: usize, width: usize)
     requires { Accepted p × (a ≤ p.v) × (w ≡ degree p a) × Loaded p a t.now × (length acc.now < 1000)
         × (1 ≤ width) × (width ≤ 64) }
-    ensures { value 64 r.new ≡ remainder p a (value 8 acc.now) }
+    ensures { (value 64 r.new ≡ remainder p a (value 8 acc.now)) × Bounded 64 r.new }
 {
     if t.len() == 3072 {
         reduction::remainder::remainder_of(r, t, acc, 8 * acc.len(), width, 768 - w);

@@ -3,6 +3,7 @@ ghost use Rattle.std.specs.Prelude.{◌≡◌, ◌+◌, ◌-◌, ◌*◌, ◌/�
 ghost use Rattle.polynomial.specs.Digits.{value};
 ghost use Rattle.polynomial.specs.Division.{deg};
 ghost use Rattle.polynomial.specs.Xor.{xor};
+ghost use Rattle.kernels.specs.Value.{Bounded};
 
 use std::mem;
 
@@ -12,7 +13,7 @@ pub type Row = [u64; 13];
 // r is moved up by a whole word.
 fn shift_word(r: &mut Row)
     requires { get_or r.old 12 0 ≡ 0 }
-    ensures { value 64 r.new ≡ value 64 r.old * 2 ^ 64 }
+    ensures { (value 64 r.new ≡ value 64 r.old * 2 ^ 64) × Bounded 64 r.new }
 {
     let mut c = 0;
     for i in 0..12 {
@@ -24,7 +25,7 @@ fn shift_word(r: &mut Row)
 // r is moved up by l places, 1 to 64, into the 13th word.
 pub fn shift(r: &mut Row, l: usize)
     requires { (1 ≤ l) × (l ≤ 64) × (get_or r.old 12 0 ≡ 0) }
-    ensures { value 64 r.new ≡ value 64 r.old * 2 ^ l }
+    ensures { (value 64 r.new ≡ value 64 r.old * 2 ^ l) × Bounded 64 r.new }
 {
     if l == 64 {
         shift_word(r);
@@ -42,7 +43,7 @@ pub fn shift(r: &mut Row, l: usize)
 // u is added at place p.
 pub fn insert(r: &mut Row, u: u64, p: usize)
     requires { p < 768 }
-    ensures { value 64 r.new ≡ xor (value 64 r.old) (u * 2 ^ p) }
+    ensures { (value 64 r.new ≡ xor (value 64 r.old) (u * 2 ^ p)) × Bounded 64 r.new }
 {
     let q = p / 64;
     let s = p % 64;
@@ -52,7 +53,7 @@ pub fn insert(r: &mut Row, u: u64, p: usize)
 
 // g is added into e.
 pub fn add(e: &mut Row, g: &Row)
-    ensures { value 64 e.new ≡ xor (value 64 e.old) (value 64 g.now) }
+    ensures { (value 64 e.new ≡ xor (value 64 e.old) (value 64 g.now)) × Bounded 64 e.new }
 {
     for j in 0..13 {
         e[j] ^= g[j];
@@ -100,7 +101,7 @@ fn window_up(g: &[u64], up: usize, pos: usize) -> u64
 // g, of degree w at most, is moved up in r so that x^w stands at x^768.
 pub fn align(r: &mut Row, g: &[u64], w: usize)
     requires { (w ≤ 768) × (value 64 g.now < 2 ^ (w + 1)) }
-    ensures { value 64 r.new ≡ value 64 g.now * 2 ^ (768 - w) }
+    ensures { (value 64 r.new ≡ value 64 g.now * 2 ^ (768 - w)) × Bounded 64 r.new }
 {
     let s = 768 - w;
     for (i, w) in r.iter_mut().enumerate() {
@@ -111,7 +112,7 @@ pub fn align(r: &mut Row, g: &[u64], w: usize)
 // r is moved down by s places; what passes x^0 is lost.
 pub fn lower(r: &mut Row, s: usize)
     requires { s ≤ 768 }
-    ensures { value 64 r.new ≡ value 64 r.old / 2 ^ s }
+    ensures { (value 64 r.new ≡ value 64 r.old / 2 ^ s) × Bounded 64 r.new }
 {
     for i in 0..13 {
         r[i] = window(r, s + 64 * i);

@@ -6,6 +6,7 @@ ghost use Rattle.code.specs.Calls.{generators};
 ghost use Rattle.code.specs.Parameters.{Accepted};
 ghost use Rattle.code.specs.Code.{degree, remainder};
 ghost use Rattle.polynomial.specs.Digits.{value};
+ghost use Rattle.kernels.specs.Value.{Bounded};
 ghost use Rattle.layout.specs.Sizes.{Degrees};
 ghost use Rattle.levels.specs.Ready.{Prepared};
 
@@ -82,7 +83,7 @@ pub fn prepare(t: &mut [u64], p: Parameters, rows: [[u64; 13]; 4], a: usize, w: 
 // The remainder of the word s, of n places at most, by level a's generator, whose table is t.
 pub fn remainder_at(r: &mut Row, t: &[u64], s: &[u8], n: usize, p: Parameters, a: usize, w: usize)
     requires { Accepted p × (a ≤ p.v) × (w ≡ degree p a) × Prepared p a t.now × (n < 4096) × (value 8 s.now < 2 ^ n) }
-    ensures { value 64 r.new ≡ remainder p a (value 8 s.now) }
+    ensures { (value 64 r.new ≡ remainder p a (value 8 s.now)) × Bounded 64 r.new }
 {
     reduction::remainder::remainder_of(r, t, s, n, 64, 768 - w);
 }

@@ -5,6 +5,7 @@ ghost use Rattle.std.specs.Prelude.{◌≡◌, ◌+◌, ◌*◌, ◌/◌, ◌%�
 ghost use Rattle.polynomial.specs.Digits.{value};
 ghost use Rattle.polynomial.specs.Xor.{xor};
 ghost use Rattle.kernels.specs.Row.{D};
+ghost use Rattle.kernels.specs.Value.{Bounded};
 ghost use Rattle.reduction.specs.Reduce.{TopAdded};
 ghost use Rattle.reduction.specs.Step.{Adding, Reducing, RowFrom, Stepping};
 ghost use Rattle.reduction.specs.Sum.{Copied};
@@ -68,7 +69,7 @@ fn add_top(v: &mut [u64; 12], t: &[u64], top: u64, from: usize)
 // A slice: that each word of r fits at the end is known of a slice, and not of an array after a call.
 fn reduce(r: &mut [u64], t: &[u64], from: usize)
     requires { Reducing r.old t.now (64 * from) }
-    ensures { Reduced t.now (value 64 r.old) (value 64 r.new) }
+    ensures { Reduced t.now (value 64 r.old) (value 64 r.new) × Bounded 64 r.new }
 {
     let top = r[12];
     r[12] = 0;
@@ -83,7 +84,7 @@ fn reduce(r: &mut [u64], t: &[u64], from: usize)
 // p = 384 on the lower six words are 0. Each call has its own number, so that the compiler makes straight code of the loops over words.
 pub fn step(r: &mut Row, t: &[u64], u: u64, l: usize, p: usize)
     requires { Stepping r.old t.now p × (1 ≤ l) × (l ≤ 64) }
-    ensures { Reduced t.now (xor (value 64 r.old * 2 ^ l) (u * 2 ^ p)) (value 64 r.new) }
+    ensures { Reduced t.now (xor (value 64 r.old * 2 ^ l) (u * 2 ^ p)) (value 64 r.new) × Bounded 64 r.new }
 {
     shift(r, l);
     insert(r, u, p);
@@ -99,7 +100,7 @@ pub fn copy_next(dst: &mut [u64; 12], src: &[u64], from: usize)
     requires { (12 ≤ length src.now) × (from ≤ 11)
         × (value 64 (take (from + 1) dst.old) ≡ value 64 (take from src.now) * 2 ^ 64) }
     ensures { (value 64 dst.new ≡ value 64 (take 11 src.now) * 2 ^ 64)
-        × (take (from + 1) dst.new ≡ take (from + 1) dst.old) }
+        × (take (from + 1) dst.new ≡ take (from + 1) dst.old) × Bounded 64 dst.new }
 {
     dst[from + 1..].copy_from_slice(&src[from..11]);
 }
@@ -201,7 +202,7 @@ fn feed_top(r: &mut Row, t: &[u64], s: &[u8], n: usize, w: usize, l: usize, p: u
 // The k lowest coefficients of s are added.
 pub fn add_low(r: &mut Row, s: &[u8], k: usize)
     requires { k ≤ 768 }
-    ensures { value 64 r.new ≡ xor (value 64 r.old) (value 8 s.now % 2 ^ k) }
+    ensures { (value 64 r.new ≡ xor (value 64 r.old) (value 8 s.now % 2 ^ k)) × Bounded 64 r.new }
 {
     let c = k / 64;
     for j in 0..c {
@@ -216,7 +217,7 @@ pub fn add_low(r: &mut Row, s: &[u8], k: usize)
 // from x^w on is fed, and the register is moved down; what stands below is its own remainder.
 pub fn remainder_of(r: &mut Row, t: &[u64], s: &[u8], n: usize, l: usize, p: usize)
     requires { (length t.now ≡ 3072) × (1 ≤ l) × (l ≤ 64) × (p < 768) × (n < 1000000) × MovedUp t.now p }
-    ensures { RemainderBy t.now p (value 8 s.now % 2 ^ n) (value 64 r.new) }
+    ensures { RemainderBy t.now p (value 8 s.now % 2 ^ n) (value 64 r.new) × Bounded 64 r.new }
 {
     let w = 768 - p;
     clear(r);

@@ -3,6 +3,7 @@ ghost use Rattle.std.specs.Prelude.{◌≡◌, ◌+◌, ◌%◌, ◌^◌, ◌≤
 ghost use Rattle.polynomial.specs.Digits.{value};
 ghost use Rattle.polynomial.specs.Division.{Deg, rem, quot};
 ghost use Rattle.kernels.specs.Row.{D};
+ghost use Rattle.kernels.specs.Value.{Bounded};
 ghost use Rattle.word.specs.Quotient.{Stepped};
 
 use kernels::row::{Row, add, align, clear, insert, shift};
@@ -12,7 +13,7 @@ use reduction::table::build;
 // The remainder of the n lowest coefficients of s by g, of degree w. A g of degree 0 is 1, and all is a multiple of it.
 pub fn remainder_by(r: &mut Row, g: &[u64], w: usize, s: &[u8], n: usize)
     requires { Deg (value 64 g.now) w × (w ≤ 768) × (n < 1000000) }
-    ensures { value 64 r.new ≡ rem (value 64 g.now) w (value 8 s.now % 2 ^ n) }
+    ensures { (value 64 r.new ≡ rem (value 64 g.now) w (value 8 s.now % 2 ^ n)) × Bounded 64 r.new }
 {
     if w == 0 {
         clear(r);
@@ -30,7 +31,7 @@ fn divide_step(q: &mut Row, r: &mut Row, g: &Row)
     requires { Deg (value 64 g.now) D
         × (value 64 q.old < 2 ^ D) × (value 64 r.old < 2 ^ D) }
     ensures { Stepped (value 64 g.now) (value 64 q.old) (value 64 r.old) (value 64 q.new)
-        (value 64 r.new) }
+        (value 64 r.new) × Bounded 64 q.new }
 {
     shift(q, 1);
     shift(r, 1);
@@ -43,7 +44,7 @@ fn divide_step(q: &mut Row, r: &mut Row, g: &Row)
 // The quotient of f, of degree u, by g, of degree w.
 pub fn quotient(q: &mut Row, f: &[u64], u: usize, g: &[u64], w: usize)
     requires { Deg (value 64 f.now) u × Deg (value 64 g.now) w × (w ≤ u) × (u ≤ 768) }
-    ensures { value 64 q.new ≡ quot (value 64 g.now) w (value 64 f.now) }
+    ensures { (value 64 q.new ≡ quot (value 64 g.now) w (value 64 f.now)) × Bounded 64 q.new }
 {
     let mut a = [0u64; 13];
     align(&mut a, g, w);

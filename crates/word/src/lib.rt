@@ -8,6 +8,7 @@ ghost use Rattle.code.specs.Calls.{nested_of};
 ghost use Rattle.code.specs.Code.{all_syndromes, degree, divisor, odd_syndromes, remainder};
 ghost use Rattle.code.specs.Layout.{IsPage};
 ghost use Rattle.code.specs.Parameters.{Accepted, len};
+ghost use Rattle.kernels.specs.Value.{Bounded};
 ghost use Rattle.word.specs.WordBytes.{WordIs};
 
 use crate::divide::{quotient, remainder_by};
@@ -39,7 +40,7 @@ fn places_in(p: Parameters, bytes: usize) -> usize
 // The remainder of s by level a's generator, and that generator's degree.
 pub fn level_remainder(r: &mut Row, p: Parameters, a: usize, s: &[u8]) -> usize
     requires { Accepted p × (a ≤ p.v) × (value 8 s.now < 2 ^ len p) }
-    ensures { (result ≡ degree p a) × (value 64 r.new ≡ remainder p a (value 8 s.now)) }
+    ensures { (result ≡ degree p a) × (value 64 r.new ≡ remainder p a (value 8 s.now)) × Bounded 64 r.new }
 {
     let rows = levels::rows(p);
     let w = levels::degree_at(p, rows, a) as usize;

@@ -23,7 +23,7 @@ module _ (m : After-remainder_at) where
   low = word_lt m.args.p (accepted m.args.p m.requires.0.accepts) m.args.page.now m.requires.3 m.args.i m.requires.4
 
   is : (value 64 m.remainder_at.new.r) ≡ remainder m.args.p 0 (get_or (words_of m.args.p m.args.page.now) m.args.i 0)
-  is = m.remainder_at.ensures ∙ ap (remainder m.args.p 0) (ap (value 8) m.sub_word-s.ensures ∙ sym (word_at m.args.p m.args.page.now m.args.i m.requires.4))
+  is = m.remainder_at.ensures.0 ∙ ap (remainder m.args.p 0) (ap (value 8) m.sub_word-s.ensures ∙ sym (word_at m.args.p m.args.page.now m.args.i m.requires.4))
 
 pub sub_word-s-requires : goal.sub_word-s-requires
 sub_word-s-requires c = (c.requires.0.accepts, c.requires.3.exact, c.requires.4)

@@ -22,8 +22,8 @@ remainder_of-requires c =
 pub returns-then-t-eq3072 : goal.returns-then-t-eq3072
 returns-then-t-eq3072 c =
     let a = c.args in
-    table-remainder a.p c.requires.0 a.a a.w (value 8 a.acc.now % 2 ^ (8 * length a.acc.now)) _ a.t.now c.requires.1 c.requires.2 (c.requires.3.plain c.if-t-eq3072.true) c.remainder_of.ensures
-    ∙ ap (remainder a.p a.a) (Nat.mod-eq_of_lt (value-lt 8 a.acc.now (λ i. (c.type_inv.acc i).fits)))
+    (table-remainder a.p c.requires.0 a.a a.w (value 8 a.acc.now % 2 ^ (8 * length a.acc.now)) _ a.t.now c.requires.1 c.requires.2 (c.requires.3.plain c.if-t-eq3072.true) c.remainder_of.ensures.0
+    ∙ ap (remainder a.p a.a) (Nat.mod-eq_of_lt (value-lt 8 a.acc.now (λ i. (c.type_inv.acc i).fits))), c.remainder_of.ensures.1)
 
 pub remainder_of-requires-else-t-eq3072 : goal.remainder_of-requires-else-t-eq3072
 remainder_of-requires-else-t-eq3072 c =
@@ -33,4 +33,4 @@ remainder_of-requires-else-t-eq3072 c =
 pub returns-else-t-eq3072 : goal.returns-else-t-eq3072
 returns-else-t-eq3072 c =
     let a = c.args in
-    byte-remainder a.p c.requires.0 a.a a.w (value 8 a.acc.now) _ a.t.now c.requires.1 c.requires.2 (c.requires.3.bytes c.if-t-eq3072.false) c.remainder_of-else-t-eq3072.ensures
+    (byte-remainder a.p c.requires.0 a.a a.w (value 8 a.acc.now) _ a.t.now c.requires.1 c.requires.2 (c.requires.3.bytes c.if-t-eq3072.false) c.remainder_of-else-t-eq3072.ensures.0, c.remainder_of-else-t-eq3072.ensures.1)

@@ -19,9 +19,9 @@ store_low-requires c =
     let R = accepted a.p c.requires.0 in (
       omega (arith, c.requires.2, degree-high a.p R a.a c.requires.1, c.check_of.array_long),
       omega (arith, c.place.auto.part, c.requires.4),
-      rw (c.check_of.ensures, c.requires.2) (rem_lt (gen a.p a.a) (degree a.p a.a) ((lawful a.p R).degrees a.a c.requires.1) _),
+      rw (c.check_of.ensures.0, c.requires.2) (rem_lt (gen a.p a.a) (degree a.p a.a) ((lawful a.p R).degrees a.a c.requires.1) _),
       rw c.place.ensures (Nat.mul-mod_left _ _),
     )
 
 pub returns : goal.returns
-returns c = c.store_low.ensures ∙ ap₂ ◌+◌ c.place.ensures (c.check_of.ensures ∙ ap (remainder c.args.p c.args.a) c.place.ensures)
+returns c = c.store_low.ensures ∙ ap₂ ◌+◌ c.place.ensures (c.check_of.ensures.0 ∙ ap (remainder c.args.p c.args.a) c.place.ensures)

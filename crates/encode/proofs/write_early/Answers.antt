@@ -44,7 +44,7 @@ put_sub_word-requires c =
       omega (arith, c.check_bits-bits.ensures, degree-high a.p (accepted a.p A) (level a.p a.i) (level-low a.p a.i)),
       check-room a.p A a.i c.check_bits-bits.result _ c.check_bits-bits.ensures l,
       omega (arith, l, word-high a.p A),
-      check-fits a.p A a.i _ c.level_of-a.result c.check_bits-bits.result _ c.check_of.ensures c.level_of-a.ensures c.check_bits-bits.ensures,
+      check-fits a.p A a.i _ c.level_of-a.result c.check_bits-bits.result _ c.check_of.ensures.0 c.level_of-a.ensures c.check_bits-bits.ensures,
       data-fits a.p A a.i _ c.check_bits-bits.result _ c.requires.3 c.check_bits-bits.ensures l,
     )
 
@@ -55,5 +55,5 @@ returns c =
     let l = c.page-1.given.0 ∙ part_length a.page.now start c.sub_word_bytes-k.result (room (goal.at.returns c).After-sub_word_bytes-k) in
     let y = word_made a.p c.requires.0.accepts a.i c.put_sub_word.new.part (value 8 a.s.now) _ _ _ c.level_of-a.result c.check_bits-bits.result c.sub_word_bytes-k.result
     (middle-bytes (take start a.page.now) c.put_sub_word.new.part (drop (start + c.sub_word_bytes-k.result - start) (drop start a.page.now)) (λ j. (c.type_inv.page j).fits))
-    l c.sub_word_bytes-k.ensures c.check_bits-bits.ensures c.level_of-a.ensures c.ruled_into.ensures c.check_of.ensures c.put_sub_word.ensures in
+    l c.sub_word_bytes-k.ensures c.check_bits-bits.ensures c.level_of-a.ensures c.ruled_into.ensures c.check_of.ensures.0 c.put_sub_word.ensures in
     put_is a.page.now c.put_sub_word.new.part _ start c.sub_word_bytes-k.result _ (ap (λ (j : ℕ). a.i * j) c.sub_word_bytes-k.ensures) y (length_digits 8 (sub_word_bytes a.p) _ ∙ sym c.sub_word_bytes-k.ensures)

@@ -18,9 +18,9 @@ align-requires c =
 pub build-requires : goal.build-requires
 build-requires c =
     let r = row-at c.args.p c.requires.0 _ c.args.a c.requires.1 c.requires.2 in
-    (search rules, aligned-deg c.args.p c.requires.0 _ c.align.new.r c.args.a c.args.w c.requires.2 c.requires.3 r c.align.ensures)
+    (search rules, aligned-deg c.args.p c.requires.0 _ c.align.new.r c.args.a c.args.w c.requires.2 c.requires.3 r c.align.ensures.0)
 
 pub returns : goal.returns
 returns c =
     let r = row-at c.args.p c.requires.0 _ c.args.a c.requires.1 c.requires.2 in
-    prepared c.args.p c.requires.0 _ c.align.new.r c.build.new.t c.args.a c.args.w c.requires.2 c.requires.3 r c.align.ensures (search rules) c.build.ensures
+    prepared c.args.p c.requires.0 _ c.align.new.r c.build.new.t c.args.a c.args.w c.requires.2 c.requires.3 r c.align.ensures.0 (search rules) c.build.ensures

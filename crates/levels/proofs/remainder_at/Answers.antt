@@ -23,6 +23,8 @@ remainder_of-requires c = (
 
 pub returns : goal.returns
 returns c =
-    let a = c.args in
-    table-remainder a.p c.requires.0 a.a a.w (value 8 a.s.now % 2 ^ a.n) _ a.t.now c.requires.1 c.requires.2 c.requires.3 c.remainder_of.ensures
-    ∙ ap (remainder a.p a.a) (Nat.mod-eq_of_lt c.requires.5)
+    let a = c.args in (
+      table-remainder a.p c.requires.0 a.a a.w (value 8 a.s.now % 2 ^ a.n) _ a.t.now c.requires.1 c.requires.2 c.requires.3 c.remainder_of.ensures.0
+          ∙ ap (remainder a.p a.a) (Nat.mod-eq_of_lt c.requires.5),
+      c.remainder_of.ensures.1,
+    )

@@ -19,9 +19,9 @@ step-requires c = (
     words = search rules;
     table = search rules;
     place = place-lt _ c.requires.0 _ _ c.requires.2 c.requires.3;
-    small = aligned-lt _ c.requires.0 _ _ c.requires.2 c.requires.3 _ _ c.requires.4 c.align.ensures;
+    small = aligned-lt _ c.requires.0 _ _ c.requires.2 c.requires.3 _ _ c.requires.4 c.align.ensures.0;
     moved = prepared-up c.args.p c.args.a c.args.w _ c.requires.3 c.prepare.ensures;
-    low = rw c.align.ensures (mul-mod_left _ (2 ^ (768 - c.args.w)));
+    low = rw c.align.ensures.0 (mul-mod_left _ (2 ^ (768 - c.args.w)));
   },
   c.requires.5,
   c.requires.6,
@@ -34,6 +34,6 @@ pub returns : goal.returns
 returns c =
     c.low_words.ensures
     ∙ ap (digits 64 12)
-    (c.lower.ensures
+    (c.lower.ensures.0
     ∙ stepped c.args.p c.requires.0 c.args.a c.args.w c.requires.2 c.requires.3 c.prepare.new.t _ c.args.u c.args.l (value 64 c.align.new.r) (value 64 c.step.new.r)
-    c.prepare.ensures c.align.ensures c.step.ensures)
+    c.prepare.ensures c.align.ensures.0 c.step.ensures.0)

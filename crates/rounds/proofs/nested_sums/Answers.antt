@@ -29,11 +29,11 @@ remainder_at-requires c = (c.requires.0, c.requires.4, c.requires.5, c.requires.
 pub odd_into-requires : goal.odd_into-requires
 odd_into-requires c =
     let d = degree-few _ c.requires.0 _ c.requires.4 _ c.requires.5 in
-    (c.requires.2, omega (arith, d.0), d.0, rw c.requires.1 d.1, level-lt _ c.requires.0 _ c.requires.4 _ _ _ c.requires.5 c.remainder_at.ensures)
+    (c.requires.2, omega (arith, d.0), d.0, rw c.requires.1 d.1, level-lt _ c.requires.0 _ c.requires.4 _ _ _ c.requires.5 c.remainder_at.ensures.0)
 
 pub returns : goal.returns
 returns c =
     let a = c.args in
     level-made a.p c.requires.0 a.a c.requires.4 _ _ _ _
-    (c.remainder_at.ensures ∙ ap (remainder a.p a.a) c.nested_into.ensures.0) c.requires.8
+    (c.remainder_at.ensures.0 ∙ ap (remainder a.p a.a) c.nested_into.ensures.0) c.requires.8
     (odd-are a.p a.f _ _ _ c.requires.1 c.odd_into.ensures)

@@ -33,11 +33,11 @@ store_low-requires c =
     let e = c.check_bits-bits.ensures ∙ ap (degree p) (Nat.sub-zero p.v) in (
       omega (arith, e, degree-high p R p.v (Nat.le_refl p.v), c.check_of.array_long),
       omega (arith, e, degree-high p R p.v (Nat.le_refl p.v), c.requires.4),
-      rw (c.check_of.ensures, e) (rem_lt (gen p p.v) (degree p p.v) ((lawful p R).degrees p.v (Nat.le_refl p.v)) _),
+      rw (c.check_of.ensures.0, e) (rem_lt (gen p p.v) (degree p p.v) ((lawful p R).degrees p.v (Nat.le_refl p.v)) _),
       rw c.requires.3 (Nat.zero-mod _),
     )
 
 pub returns : goal.returns
 returns c =
-    put_in _ _ _ c.store_low.ensures c.requires.3 ∙ c.check_of.ensures
+    put_in _ _ _ c.store_low.ensures c.requires.3 ∙ c.check_of.ensures.0
     ∙ ap (remainder c.args.p c.args.p.v) (c.flip.ensures ∙ ap (λ (f : ℕ). xor f (2 ^ c.args.e)) (no-data 512) ∙ xor_zero_l _)

@@ -48,5 +48,5 @@ pub returns : goal.returns
 returns c =
     let upper : RowOf c.args.p c.level_of-a.result (get_or c.rows-rows.result c.level_of-a.result []) = row-at c.args.p c.requires _ _ c.rows-rows.ensures (low (goal.at.returns c).After-level_of-a) in (
       divisor-width _ c.requires _ _ _ _ c.level_of-a.ensures c.degree_at-u.ensures c.degree_at-w.ensures,
-      divisor-is _ c.requires _ _ _ _ c.level_of-a.ensures c.degree_at-u.ensures c.degree_at-w.ensures _ _ _ (upper) (lower (goal.at.returns c).After-degree_at-w) c.quotient.ensures,
+      divisor-is _ c.requires _ _ _ _ c.level_of-a.ensures c.degree_at-u.ensures c.degree_at-w.ensures _ _ _ (upper) (lower (goal.at.returns c).After-degree_at-w) c.quotient.ensures.0,
     )

@@ -25,5 +25,6 @@ pub returns : goal.returns
 returns c =
     let r = row-at c.args.p c.requires.0 _ c.args.a c.rows-rows.ensures c.requires.1 in (
       c.degree_at-w.ensures,
-      row_as _ _ _ _ _ _ _ r.is c.degree_at-w.ensures (in-places c.args.s.now _ _ (λ i. (c.type_inv.s i).fits) c.places_in-n.ensures c.requires.2) c.remainder_by.ensures,
+      row_as _ _ _ _ _ _ _ r.is c.degree_at-w.ensures (in-places c.args.s.now _ _ (λ i. (c.type_inv.s i).fits) c.places_in-n.ensures c.requires.2) c.remainder_by.ensures.0,
+      c.remainder_by.ensures.1,
     )

@@ -12,7 +12,7 @@ use Rattle.word.proofs.short_into.Goals.{After-remainder_by}
 
 -- the remainder by the divisor
 made : (c : After-remainder_by) → let a = c.args in value 64 c.remainder_by.new.r ≡ rem (divisor a.p a.l) (deg (divisor a.p a.l)) (value 8 a.s.now)
-made c = row_as _ _ _ _ _ _ _ c.divisor_row-w.ensures.1 c.divisor_row-w.ensures.0 (rw c.length_of-n.ensures c.requires.2) c.remainder_by.ensures
+made c = row_as _ _ _ _ _ _ _ c.divisor_row-w.ensures.1 c.divisor_row-w.ensures.0 (rw c.length_of-n.ensures c.requires.2) c.remainder_by.ensures.0
 
 pub remainder_by-requires : goal.remainder_by-requires
 remainder_by-requires c = (

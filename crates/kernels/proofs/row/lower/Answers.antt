@@ -27,4 +27,4 @@ loop-i-preserved c =
 pub returns : goal.returns
 returns c =
     let l = c.loop-i in
-    lower-done c.args.r.now c.args.s _ (search rules) (search rules) (written-done 64 _ l.r _ l.i 13 (omega arith) (omega arith) l.invariant.2)
+    (lower-done c.args.r.now c.args.s _ (search rules) (search rules) (written-done 64 _ l.r _ l.i 13 (omega arith) (omega arith) l.invariant.2), l.invariant.1)

@@ -24,4 +24,4 @@ loop-i-preserved c =
 pub returns : goal.returns
 returns c =
     let l = c.loop-i in
-    shift-done c.args.r.now l.r c.args.l l.c l.i (search rules) (search rules) c.requires.2 (omega arith) l.invariant
+    (shift-done c.args.r.now l.r c.args.l l.c l.i (search rules) (search rules) c.requires.2 (omega arith) l.invariant, search rules)

@@ -18,4 +18,4 @@ loop-i-preserved c =
 pub returns : goal.returns
 returns c =
     let l = c.loop-i in
-    shift-done c.args.r.now l.r 64 l.c l.i (search rules) (search rules) c.requires (omega arith) l.invariant.1
+    (shift-done c.args.r.now l.r 64 l.c l.i (search rules) (search rules) c.requires (omega arith) l.invariant.1, search rules)

@@ -1,11 +1,11 @@
 -- The words of dst up to `from` are those of src below `from`, one place higher, and src's from there to the 11th follow them.
-use Rattle.std.proofs.Common.{◌≡◌, ◌++◌, List, [], ℕ, ◌+◌, ◌-◌, ◌*◌, ◌^◌, length, take, drop, ap, ap₂, sym, ◌∙◌, arith, length-drop, length-take-le, length-append, append-nil, pow-add, take_at, drop_at}
+use Rattle.std.proofs.Common.{◌≡◌, ◌++◌, List, [], ◌∷◌, ℕ, zero, suc, ◌+◌, ◌-◌, ◌*◌, ◌^◌, length, take, drop, ap, ap₂, sym, ◌∙◌, arith, length-drop, length-take-le, length-append, append-nil, pow-add, take_at, drop_at}
 use Rattle.std.proofs.Math.Nat as Nat
 use Rattle.std.proofs.Math.Seq.{take-add}
 use Rattle.std.proofs.lemmas.List.{drop_all}
 use Rattle.std.proofs.lemmas.Slice.{take-put_mid_below}
 use Rattle.polynomial.specs.Digits.{value}
-use Rattle.kernels.specs.Value.{value-split}
+use Rattle.kernels.specs.Value.{Bounded, bounded-drop, bounded-take, value-split}
 use Rattle.reduction.proofs.remainder.copy_next.Goals as goal
 
 -- two parts, one above the other
@@ -22,6 +22,11 @@ higher f d m a h l e =
     ∙ ap (λ (x : ℕ). x + value 64 a * 2 ^ 64) (sym (Nat.mul_assoc (value 64 m) (2 ^ (64 * f)) (2 ^ 64)))
     ∙ sym (ap (λ (x : ℕ). x * 2 ^ 64) (joined 64 f a m l) ∙ Nat.add-mul (value 64 m * 2 ^ (64 * f)) (value 64 a) (2 ^ 64))
 
+appended : (a b : List ℕ) → Bounded 64 a → Bounded 64 b → Bounded 64 (a ++ b)
+appended [] b p q i = q i
+appended (x ∷ a) b p q zero = p 0
+appended (x ∷ a) b p q (suc i) = appended a b (λ j. p (suc j)) q i
+
 pub returns : goal.returns
 returns c =
     let d = c.args.dst.now in
@@ -36,4 +41,6 @@ returns c =
       rw (z, append-nil, e) (higher f (take (f + 1) d) (take (11 - f) (drop f s)) (take f s) (length-take-le (f + 1) d (omega arith)) (length-take-le f s (omega arith)) c.requires.2)
           ∙ ap (λ (l : List ℕ). value 64 l * 2 ^ 64) (sym (take-add f (11 - f) s) ∙ ap (λ (i : ℕ). take i s) w),
       take-put_mid_below (f + 1) k d ys (f + 1) (omega arith) (omega arith),
+      rw (z, append-nil, e) (appended (take (f + 1) d) (take (11 - f) (drop f s)) (bounded-take 64 d c.fits-dst (f + 1))
+          (bounded-take 64 (drop f s) (bounded-drop 64 s (λ i. (c.type_inv.src i).fits) f) (11 - f))),
     )
