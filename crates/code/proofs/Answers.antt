@@ -99,7 +99,7 @@ numbered (suc (suc (suc (suc (suc (suc (suc (suc (suc (suc (suc (suc (suc (suc (
 
 pub unless-number : {A : Type 0} (x : A) (k : ℕ) → k ≤ last_refusal → answer_number (unless_refused k x) ≡ k
 unless-number x zero h = refl
-unless-number x (suc k) h = numbered k h
+unless-number x (suc k) h = numbered k (omega (arith, h))
 
 -- an answer that is a refusal comes of one
 pub err-pos : {A : Type 0} (x : A) (e : Refusal) (k : ℕ) → Err e ≡ unless_refused k x → 0 < k
