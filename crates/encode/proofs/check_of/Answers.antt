@@ -21,9 +21,11 @@ remainder_of-requires c =
 
 pub returns-then-t-eq3072 : goal.returns-then-t-eq3072
 returns-then-t-eq3072 c =
-    let a = c.args in
-    (table-remainder a.p c.requires.0 a.a a.w (value 8 a.acc.now % 2 ^ (8 * length a.acc.now)) _ a.t.now c.requires.1 c.requires.2 (c.requires.3.plain c.if-t-eq3072.true) c.remainder_of.ensures.0
-    ∙ ap (remainder a.p a.a) (Nat.mod-eq_of_lt (value-lt 8 a.acc.now (λ i. (c.type_inv.acc i).fits))), c.remainder_of.ensures.1)
+    let a = c.args in (
+      table-remainder a.p c.requires.0 a.a a.w (value 8 a.acc.now % 2 ^ (8 * length a.acc.now)) _ a.t.now c.requires.1 c.requires.2 (c.requires.3.plain c.if-t-eq3072.true) c.remainder_of.ensures.0
+          ∙ ap (remainder a.p a.a) (Nat.mod-eq_of_lt (value-lt 8 a.acc.now (λ i. (c.type_inv.acc i).fits))),
+      c.remainder_of.ensures.1,
+    )
 
 pub remainder_of-requires-else-t-eq3072 : goal.remainder_of-requires-else-t-eq3072
 remainder_of-requires-else-t-eq3072 c =

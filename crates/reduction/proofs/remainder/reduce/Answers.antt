@@ -29,6 +29,8 @@ returns c =
     let i = c.copy in
     let a = c.add_top in
     let o = c.copy-2 in
-    let b : Bounded 64 o.new.dst = λ k. (c.type_inv.r k).fits in
-    (reduce-law c.args.t.now c.args.r.now _ i.new.dst a.new.v o.new.dst r c.requires.words b
-    (o.auto.dst ∙ length-set c.args.r.now 12 0 ∙ c.requires.words) i.auto.dst a.array_long i.ensures a.ensures.0 o.ensures, b)
+    let b : Bounded 64 o.new.dst = λ k. (c.type_inv.r k).fits in (
+      reduce-law c.args.t.now c.args.r.now _ i.new.dst a.new.v o.new.dst r c.requires.words b
+          (o.auto.dst ∙ length-set c.args.r.now 12 0 ∙ c.requires.words) i.auto.dst a.array_long i.ensures a.ensures.0 o.ensures,
+      b,
+    )

@@ -8,9 +8,11 @@ use Rattle.word.specs.Row.{aligned-deg}
 use Rattle.word.proofs.divide.quotient.Goals as goal
 
 pub loop-init : goal.loop-init
-loop-init c =
-    (divide-start _ _ _ _ (aligned-deg _ c.args.w c.requires.1 _ (omega arith) c.align.ensures.0) (aligned-deg _ c.args.u c.requires.0 _ c.requires.3 refl)
-    (c.insert.ensures.0 ∙ ap (λ (x : ℕ). xor x 1) c.clear.ensures ∙ xor_zero_l 1) (c.add.ensures.0 ∙ ap (λ (x : ℕ). xor x (value 64 c.align.new.r)) c.align-2.ensures.0), c.insert.ensures.1)
+loop-init c = (
+  divide-start _ _ _ _ (aligned-deg _ c.args.w c.requires.1 _ (omega arith) c.align.ensures.0) (aligned-deg _ c.args.u c.requires.0 _ c.requires.3 refl)
+      (c.insert.ensures.0 ∙ ap (λ (x : ℕ). xor x 1) c.clear.ensures ∙ xor_zero_l 1) (c.add.ensures.0 ∙ ap (λ (x : ℕ). xor x (value 64 c.align.new.r)) c.align-2.ensures.0),
+  c.insert.ensures.1,
+)
 
 pub divide_step-requires : goal.divide_step-requires
 divide_step-requires c =
