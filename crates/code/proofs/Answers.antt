@@ -259,7 +259,7 @@ module _ (p : Parameters) (x : List ℕ) where
   -- ---- behind a refusal r
   unless-verdict : (r : ℕ) → r ≤ last_refusal → judgement_number (unless_refused r (page_verdict p x)) ≡ (r or_else page_number p x)
   unless-verdict zero h = page-number
-  unless-verdict (suc r) h = numbered r h
+  unless-verdict (suc r) h = numbered r (omega (arith, h))
 
   unless-values : (r : ℕ) → judgement_values (unless_refused r (page_verdict p x)) ≡ values_by r (page_values p x)
   unless-values zero = page-values
